@@ -1,0 +1,132 @@
+-- The examples that 01 marks P, and the listing of `sheetlist`, by computation over the definitions.
+use mathlib.Core.Path.{_≡_, refl}
+use mathlib.Core.Bool.{Bool, true, false, cond}
+use mathlib.Core.List.{List, [], _∷_, _++_, flatMap}
+use Prim.Native.Nat.{ℕ}
+use lib.ListN.{length, getD, take, drop, replicate}
+use Rattle.semantics.specs.Answer.{Answer, good, refused, andThen}
+use Rattle.semantics.specs.Arithmetic.{prime, addM, subM, mulM, negM}
+use Rattle.semantics.specs.Sheet.{Record, Interaction, Sheet, recordOf, recordWords, interactionWords, headWords, encode, lengthOf, table, row, fits, recordTests, names, interactionTests, headTests}
+use Rattle.semantics.specs.Check.{scanWords, scanPart, scanParts, scanSpare, scanSheet, readRecord, readRecords, readInteraction, readInteractions, readSheet, judged, check}
+use Rattle.semantics.specs.Block.{wordBytes, wordAt, wordsOf, total, checkWord, blockGood, badLength, readBlocks, blockBytes, firstWords, writeBlocks, blocksFor}
+use Rattle.semantics.specs.Packing.{packed, packFault, leafTests, packRecord, pack}
+use Rattle.semantics.specs.Value.{leafOf, nodeOf, recordAt, fill}
+use Rattle.semantics.specs.Walk.{children, childrenAt, member, foldLeft, visit, order}
+use Rattle.semantics.specs.Graph.{ifConstants, isConst, ifNeg, addRule, subRule, negRule, mulRule, equalRecords, find, intern, setNum, nodeFor, pick, takeIn, addRecord, build, graphRoots, built, insertOnce, sortedOnce, renamed, graphOf, rotation, maxRotation}
+use Rattle.semantics.specs.Monomial.{before, beforeVars, insertSorted, sort, above, negMonomial, mulMonomial, products, keep, plus, insertMonomial, combine, working, finished, recordList, lists, listAt}
+use Rattle.semantics.specs.Expand.{longer, workFault, listSize, recordFault, expandRecord, expandAll}
+use Rattle.semantics.specs.Group.{labelled, constraintRoots, countRoots, fieldRoots, itemsOf, items, key, later, push, split, groups, constraintTerm, interactionTerm, headers, variables, terms, layout, rows, listedAt, listed}
+use Rattle.semantics.specs.Call.{Reply, Outcome, zeros, padded, paddedAll, outcome, handedBack, needs, result, readerCall, onSheet, writerCall, builderCall, maxRotationCall, firstShort, fitted, family, expansion, constraintOutputs, constraintCall, interactionOutputs, maxFieldsLen, interactionCall}
+use Rattle.semantics.specs.Sheetlist.{digits, decimal, hexDigit, hexDigits, signed, line, tLine, uLine, wLine, headerLines, step, interactionLines, constraintLines, graphLines, sheetLines, sheetlist}
+
+-- v and w: main, part 0, offset 0, columns 0 and 1.
+abbrev v : Record
+v = recordOf 1 1 0 0 0
+
+abbrev w : Record
+w = recordOf 1 1 0 0 1
+
+-- The names below open all that they stand on, so that the list of examples names them alone.
+packs : Record → Answer ℕ
+unfolding pack andThen judged scanWords leafTests recordWords fits row table packRecord packed packFault
+packs r = pack r
+
+sheetOf : List Record → List ℕ → Sheet
+sheetOf rs cs = record { records = rs; constraints = cs; interactions = [] }
+
+-- The words that the builder hands back, with as much room as it asks for.
+graph : Sheet → List ℕ
+unfolding sheetOf handedBack builderCall outcome onSheet needs result andThen zeros padded paddedAll check judged scanSheet scanWords scanPart scanParts scanSpare recordTests interactionTests headTests names fits row table readSheet readRecords readRecord readInteractions readInteraction encode headWords recordWords interactionWords lengthOf flatMap graphOf built build addRecord takeIn pick nodeFor setNum intern find equalRecords addRule subRule negRule mulRule ifConstants isConst ifNeg graphRoots insertOnce sortedOnce renamed order visit foldLeft member children childrenAt recordAt nodeOf leafOf addM subM mulM negM
+graph s = handedBack 1 (builderCall prime (encode s) (length (s .records)) (lengthOf s)) 0
+
+-- The nodes of a graph, and its constraints, as the words of the sheet that has them.
+words : List Record → List ℕ → List ℕ
+unfolding graph
+words rs cs = encode (sheetOf rs cs)
+
+-- The slices of the constraint call on a graph: headers, variables, terms.
+slices : List ℕ → List (List ℕ)
+unfolding graph constraintCall expansion expandAll expandRecord recordFault workFault longer listSize packFault fitted firstShort constraintOutputs family layout groups split push sort insertSorted later key items itemsOf labelled constraintRoots constraintTerm headers variables terms listAt lists fill recordList finished working combine insertMonomial keep plus products mulMonomial negMonomial above before beforeVars packed
+slices g =
+    let o : Outcome = constraintCall prime g 4096 1000 100 100 100 in
+    handedBack 2 o 0 ∷ handedBack 2 o 1 ∷ handedBack 2 o 2 ∷ []
+
+none : List (List ℕ)
+none = [] ∷ [] ∷ [] ∷ []
+
+examples :
+    -- "v packs to hex 00000001; part 255, offset 15, column 65,535 to fffffff1; public column 3 to 00030003"
+    (packs v ≡ good 1)
+    × (packs (recordOf 1 1 255 15 65535) ≡ good 0xfffffff1)
+    × (packs (recordOf 1 3 0 0 3) ≡ good 0x00030003)
+    -- "offset 16 gives 11, part 256 gives 10, column 65,536 gives 8, a challenge gives 9"
+    × (packs (recordOf 1 1 0 16 0) ≡ refused 11 0)
+    × (packs (recordOf 1 1 256 0 0) ≡ refused 10 0)
+    × (packs (recordOf 1 1 0 0 65536) ≡ refused 8 0)
+    × (packs (recordOf 1 2 0 0 0) ≡ refused 9 0)
+    -- "v + (−w): four nodes v, w, Neg, Sub"
+    × (graph (sheetOf (v ∷ w ∷ recordOf 8 1 0 1 0 ∷ recordOf 6 0 2 1 0 ∷ []) (3 ∷ []))
+      ≡ words (v ∷ w ∷ recordOf 8 1 0 1 0 ∷ recordOf 7 0 1 1 0 ∷ []) (3 ∷ []))
+    -- "−(−v): three nodes", "0 − v: three nodes"
+    × (graph (sheetOf (v ∷ recordOf 8 0 0 1 0 ∷ recordOf 8 1 0 1 0 ∷ []) (2 ∷ []))
+      ≡ words (v ∷ recordOf 8 0 0 1 0 ∷ recordOf 8 1 0 1 0 ∷ []) (2 ∷ []))
+    × (graph (sheetOf (v ∷ recordOf 5 0 0 0 0 ∷ recordOf 7 1 0 1 0 ∷ []) (2 ∷ []))
+      ≡ words (recordOf 5 0 0 0 0 ∷ v ∷ recordOf 7 0 1 1 0 ∷ []) (2 ∷ []))
+    -- "v·0: two nodes, no headers", "constraint 0: one node, no headers"
+    × (graph (sheetOf (v ∷ recordOf 5 0 0 0 0 ∷ recordOf 9 0 1 1 0 ∷ []) (2 ∷ [])) ≡ words (v ∷ recordOf 5 0 0 0 0 ∷ []) (1 ∷ []))
+    × (slices (words (v ∷ recordOf 5 0 0 0 0 ∷ []) (1 ∷ [])) ≡ none)
+    × (graph (sheetOf (recordOf 5 0 0 0 0 ∷ []) (0 ∷ [])) ≡ words (recordOf 5 0 0 0 0 ∷ []) (0 ∷ []))
+    × (slices (words (recordOf 5 0 0 0 0 ∷ []) (0 ∷ [])) ≡ none)
+    -- "v + w with degree words 1 and 2, both constraints: four nodes, two indices, two headers of two terms"
+    × (graph (sheetOf (v ∷ w ∷ recordOf 6 0 1 1 0 ∷ recordOf 6 0 1 2 0 ∷ []) (2 ∷ 3 ∷ []))
+      ≡ words (v ∷ w ∷ recordOf 6 0 1 1 0 ∷ recordOf 6 0 1 2 0 ∷ []) (2 ∷ 3 ∷ []))
+    × (slices (words (v ∷ w ∷ recordOf 6 0 1 1 0 ∷ recordOf 6 0 1 2 0 ∷ []) (2 ∷ 3 ∷ []))
+      ≡ (0 ∷ 0 ∷ 1 ∷ 2 ∷ 1 ∷ 2 ∷ 1 ∷ 2 ∷ []) ∷ (1 ∷ 65537 ∷ []) ∷ (0 ∷ 1 ∷ 1 ∷ 1 ∷ 0 ∷ 1 ∷ 1 ∷ 1 ∷ []) ∷ [])
+    -- "the same Add twice: one index"
+    × (graph (sheetOf (v ∷ w ∷ recordOf 6 0 1 1 0 ∷ recordOf 6 0 1 1 0 ∷ []) (2 ∷ 3 ∷ []))
+      ≡ words (v ∷ w ∷ recordOf 6 0 1 1 0 ∷ []) (2 ∷ []))
+    -- "(p − 1)·(p − 1): two nodes, the second 1"
+    × (graph (sheetOf (recordOf 5 2013265920 0 0 0 ∷ recordOf 9 0 0 0 0 ∷ []) (1 ∷ []))
+      ≡ words (recordOf 5 2013265920 0 0 0 ∷ recordOf 5 1 0 0 0 ∷ []) (1 ∷ []))
+    -- "(v + w)·(v − w): v·v with 1, w·w with p − 1"
+    × (slices (words (v ∷ w ∷ recordOf 6 0 1 1 0 ∷ recordOf 7 0 1 1 0 ∷ recordOf 9 2 3 2 0 ∷ []) (4 ∷ []))
+      ≡ (0 ∷ 0 ∷ 2 ∷ 1 ∷ 2 ∷ 1 ∷ 2 ∷ 1 ∷ []) ∷ (1 ∷ 1 ∷ 65537 ∷ 65537 ∷ []) ∷ (0 ∷ 1 ∷ 0 ∷ 2013265920 ∷ []) ∷ [])
+unfolding packs sheetOf graph words slices none
+examples = (refl, refl, refl, refl, refl, refl, refl, refl, refl, refl, refl, refl, refl, refl, refl, refl, refl, refl, refl)
+
+-- The sheet of the listing.
+listingSheet : Sheet
+listingSheet = record {
+  records = recordOf 1 1 0 1 0 ∷ v ∷ recordOf 7 0 1 1 0 ∷ recordOf 5 1 0 0 0 ∷ recordOf 7 2 3 1 0 ∷ recordOf 4 0 0 0 0 ∷ recordOf 9 5 4 2 0 ∷ [];
+  constraints = 6 ∷ [];
+  interactions = record { bus = 7; weight = 1; count = 3; message = 1 ∷ 2 ∷ [] } ∷ [];
+}
+
+-- What `sheetlist` prints for it, from the block that the writer makes.
+listing : List ℕ
+unfolding listingSheet slices writerCall writeBlocks blockBytes firstWords blocksFor wordBytes wordAt wordsOf total checkWord sheetlist readerCall badLength readBlocks blockGood sheetLines graphLines constraintLines interactionLines step headerLines tLine uLine wLine line signed decimal digits hexDigits hexDigit maxRotationCall maxRotation rotation interactionCall interactionOutputs maxFieldsLen countRoots fieldRoots interactionTerm listed listedAt rows
+listing = sheetlist prime (handedBack 0 (writerCall prime (encode listingSheet) 512) 0)
+
+-- The text in 01, line by line.
+text : List ℕ
+text =
+    (100 ∷ 97 ∷ 103 ∷ 32 ∷ 55 ∷ 32 ∷ 49 ∷ 32 ∷ 49 ∷ 10 ∷ [])
+    ++ ((109 ∷ 32 ∷ 48 ∷ 48 ∷ 48 ∷ 48 ∷ 48 ∷ 48 ∷ 48 ∷ 97 ∷ 10 ∷ [])
+    ++ ((116 ∷ 32 ∷ 48 ∷ 32 ∷ 45 ∷ 49 ∷ 10 ∷ [])
+    ++ ((109 ∷ 32 ∷ 48 ∷ 48 ∷ 48 ∷ 48 ∷ 48 ∷ 48 ∷ 48 ∷ 49 ∷ 32 ∷ 48 ∷ 48 ∷ 48 ∷ 48 ∷ 48 ∷ 48 ∷ 48 ∷ 97 ∷ 10 ∷ [])
+    ++ ((116 ∷ 32 ∷ 48 ∷ 32 ∷ 45 ∷ 49 ∷ 10 ∷ [])
+    ++ ((109 ∷ 32 ∷ 48 ∷ 48 ∷ 48 ∷ 48 ∷ 48 ∷ 48 ∷ 48 ∷ 97 ∷ 32 ∷ 48 ∷ 48 ∷ 48 ∷ 48 ∷ 49 ∷ 48 ∷ 48 ∷ 49 ∷ 10 ∷ [])
+    ++ ((116 ∷ 32 ∷ 48 ∷ 32 ∷ 49 ∷ 10 ∷ [])
+    ++ ((110 ∷ 10 ∷ [])
+    ++ ((117 ∷ 32 ∷ 48 ∷ 32 ∷ 49 ∷ 10 ∷ [])
+    ++ ((100 ∷ 32 ∷ 48 ∷ 48 ∷ 48 ∷ 48 ∷ 48 ∷ 48 ∷ 48 ∷ 49 ∷ 10 ∷ [])
+    ++ ((119 ∷ 32 ∷ 48 ∷ 32 ∷ 48 ∷ 32 ∷ 49 ∷ 10 ∷ [])
+    ++ ((119 ∷ 32 ∷ 48 ∷ 32 ∷ 49 ∷ 32 ∷ 45 ∷ 49 ∷ 10 ∷ [])
+    ++ ((100 ∷ 32 ∷ 48 ∷ 48 ∷ 48 ∷ 48 ∷ 49 ∷ 48 ∷ 48 ∷ 49 ∷ 10 ∷ [])
+    ++ ((119 ∷ 32 ∷ 48 ∷ 32 ∷ 49 ∷ 32 ∷ 49 ∷ 10 ∷ [])
+    ++ ((101 ∷ 110 ∷ 100 ∷ 10 ∷ [])))))))))))))))
+
+-- "It prints, one item a line"
+listing-is : listing ≡ text
+unfolding listing text
+listing-is = refl

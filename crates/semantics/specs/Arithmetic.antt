@@ -1,0 +1,18 @@
+-- Arithmetic modulo p (01: "All arithmetic on values is modulo p, each kept as 0 to p − 1").
+use Prim.Native.Nat.{ℕ, _+_, _*_, _-_, _%_}
+
+-- "p is 2013265921"; every definition below takes the modulus as its parameter.
+abbrev pub prime : ℕ
+prime = 2013265921
+
+unfoldable pub addM : ℕ → ℕ → ℕ → ℕ
+addM p a b = (a + b) % p
+
+unfoldable pub subM : ℕ → ℕ → ℕ → ℕ
+subM p a b = (a + (p - b % p)) % p
+
+unfoldable pub mulM : ℕ → ℕ → ℕ → ℕ
+mulM p a b = (a * b) % p
+
+unfoldable pub negM : ℕ → ℕ → ℕ
+negM p a = (p - a % p) % p

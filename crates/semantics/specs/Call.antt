@@ -1,0 +1,170 @@
+-- Every public call as one function from its input and the lent lengths to the reply and the content of each writable slice
+-- (01, "What each call hands back").
+use mathlib.Core.Path.{_≡_}
+use mathlib.Core.Bool.{Bool, true, false, cond}
+use mathlib.Core.List.{List, [], _∷_, _++_, map, foldr}
+use Prim.Native.Nat.{ℕ, zero, suc, _+_, _*_, _-_, _/_, max}
+use lib.Dec.{eqb, leb}
+use lib.ListN.{length, getD, take, replicate}
+use Rattle.semantics.specs.Answer.{Answer, good, refused, andThen}
+use Rattle.semantics.specs.Sheet.{Record, Interaction, Sheet, recordWords, encode, lengthOf}
+use Rattle.semantics.specs.Check.{check}
+use Rattle.semantics.specs.Block.{badLength, readBlocks, writeBlocks, blocksFor, blockCheck}
+use Rattle.semantics.specs.Packing.{pack, unpack}
+use Rattle.semantics.specs.Walk.{order}
+use Rattle.semantics.specs.Graph.{graphOf, maxRotation}
+use Rattle.semantics.specs.Monomial.{listAt}
+use Rattle.semantics.specs.Expand.{expandAll}
+use Rattle.semantics.specs.Group.{Root, Item, constraintRoots, countRoots, fieldRoots, groups, constraintTerm, interactionTerm, layout}
+
+-- "Acceptance is number 0 with the count of words (or bytes) written to each slice", and for some calls further numbers.
+pub record Reply : Type 0 where
+  pub number : ℕ
+  pub place : ℕ
+  pub counts : List ℕ
+  pub numbers : List ℕ
+
+-- The reply, and every slice lent for writing: scratch first, then the outputs.
+pub record Outcome : Type 0 where
+  pub reply : Reply
+  pub slices : List (List ℕ)
+
+-- What an accepted call writes to its outputs, and the further numbers.
+pub record Result : Type 0 where
+  pub outputs : List (List ℕ)
+  pub numbers : List ℕ
+
+unfoldable pub zeros : ℕ → List ℕ
+zeros n = replicate n 0
+
+-- "Past the written part, each slice lent for writing holds zeros"
+unfoldable pub padded : List ℕ → (lent : ℕ) → List ℕ
+padded ws lent = ws ++ zeros (lent - length ws)
+
+unfoldable pub paddedAll : List (List ℕ) → (lent : List ℕ) → List (List ℕ)
+paddedAll [] lent = []
+paddedAll (w ∷ ws) [] = []
+paddedAll (w ∷ ws) (n ∷ ns) = padded w n ∷ paddedAll ws ns
+
+-- "scratch ends all zero"; "A refusal is a number and a place, and every slice lent for writing, of any length, then holds only zeros."
+unfoldable pub outcome : (scratch outputs : List ℕ) → Answer Result → Outcome
+outcome scratch outputs (good r) = record {
+  reply = record { number = 0; place = 0; counts = map length (r .outputs); numbers = r .numbers };
+  slices = map zeros scratch ++ paddedAll (r .outputs) outputs;
+}
+outcome scratch outputs (refused n k) = record {
+  reply = record { number = n; place = k; counts = []; numbers = [] };
+  slices = map zeros (scratch ++ outputs);
+}
+
+-- The words handed back in output k, for a call with so many slices of scratch.
+unfoldable pub handedBack : (scratch : ℕ) → Outcome → (k : ℕ) → List ℕ
+handedBack scratch o k = take (getD (o .reply .counts) k 0) (getD (o .slices) (scratch + k) [])
+
+abbrev pub Accepted : Outcome → Type 0
+Accepted o = o .reply .number ≡ 0
+
+-- "14: scratch shorter than the call needs. Place: words needed"; 15 likewise for an output.
+unfoldable pub needs : {X : Type 0} → (number needed lent : ℕ) → Answer X → Answer X
+needs number needed lent rest = cond (leb needed lent) rest (refused number needed)
+
+unfoldable pub result : List (List ℕ) → List ℕ → Answer Result
+result outputs numbers = good (record { outputs = outputs; numbers = numbers })
+
+-- Block check alone: 1 for yes, 0 for no.
+unfoldable pub blockCheckCall : (bytes : List ℕ) (number : ℕ) → Outcome
+blockCheckCall bytes number = outcome [] [] (andThen (blockCheck number bytes) (λ (yes′ : Bool). result [] (cond yes′ 1 0 ∷ [])))
+
+-- "Reader: 1, 15, 2."
+unfoldable pub readerCall : (bytes : List ℕ) (out : ℕ) → Outcome
+readerCall bytes out =
+    outcome [] (out ∷ [])
+    (cond (badLength (length bytes)) (refused 1 0)
+    (needs 15 (127 * (length bytes / 512)) out
+    (andThen (readBlocks (length bytes / 512) 0 bytes) (λ ws. result (ws ∷ []) []))))
+
+-- "Every sheet call first checks it (3 to 7)": the rest of a call, for the sheet that the words are.
+unfoldable pub onSheet : (p : ℕ) → List ℕ → (Sheet → Answer Result) → Answer Result
+onSheet p ws rest = andThen (check p ws) rest
+
+-- The block writer; its output is counted in bytes.
+unfoldable pub writerCall : (p : ℕ) (ws : List ℕ) (out : ℕ) → Outcome
+writerCall p ws out =
+    outcome [] (out ∷ [])
+    (onSheet p ws (λ s. needs 15 (512 * blocksFor (lengthOf s)) out
+    (result (writeBlocks (blocksFor (lengthOf s)) 0 (encode s) ∷ []) [])))
+
+-- The sheet check: E, C, I, L and where the interactions start.
+unfoldable pub checkCall : (p : ℕ) (ws : List ℕ) → Outcome
+checkCall p ws =
+    outcome [] []
+    (onSheet p ws (λ s. result [] (
+      length (s .records) ∷ length (s .constraints) ∷ length (s .interactions) ∷ lengthOf s
+      ∷ (4 + 5 * length (s .records) + length (s .constraints)) ∷ [])))
+
+-- The builder: "Scratch E words; output L words."
+unfoldable pub builderCall : (p : ℕ) (ws : List ℕ) (scratch out : ℕ) → Outcome
+builderCall p ws scratch out =
+    outcome (scratch ∷ []) (out ∷ [])
+    (onSheet p ws (λ s. needs 14 (length (s .records)) scratch (needs 15 (lengthOf s) out
+    (result (encode (graphOf p s) ∷ []) []))))
+
+-- "`num_constraints` is C of the sheet given .. Both hand back the number with 0."
+unfoldable pub maxRotationCall : (p : ℕ) (ws : List ℕ) → Outcome
+maxRotationCall p ws = outcome [] [] (onSheet p ws (λ s. result [] (maxRotation s ∷ [])))
+
+unfoldable pub numConstraintsCall : (p : ℕ) (ws : List ℕ) → Outcome
+numConstraintsCall p ws = outcome [] [] (onSheet p ws (λ s. result [] (length (s .constraints) ∷ [])))
+
+-- "The conversion copies the L words as an expression sheet."
+unfoldable pub conversionCall : (p : ℕ) (ws : List ℕ) (out : ℕ) → Outcome
+conversionCall p ws out = outcome [] (out ∷ []) (onSheet p ws (λ s. needs 15 (lengthOf s) out (result (encode s ∷ []) [])))
+
+-- Packing and unpacking, called alone.
+unfoldable pub packCall : Record → Outcome
+packCall r = outcome [] [] (andThen (pack r) (λ n. result [] (n ∷ [])))
+
+unfoldable pub unpackCall : ℕ → Outcome
+unpackCall n = outcome [] [] (andThen (unpack n) (λ r. result [] (recordWords r)))
+
+-- "17: a finished list exceeds its output slice. Place: the first such slice": counted from `k`, or 0.
+unfoldable pub firstShort : (k : ℕ) → List (List ℕ) → (lent : List ℕ) → ℕ
+firstShort k [] lent = 0
+firstShort k (w ∷ ws) [] = 0
+firstShort k (w ∷ ws) (n ∷ ns) = cond (leb (length w) n) (firstShort (suc k) ws ns) k
+
+unfoldable pub fitted : List (List ℕ) → (lent numbers : List ℕ) → Answer Result
+fitted outputs lent numbers = cond (eqb (firstShort 1 outputs lent) 0) (result outputs numbers) (refused 17 (firstShort 1 outputs lent))
+
+-- The three slices of a family of roots of a sheet.
+unfoldable pub family : (p : ℕ) → Sheet → (Item → List ℕ) → List Root → List (List ℕ)
+family p s term roots = layout term (groups (listAt p (s .records)) roots)
+
+-- "Then 14, work before pool; .. then the walk (8 to 13, 16); then 17." Work is 4,096 words, and the pool 2 words a record at the least.
+unfoldable pub expansion : (p : ℕ) (ws : List ℕ) (work pool : ℕ) (lent : List ℕ)
+    → (roots : Sheet → List Root) (outputs : Sheet → List (List ℕ)) (numbers : Sheet → List ℕ) → Outcome
+expansion p ws work pool lent roots outputs numbers =
+    outcome (work ∷ pool ∷ []) lent
+    (onSheet p ws (λ s. needs 14 4096 work (needs 14 (2 * length (s .records)) pool
+    (andThen (expandAll p (s .records) pool (order (s .records) (map (λ (r : Root). r .node) (roots s))))
+    (λ used. fitted (outputs s) lent (numbers s))))))
+
+-- "The constraint call takes any sheet's constraints as given, repeats included": headers, variables, terms.
+unfoldable pub constraintOutputs : (p : ℕ) → Sheet → List (List ℕ)
+constraintOutputs p s = family p s constraintTerm (constraintRoots s)
+
+unfoldable pub constraintCall : (p : ℕ) (ws : List ℕ) (work pool h v t : ℕ) → Outcome
+constraintCall p ws work pool h v t = expansion p ws work pool (h ∷ v ∷ t ∷ []) constraintRoots (constraintOutputs p) (λ s. [])
+
+-- "The interaction call walks the counts of all interactions, then all fields": numerators, then denominators.
+unfoldable pub interactionOutputs : (p : ℕ) → Sheet → List (List ℕ)
+interactionOutputs p s = family p s interactionTerm (countRoots s) ++ family p s interactionTerm (fieldRoots s)
+
+-- `max_fields_len` is the largest message length, 0 if there is none.
+unfoldable pub maxFieldsLen : Sheet → ℕ
+maxFieldsLen s = foldr (λ (x : Interaction) (n : ℕ). max (length (x .message)) n) 0 (s .interactions)
+
+unfoldable pub interactionCall : (p : ℕ) (ws : List ℕ) (work pool h v t h′ v′ t′ : ℕ) → Outcome
+interactionCall p ws work pool h v t h′ v′ t′ =
+    expansion p ws work pool (h ∷ v ∷ t ∷ h′ ∷ v′ ∷ t′ ∷ []) (λ s. countRoots s ++ fieldRoots s) (interactionOutputs p)
+    (λ s. length (s .interactions) ∷ maxFieldsLen s ∷ [])

@@ -1,0 +1,15 @@
+pub mod Arithmetic
+pub mod Answer
+pub mod Sheet
+pub mod Check
+pub mod Block
+pub mod Packing
+pub mod Value
+pub mod Walk
+pub mod Graph
+pub mod Monomial
+pub mod Expand
+pub mod Group
+pub mod Call
+pub mod Sheetlist
+pub mod Demand
