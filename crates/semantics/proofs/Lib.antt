@@ -2,4 +2,9 @@ pub mod Basics
 pub mod Arithmetic
 pub mod Order
 pub mod Monomials
+pub mod Combining
+pub mod Passes
+pub mod Walks
+pub mod Records
+pub mod Orders
 pub mod Examples

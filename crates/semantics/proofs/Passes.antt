@@ -1,0 +1,60 @@
+-- A pass over records: what it makes of each, and that one more record changes nothing before it.
+use mathlib.Core.Path.{_≡_, refl, sym, _∙_, ap, subst}
+use mathlib.Core.List.{List, [], _∷_, _++_}
+use Prim.Native.Nat.{ℕ, zero, suc, _+_, _<_}
+use native.Mathlib.Omega.{arith}
+use native.Mathlib.Nat.{zero-add}
+use lib.ListN.{length, getD, length-append, List·getD-append}
+use lib.Seq.{getD-at}
+use Rattle.semantics.specs.Sheet.{Each}
+use Rattle.semantics.specs.Value.{fill}
+
+-- A property of each element, at its place.
+module _ {X : Type 0} (P : ℕ → X → Type 0) where
+  pub each-at : (n : ℕ) (xs : List X) (d : X) (i : ℕ) → Each P n xs → i < length xs → P (n + i) (getD xs i d)
+  each-at n [] d i w h = absurd (omega arith)
+  each-at n (x ∷ xs) d zero w h = subst (λ (k : ℕ). P k x) (omega arith) (w .0)
+  each-at n (x ∷ xs) d (suc i) w h = subst (λ (k : ℕ). P k (getD xs i d)) (omega arith) (each-at (suc n) xs d i (w .1) (omega arith))
+
+  pub each-zero : (xs : List X) (d : X) (i : ℕ) → Each P 0 xs → i < length xs → P i (getD xs i d)
+  each-zero xs d i w h = rw zero-add at (each-at 0 xs d i w h)
+
+  pub each-snoc : (n : ℕ) (xs : List X) (x : X) → Each P n xs → P (n + length xs) x → Each P n (xs ++ (x ∷ []))
+  each-snoc n [] x w h = (subst (λ (k : ℕ). P k x) (omega arith) h, tt)
+  each-snoc n (y ∷ xs) x w h = (w .0, each-snoc (suc n) xs x (w .1) (subst (λ (k : ℕ). P k x) (omega arith) h))
+
+module _ {R X : Type 0} (step : R → (ℕ → X) → X) (d : X) where
+  pub fill-length : (done : List X) (rs : List R) → length (fill step d done rs) ≡ length done + length rs
+  unfolding fill
+  fill-length done [] = omega arith
+  fill-length done (r ∷ rs) = fill-length (done ++ (step r (λ i. getD done i d) ∷ [])) rs ∙ simp length-append (omega arith)
+
+  pub fill-old : (done : List X) (rs : List R) (i : ℕ) → i < length done → getD (fill step d done rs) i d ≡ getD done i d
+  unfolding fill
+  fill-old done [] i h = refl
+  fill-old done (r ∷ rs) i h =
+      fill-old (done ++ (step r (λ i. getD done i d) ∷ [])) rs i (simp length-append (omega arith))
+      ∙ List·getD-append done (step r (λ i. getD done i d) ∷ []) d i h
+
+  pub fill-snoc : (done : List X) (rs : List R) (r : R)
+      → fill step d done (rs ++ (r ∷ [])) ≡ fill step d done rs ++ (step r (λ i. getD (fill step d done rs) i d) ∷ [])
+  unfolding fill
+  fill-snoc done [] r = refl
+  fill-snoc done (x ∷ rs) r = fill-snoc (done ++ (step x (λ i. getD done i d) ∷ [])) rs r
+
+-- The equation of each, for records whose steps look at earlier places only: `Low n r` says so of the record `r` at place `n`.
+module _ {R X : Type 0} (step : R → (ℕ → X) → X) (d : X) (Low : ℕ → R → Type 0)
+    (low : (n : ℕ) (r : R) → Low n r → (f g : ℕ → X) → ((i : ℕ) → i < n → f i ≡ g i) → step r f ≡ step r g) where
+  pub fill-at : (n : ℕ) (done : List X) (rs : List R) (z : R) (i : ℕ) → length done ≡ n → Each Low n rs → i < length rs
+      → getD (fill step d done rs) (n + i) d ≡ step (getD rs i z) (λ j. getD (fill step d done rs) j d)
+  unfolding fill
+  fill-at n done [] z i e w h = absurd (omega arith)
+  fill-at n done (r ∷ rs) z zero e w h =
+      let x : X = step r (λ i. getD done i d) in
+      fill-old step d (done ++ (x ∷ [])) rs (n + 0) (simp length-append (omega arith))
+      ∙ getD-at done x [] d (n + 0) (omega arith)
+      ∙ low n r (w .0) (λ j. getD done j d) (λ j. getD (fill step d done (r ∷ rs)) j d) (λ j k. sym (fill-old step d done (r ∷ rs) j (omega arith)))
+  fill-at n done (r ∷ rs) z (suc i) e w h =
+      let done′ : List X = done ++ (step r (λ i. getD done i d) ∷ []) in
+      ap (λ (k : ℕ). getD (fill step d done′ rs) k d) (omega arith)
+      ∙ fill-at (suc n) done′ rs z i (simp length-append (omega arith)) (w .1) (omega arith)
