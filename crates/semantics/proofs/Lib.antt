@@ -7,4 +7,6 @@ pub mod Passes
 pub mod Walks
 pub mod Records
 pub mod Orders
+pub mod Rules
+pub mod Graphs
 pub mod Examples
