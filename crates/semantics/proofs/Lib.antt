@@ -9,4 +9,5 @@ pub mod Records
 pub mod Orders
 pub mod Rules
 pub mod Graphs
+pub mod GraphSheets
 pub mod Examples

@@ -103,7 +103,7 @@ module _ (p : ℕ) where
     pub place : (j : ℕ) → j < length (s .constraints)
         → (q : ℕ) × (q < length (graphOf p s .constraints)) × (constraintAt (graphOf p s) q ≡ built p s .num (constraintAt s j))
     pub interactions : length (graphOf p s .interactions) ≡ length (s .interactions)
-    pub fields : (i : ℕ) → length (interactionAt (graphOf p s) i .message) ≡ length (interactionAt s i .message)
+    pub fields : (i : ℕ) → i < length (s .interactions) → length (interactionAt (graphOf p s) i .message) ≡ length (interactionAt s i .message)
     pub count : (A : Assignment p) (i : ℕ) → i < length (s .interactions)
         → valueAt p (A .at) (graphOf p s .records) (interactionAt (graphOf p s) i .count) ≡ valueAt p (A .at) (s .records) (interactionAt s i .count)
     pub field : (A : Assignment p) (i f : ℕ) → i < length (s .interactions) → f < length (interactionAt s i .message)

@@ -1,0 +1,376 @@
+-- The graph of a sheet inside the limits is again a sheet inside the limits, no longer than its source, with the values of its source.
+use mathlib.Core.Path.{_≡_, refl, sym, _∙_, ap, subst}
+use mathlib.Core.Logic.{_⊎_, inl, inr}
+use mathlib.Core.Bool.{Bool, true, false, cond, true≢false, _&&_}
+use mathlib.Core.List.{List, [], _∷_, _++_, map, flatMap}
+use Prim.Native.Nat.{ℕ, zero, suc, _+_, _*_, _≤_, _<_}
+use native.Mathlib.Omega.{arith}
+use lib.Dec.{eqb, ltb, leb}
+use lib.ListN.{length, getD, replicate, length-append, length-map, List·getD-map}
+use borrow.Author.Tests.{ltb-true, ltb-false, leb-true, lt-ltb, le-leb}
+use Rattle.semantics.specs.Sheet.{Record, Interaction, Sheet, recordWords, interactionWords, headWords, encode, lengthOf, names, interactionTests, headTests, passes, Each, GoodRecord, Named, GoodInteraction, Inside}
+use Rattle.semantics.specs.Value.{Leaf, valueAt}
+use Rattle.semantics.specs.Walk.{member, order}
+use Rattle.semantics.specs.Graph.{Built, build, graphRoots, built, insertOnce, sortedOnce, renamed, graphOf}
+use Rattle.semantics.specs.Demand.{Assignment, noInteraction, constraintAt, interactionAt, fieldAt}
+use Rattle.semantics.proofs.Basics.{by-test, and-true, true-and}
+use Rattle.semantics.proofs.Passes.{each-zero}
+use Rattle.semantics.proofs.Records.{each-low}
+use Rattle.semantics.proofs.Walks.{Mem, mem-here, mem-there, mem-cases}
+use Rattle.semantics.proofs.Orders.{not-in, mem-left, mem-right, mem-either, mem-getD, Below, order-closed, order-roots, order-below, order-distinct, distinct-length}
+use Rattle.semantics.proofs.Graphs.{Done, Good, build-good}
+
+-- Words that name records are numbers below, and the other way round.
+pub named-below : (n : ℕ) (ws : List ℕ) → Named n ws → Below n ws
+unfolding passes
+named-below n [] h x m = not-in x m
+named-below n (w ∷ ws) h x m =
+    let t = and-true (names n w) (passes (replicate (length ws) (names n)) ws) h in
+    go (t .0) (named-below n ws (t .1) x) (mem-cases x w ws m)
+  where
+    go : names n w ≡ true → (Mem x ws → x < n) → (x ≡ w) ⊎ Mem x ws → x < n
+    go e ih (inl q) = unfold names in (omega (arith, ltb-true w n e))
+    go e ih (inr k) = ih k
+
+pub below-named : (n : ℕ) (ws : List ℕ) → Below n ws → Named n ws
+unfolding passes
+below-named n [] h = refl
+below-named n (w ∷ ws) h =
+    true-and (names n w) (passes (replicate (length ws) (names n)) ws) (unfold names in (lt-ltb w n (h w (mem-here w ws))))
+    (below-named n ws (λ x m. h x (mem-there x w ws m)))
+
+-- What the tests of an interaction and of the head say.
+pub interaction-is : (n : ℕ) (x : Interaction)
+    → passes (interactionTests n (interactionWords x)) (interactionWords x)
+    ≡ leb (x .bus) 65535 && (names n (x .count) && (leb (length (x .message)) 63 && passes (replicate (length (x .message)) (names n)) (x .message)))
+unfolding interactionTests interactionWords passes
+interaction-is n x = refl
+
+pub record InteractionFacts (n : ℕ) (x : Interaction) : Type 0 where
+  pub bus : x .bus ≤ 65535
+  pub count : x .count < n
+  pub short : length (x .message) ≤ 63
+  pub message : Below n (x .message)
+
+pub interaction-facts : (n : ℕ) (x : Interaction) → GoodInteraction n x → InteractionFacts n x
+unfolding names
+interaction-facts n x h =
+    let t = and-true (leb (x .bus) 65535) _ (sym (interaction-is n x) ∙ h) in
+    let u = and-true (names n (x .count)) _ (t .1) in
+    let v = and-true (leb (length (x .message)) 63) _ (u .1) in
+    record { bus = leb-true _ _ (t .0); count = ltb-true _ _ (u .0); short = leb-true _ _ (v .0); message = named-below n (x .message) (v .1) }
+
+pub facts-good : (n : ℕ) (x : Interaction) → InteractionFacts n x → GoodInteraction n x
+unfolding names
+facts-good n x f =
+    interaction-is n x
+    ∙ true-and (leb (x .bus) 65535) _ (le-leb _ _ (f .bus)) (true-and (names n (x .count)) _ (lt-ltb _ _ (f .count))
+      (true-and (leb (length (x .message)) 63) _ (le-leb _ _ (f .short)) (below-named n (x .message) (f .message))))
+
+pub head-is : (s : Sheet) → passes headTests (headWords s) ≡ leb (length (s .records)) 4096 && (leb (length (s .constraints)) 1024 && (leb (length (s .interactions)) 1024 && true))
+unfolding headTests headWords passes
+head-is s = refl
+
+pub head-facts : (s : Sheet) → passes headTests (headWords s) ≡ true
+    → (length (s .records) ≤ 4096) × (length (s .constraints) ≤ 1024) × (length (s .interactions) ≤ 1024)
+head-facts s h =
+    let t = and-true (leb (length (s .records)) 4096) _ (sym (head-is s) ∙ h) in
+    let u = and-true (leb (length (s .constraints)) 1024) _ (t .1) in
+    (leb-true _ _ (t .0), leb-true _ _ (u .0), leb-true _ _ (and-true (leb (length (s .interactions)) 1024) _ (u .1) .0))
+
+pub facts-head : (s : Sheet) → length (s .records) ≤ 4096 → length (s .constraints) ≤ 1024 → length (s .interactions) ≤ 1024
+    → passes headTests (headWords s) ≡ true
+facts-head s e c i =
+    head-is s ∙ true-and (leb (length (s .records)) 4096) _ (le-leb _ _ e)
+    (true-and (leb (length (s .constraints)) 1024) _ (le-leb _ _ c) (true-and (leb (length (s .interactions)) 1024) _ (le-leb _ _ i) refl))
+
+-- The roots of the builder name records.
+roots-of : (n m : ℕ) (xs : List Interaction) → Each (λ i. GoodInteraction n) m xs → Below n (flatMap (λ (x : Interaction). x .message ++ (x .count ∷ [])) xs)
+unfolding flatMap
+roots-of n m [] w y k = not-in y k
+roots-of n m (x ∷ xs) w y k =
+    let f = interaction-facts n x (w .0) in
+    go f (roots-of n (suc m) xs (w .1) y) (mem-either y (x .message ++ (x .count ∷ [])) (flatMap (λ (z : Interaction). z .message ++ (z .count ∷ [])) xs) k)
+  where
+    last : InteractionFacts n x → (y ≡ x .count) ⊎ Mem y [] → y < n
+    last f (inl e) = omega (arith, f .count)
+    last f (inr e) = not-in y e
+
+    here : InteractionFacts n x → Mem y (x .message) ⊎ Mem y (x .count ∷ []) → y < n
+    here f (inl e) = f .message y e
+    here f (inr e) = last f (mem-cases y (x .count) [] e)
+
+    go : InteractionFacts n x → (Mem y (flatMap (λ (z : Interaction). z .message ++ (z .count ∷ [])) xs) → y < n)
+        → Mem y (x .message ++ (x .count ∷ [])) ⊎ Mem y (flatMap (λ (z : Interaction). z .message ++ (z .count ∷ [])) xs) → y < n
+    go f ih (inl e) = here f (mem-either y (x .message) (x .count ∷ []) e)
+    go f ih (inr e) = ih e
+
+pub graph-roots : (p : ℕ) (s : Sheet) → Inside p s → Below (length (s .records)) (graphRoots s)
+unfolding graphRoots
+graph-roots p s w x m = go (mem-either x (s .constraints) (flatMap (λ (z : Interaction). z .message ++ (z .count ∷ [])) (s .interactions)) m)
+  where
+    go : Mem x (s .constraints) ⊎ Mem x (flatMap (λ (z : Interaction). z .message ++ (z .count ∷ [])) (s .interactions)) → x < length (s .records)
+    go (inl e) = named-below (length (s .records)) (s .constraints) (w .constraints) x e
+    go (inr e) = roots-of (length (s .records)) 0 (s .interactions) (w .interactions) x e
+
+-- Which records are roots.
+pub constraint-root : (s : Sheet) (c : ℕ) → Mem c (s .constraints) → Mem c (graphRoots s)
+unfolding graphRoots
+constraint-root s c m = mem-left c (s .constraints) _ m
+
+flat-mem : {X : Type 0} (f : X → List ℕ) (xs : List X) (d : X) (i c : ℕ) → i < length xs → Mem c (f (getD xs i d)) → Mem c (flatMap f xs)
+unfolding flatMap
+flat-mem f [] d i c h m = absurd (omega arith)
+flat-mem f (x ∷ xs) d zero c h m = mem-left c (f x) (flatMap f xs) m
+flat-mem f (x ∷ xs) d (suc i) c h m = mem-right c (f x) (flatMap f xs) (flat-mem f xs d i c (omega arith) m)
+
+pub interaction-root : (s : Sheet) (i c : ℕ) → i < length (s .interactions)
+    → Mem c (interactionAt s i .message ++ (interactionAt s i .count ∷ [])) → Mem c (graphRoots s)
+unfolding graphRoots interactionAt
+interaction-root s i c h m =
+    mem-right c (s .constraints) _ (flat-mem (λ (x : Interaction). x .message ++ (x .count ∷ [])) (s .interactions) noInteraction i c h m)
+
+-- Sorting once keeps the members, and adds none.
+by-once : (P : List ℕ → Type 0) (n x : ℕ) (xs : List ℕ) → P (n ∷ x ∷ xs) → P (x ∷ insertOnce n xs) → (n ≡ x → P (x ∷ xs)) → P (insertOnce n (x ∷ xs))
+unfolding insertOnce
+by-once P n x xs f g h =
+    by-test P (ltb n x) (λ e. f) (λ e. by-test P (ltb x n) (λ k. g) (λ k. h (omega (arith, ltb-false n x e, ltb-false x n k))))
+
+insert-length : (n : ℕ) (xs : List ℕ) → length (insertOnce n xs) ≤ suc (length xs)
+insert-length n xs = elim xs [
+  | [] ↦ unfold insertOnce in (omega arith)
+  | x ∷ (t → ih) ↦ by-once (λ (l : List ℕ). length l ≤ suc (suc (length t))) n x t (omega arith) (omega arith) (λ e. omega arith)
+]
+
+pub sorted-length : (ns : List ℕ) → length (sortedOnce ns) ≤ length ns
+unfolding sortedOnce
+sorted-length [] = omega arith
+sorted-length (n ∷ ns) = omega (arith, insert-length n (sortedOnce ns), sorted-length ns)
+
+mem-swap : (y n x : ℕ) (xs : List ℕ) → Mem y (n ∷ xs) → Mem y (n ∷ x ∷ xs)
+mem-swap y n x xs m = go (mem-cases y n xs m)
+  where
+    go : (y ≡ n) ⊎ Mem y xs → Mem y (n ∷ x ∷ xs)
+    go (inl e) = subst (λ (z : ℕ). Mem z (n ∷ x ∷ xs)) (sym e) (mem-here n (x ∷ xs))
+    go (inr k) = mem-there y n (x ∷ xs) (mem-there y x xs k)
+
+insert-new : (n : ℕ) (xs : List ℕ) → Mem n (insertOnce n xs)
+insert-new n xs = elim xs [
+  | [] ↦ unfold insertOnce in (mem-here n [])
+  | x ∷ (t → ih) ↦ by-once (Mem n) n x t (mem-here n (x ∷ t)) (mem-there n x (insertOnce n t) ih)
+      (λ e. subst (λ (z : ℕ). Mem z (x ∷ t)) (sym e) (mem-here x t))
+]
+
+insert-old : (y n : ℕ) (xs : List ℕ) → Mem y xs → Mem y (insertOnce n xs)
+insert-old y n xs = elim xs [
+  | [] ↦ λ m. not-in y m
+  | x ∷ (t → ih) ↦ λ m. by-once (Mem y) n x t (mem-there y n (x ∷ t) m) (keep-mem y x t (insertOnce n t) ih m) (λ e. m)
+]
+  where
+    keep-mem : (y x : ℕ) (t u : List ℕ) → (Mem y t → Mem y u) → Mem y (x ∷ t) → Mem y (x ∷ u)
+    keep-mem y x t u f m = go (mem-cases y x t m)
+      where
+        go : (y ≡ x) ⊎ Mem y t → Mem y (x ∷ u)
+        go (inl e) = subst (λ (z : ℕ). Mem z (x ∷ u)) (sym e) (mem-here x u)
+        go (inr k) = mem-there y x u (f k)
+
+pub sorted-has : (y : ℕ) (ns : List ℕ) → Mem y ns → Mem y (sortedOnce ns)
+unfolding sortedOnce
+sorted-has y [] m = m
+sorted-has y (n ∷ ns) m = go (mem-cases y n ns m) (sorted-has y ns)
+  where
+    go : (y ≡ n) ⊎ Mem y ns → (Mem y ns → Mem y (sortedOnce ns)) → Mem y (insertOnce n (sortedOnce ns))
+    go (inl e) ih = subst (λ (z : ℕ). Mem z (insertOnce n (sortedOnce ns))) (sym e) (insert-new n (sortedOnce ns))
+    go (inr k) ih = insert-old y n (sortedOnce ns) (ih k)
+
+insert-below : (b n : ℕ) (xs : List ℕ) → n < b → Below b xs → Below b (insertOnce n xs)
+insert-below b n xs h = elim xs [
+  | [] ↦ λ w. unfold insertOnce in (cons-below b n [] h w)
+  | x ∷ (t → ih) ↦ λ w. by-once (Below b) n x t (cons-below b n (x ∷ t) h w)
+      (cons-below b x (insertOnce n t) (w x (mem-here x t)) (ih (λ y m. w y (mem-there y x t m)))) (λ e. w)
+]
+  where
+    cons-below : (b n : ℕ) (xs : List ℕ) → n < b → Below b xs → Below b (n ∷ xs)
+    cons-below b n xs h w y m = go (mem-cases y n xs m)
+      where
+        go : (y ≡ n) ⊎ Mem y xs → y < b
+        go (inl e) = omega arith
+        go (inr k) = w y k
+
+pub sorted-below : (b : ℕ) (ns : List ℕ) → Below b ns → Below b (sortedOnce ns)
+unfolding sortedOnce
+sorted-below b [] w = w
+sorted-below b (n ∷ ns) w = insert-below b n (sortedOnce ns) (w n (mem-here n ns)) (sorted-below b ns (λ y m. w y (mem-there y n ns m)))
+
+-- A member stands at a place.
+pub place-of : (x : ℕ) (xs : List ℕ) → Mem x xs → (q : ℕ) × (q < length xs) × (getD xs q 0 ≡ x)
+place-of x [] m = not-in x m
+place-of x (y ∷ xs) m = go (mem-cases x y xs m) (place-of x xs)
+  where
+    go : (x ≡ y) ⊎ Mem x xs → (Mem x xs → (q : ℕ) × (q < length xs) × (getD xs q 0 ≡ x)) → (q : ℕ) × (q < suc (length xs)) × (getD (y ∷ xs) q 0 ≡ x)
+    go (inl e) ih = (0, omega arith, sym e)
+    go (inr k) ih = let a = ih k in (suc (a .0), omega (arith, a .1), a .2)
+
+-- What a function makes of numbers.
+pub mem-map : (f : ℕ → ℕ) (x : ℕ) (xs : List ℕ) → Mem x xs → Mem (f x) (map f xs)
+mem-map f x [] m = not-in x m
+mem-map f x (y ∷ xs) m = go (mem-cases x y xs m) (mem-map f x xs)
+  where
+    go : (x ≡ y) ⊎ Mem x xs → (Mem x xs → Mem (f x) (map f xs)) → Mem (f x) (f y ∷ map f xs)
+    go (inl e) ih = subst (λ (z : ℕ). Mem (f x) (z ∷ map f xs)) (ap f e) (mem-here (f x) (map f xs))
+    go (inr k) ih = mem-there (f x) (f y) (map f xs) (ih k)
+
+map-below : (b : ℕ) (f : ℕ → ℕ) (xs : List ℕ) → ((x : ℕ) → Mem x xs → f x < b) → Below b (map f xs)
+map-below b f [] h y m = not-in y m
+map-below b f (x ∷ xs) h y m = go (mem-cases y (f x) (map f xs) m) (map-below b f xs (λ z k. h z (mem-there z x xs k)) y)
+  where
+    go : (y ≡ f x) ⊎ Mem y (map f xs) → (Mem y (map f xs) → y < b) → y < b
+    go (inl e) ih = omega (arith, h x (mem-here x xs))
+    go (inr k) ih = ih k
+
+-- Lengths.
+records-length : (rs : List Record) → length (flatMap recordWords rs) ≡ 5 * length rs
+unfolding flatMap recordWords
+records-length [] = refl
+records-length (r ∷ rs) = let ih = records-length rs in omega arith
+
+renamed-length : (f : ℕ → ℕ) (xs : List Interaction) → length (flatMap interactionWords (map (renamed f) xs)) ≡ length (flatMap interactionWords xs)
+unfolding flatMap interactionWords renamed
+renamed-length f [] = refl
+renamed-length f (x ∷ xs) =
+    let ih = renamed-length f xs in
+    simp (length-append, length-map, ih)
+
+pub length-is : (s : Sheet) → lengthOf s ≡ 4 + 5 * length (s .records) + length (s .constraints) + length (flatMap interactionWords (s .interactions))
+unfolding lengthOf encode headWords
+length-is s = simp (length-append, records-length) (omega arith)
+
+-- Interactions renamed to numbers below b.
+renamed-each : (n b m : ℕ) (f : ℕ → ℕ) (xs : List Interaction) → Each (λ i. GoodInteraction n) m xs
+    → ((c : ℕ) → Mem c (flatMap (λ (x : Interaction). x .message ++ (x .count ∷ [])) xs) → f c < b)
+    → Each (λ i. GoodInteraction b) m (map (renamed f) xs)
+unfolding flatMap renamed
+renamed-each n b m f [] w h = tt
+renamed-each n b m f (x ∷ xs) w h =
+    let u = interaction-facts n x (w .0) in
+    let rest : List ℕ = flatMap (λ (z : Interaction). z .message ++ (z .count ∷ [])) xs in
+    let here : (c : ℕ) → Mem c (x .message ++ (x .count ∷ [])) → f c < b = λ c k. h c (mem-left c (x .message ++ (x .count ∷ [])) rest k) in (
+      facts-good b (renamed f x) (record {
+        bus = u .bus;
+        count = here (x .count) (mem-right (x .count) (x .message) (x .count ∷ []) (mem-here (x .count) []));
+        short = rw (length-map (x .message) f) (u .short);
+        message = map-below b f (x .message) (λ c k. here c (mem-left c (x .message) (x .count ∷ []) k));
+      }),
+      renamed-each n b (suc m) f xs (w .1) (λ c k. h c (mem-right c (x .message ++ (x .count ∷ [])) rest k)),
+    )
+
+pub getD-map : {X Y : Type 0} (f : X → Y) (l : List X) (j : ℕ) (d : X) (e : Y) → j < length l → getD (map f l) j e ≡ f (getD l j d)
+getD-map f [] j d e h = absurd (omega arith)
+getD-map f (x ∷ l) zero d e h = refl
+getD-map f (x ∷ l) (suc j) d e h = getD-map f l j d e (omega arith)
+
+module _ (p : ℕ) (big : 1 < p) (s : Sheet) (w : Inside p s) where
+  -- The builder's state after the whole walk, under an assignment.
+  pub graph-kept : (A : Leaf → ℕ) (small : (x : Leaf) → A x < p)
+      → Good p big A small (s .records) (w .records) (built p s) (order (s .records) (graphRoots s))
+  unfolding built
+  graph-kept A small =
+      build-good p big A small (s .records) (w .records) (order (s .records) (graphRoots s))
+      (order-closed (s .records) (each-low p 0 (s .records) (w .records)) (graphRoots s) (graph-roots p s w))
+      (order-below (s .records) (each-low p 0 (s .records) (w .records)) (graphRoots s) (graph-roots p s w))
+
+  in-order : (c : ℕ) → Mem c (graphRoots s) → Mem c (order (s .records) (graphRoots s))
+  in-order c m = order-roots (s .records) (each-low p 0 (s .records) (w .records)) (graphRoots s) (graph-roots p s w) c m
+
+  -- Which values are assigned does not matter to the graph.
+  kept : Good p big (λ x. 0) (λ x. omega arith) (s .records) (w .records) (built p s) (order (s .records) (graphRoots s))
+  kept = graph-kept (λ x. 0) (λ x. omega arith)
+
+  num-below : (c : ℕ) → Mem c (graphRoots s) → built p s .num c < length (built p s .nodes)
+  num-below c m = unfold Done in (kept .done c (in-order c m) .0)
+
+  pub graph-value : (A : Assignment p) (c : ℕ) → Mem c (graphRoots s)
+      → valueAt p (A .at) (graphOf p s .records) (built p s .num c) ≡ valueAt p (A .at) (s .records) c
+  unfolding graphOf
+  graph-value A c m = unfold Done in (graph-kept (A .at) (A .below) .done c (in-order c m) .1)
+
+  -- No more nodes than records reached, and so no more than records.
+  pub graph-nodes : length (graphOf p s .records) ≤ length (order (s .records) (graphRoots s))
+  unfolding graphOf
+  graph-nodes = kept .few
+
+  pub graph-few : length (graphOf p s .records) ≤ length (s .records)
+  graph-few =
+      omega (arith, graph-nodes, distinct-length (length (s .records)) (order (s .records) (graphRoots s))
+      (order-distinct (s .records) (each-low p 0 (s .records) (w .records)) (graphRoots s) (graph-roots p s w))
+      (order-below (s .records) (each-low p 0 (s .records) (w .records)) (graphRoots s) (graph-roots p s w)))
+
+  few-constraints : length (graphOf p s .constraints) ≤ length (s .constraints)
+  unfolding graphOf
+  few-constraints = omega (arith, sorted-length (map (built p s .num) (s .constraints)), length-map (s .constraints) (built p s .num))
+
+  pub same-interactions : length (graphOf p s .interactions) ≡ length (s .interactions)
+  unfolding graphOf
+  same-interactions = length-map (s .interactions) (renamed (built p s .num))
+
+  pub graph-inside : Inside p (graphOf p s)
+  graph-inside =
+      let h = head-facts s (w .head) in
+      record {
+        head = facts-head (graphOf p s) (omega (arith, graph-few)) (omega (arith, few-constraints)) (omega (arith, same-interactions));
+        records = unfold graphOf in (kept .good);
+        constraints = unfold graphOf in
+            (below-named (length (built p s .nodes)) (sortedOnce (map (built p s .num) (s .constraints)))
+            (sorted-below (length (built p s .nodes)) (map (built p s .num) (s .constraints))
+            (map-below (length (built p s .nodes)) (built p s .num) (s .constraints) (λ c m. num-below c (constraint-root s c m)))));
+        interactions = unfold graphOf in
+            (renamed-each (length (s .records)) (length (built p s .nodes)) 0 (built p s .num) (s .interactions) (w .interactions)
+            (λ c m. num-below c (unfold graphRoots in (mem-right c (s .constraints) _ m))));
+      }
+
+  pub graph-shorter : lengthOf (graphOf p s) ≤ lengthOf s
+  graph-shorter =
+      omega (arith, length-is (graphOf p s), length-is s, graph-few, few-constraints, same-words)
+    where
+      same-words : length (flatMap interactionWords (graphOf p s .interactions)) ≡ length (flatMap interactionWords (s .interactions))
+      same-words = unfold graphOf in (renamed-length (built p s .num) (s .interactions))
+
+  -- A constraint's node stands in the graph's list.
+  pub constraint-place : (j : ℕ) → j < length (s .constraints)
+      → (q : ℕ) × (q < length (graphOf p s .constraints)) × (constraintAt (graphOf p s) q ≡ built p s .num (constraintAt s j))
+  unfolding constraintAt graphOf
+  constraint-place j h =
+      place-of (built p s .num (getD (s .constraints) j 0)) (sortedOnce (map (built p s .num) (s .constraints)))
+      (sorted-has (built p s .num (getD (s .constraints) j 0)) (map (built p s .num) (s .constraints))
+      (mem-map (built p s .num) (getD (s .constraints) j 0) (s .constraints) (mem-getD (s .constraints) j h)))
+
+  pub interaction-renamed : (i : ℕ) → i < length (s .interactions) → interactionAt (graphOf p s) i ≡ renamed (built p s .num) (interactionAt s i)
+  unfolding interactionAt graphOf
+  interaction-renamed i h = getD-map (renamed (built p s .num)) (s .interactions) i noInteraction noInteraction h
+
+  pub same-fields : (i : ℕ) → i < length (s .interactions) → length (interactionAt (graphOf p s) i .message) ≡ length (interactionAt s i .message)
+  unfolding renamed
+  same-fields i h = ap (λ (x : Interaction). length (x .message)) (interaction-renamed i h) ∙ length-map (interactionAt s i .message) (built p s .num)
+
+  -- The values of constraints, counts and fields.
+  pub constraint-kept : (A : Assignment p) (j : ℕ) → j < length (s .constraints)
+      → valueAt p (A .at) (graphOf p s .records) (built p s .num (constraintAt s j)) ≡ valueAt p (A .at) (s .records) (constraintAt s j)
+  unfolding constraintAt
+  constraint-kept A j h = graph-value A (getD (s .constraints) j 0) (constraint-root s (getD (s .constraints) j 0) (mem-getD (s .constraints) j h))
+
+  pub count-kept : (A : Assignment p) (i : ℕ) → i < length (s .interactions)
+      → valueAt p (A .at) (graphOf p s .records) (interactionAt (graphOf p s) i .count) ≡ valueAt p (A .at) (s .records) (interactionAt s i .count)
+  unfolding renamed
+  count-kept A i h =
+      let c : ℕ = interactionAt s i .count in
+      ap (λ (x : Interaction). valueAt p (A .at) (graphOf p s .records) (x .count)) (interaction-renamed i h)
+      ∙ graph-value A c (interaction-root s i c h (mem-right c (interactionAt s i .message) (c ∷ []) (mem-here c [])))
+
+  pub field-kept : (A : Assignment p) (i f : ℕ) → i < length (s .interactions) → f < length (interactionAt s i .message)
+      → valueAt p (A .at) (graphOf p s .records) (fieldAt (graphOf p s) i f) ≡ valueAt p (A .at) (s .records) (fieldAt s i f)
+  unfolding renamed fieldAt
+  field-kept A i f h k =
+      let c : ℕ = getD (interactionAt s i .message) f 0 in
+      ap (λ (x : Interaction). valueAt p (A .at) (graphOf p s .records) (getD (x .message) f 0)) (interaction-renamed i h)
+      ∙ ap (valueAt p (A .at) (graphOf p s .records)) (getD-map (built p s .num) (interactionAt s i .message) f 0 0 k)
+      ∙ graph-value A c (interaction-root s i c h (mem-left c (interactionAt s i .message) (interactionAt s i .count ∷ []) (mem-getD (interactionAt s i .message) f k)))
