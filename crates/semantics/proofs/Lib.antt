@@ -10,4 +10,5 @@ pub mod Orders
 pub mod Rules
 pub mod Graphs
 pub mod GraphSheets
+pub mod Expansions
 pub mod Examples

@@ -186,7 +186,7 @@ module _ (p : ℕ) (A : Leaf → ℕ) where
 
 -- Values are below p.
 module _ (p : ℕ) (big : 1 < p) (A : Leaf → ℕ) (small : (x : Leaf) → A x < p) where
-  good-value : (own : ℕ) (r : Record) → GoodRecord p own r → (f : ℕ → ℕ) → nodeValue p A (nodeOf r) f < p
+  pub good-value : (own : ℕ) (r : Record) → GoodRecord p own r → (f : ℕ → ℕ) → nodeValue p A (nodeOf r) f < p
   unfolding nodeOf
   good-value own r h f =
       let P : Node → Type 0 = λ n. nodeValue p A n f < p in
