@@ -22,7 +22,8 @@ use Rattle.semantics.proofs.Basics.{by-test}
 use Rattle.semantics.proofs.Arithmetic.{addM-lt, mulM-lt, addM-zero, mulM-one, one-mulM, subM-add}
 use Rattle.semantics.proofs.Monomials.{one, val, val-append, val-neg, val-mul}
 use Rattle.semantics.proofs.Combining.{val-combine}
-use Rattle.semantics.proofs.Passes.{each-zero, fill-at}
+use Rattle.semantics.proofs.Lists.{each-zero}
+use Rattle.semantics.proofs.Passes.{fill-at}
 use Rattle.semantics.proofs.Records.{LowNode, LowRecord, each-low, good-value, value-at}
 use Rattle.semantics.proofs.Walks.{Mem, mem-here, mem-there, mem-cases, Closed}
 use Rattle.semantics.proofs.Orders.{not-in}
@@ -127,7 +128,7 @@ module _ (p : ℕ) (big : 1 < p) (A : Leaf → ℕ) (small : (x : Leaf) → A x 
     one-keeps i l q h =
         ap (val p (productOf p A)) (list-at p rs (each-low p 0 rs ok) i l)
         ∙ unfold recordList in
-          (node-keeps back i (recordAt rs i) (unfold recordAt in (each-zero (GoodRecord p) rs noRecord i ok l)) (packs-fine p rs 0 i q)
+          (node-keeps back i (recordAt rs i) (unfold recordAt in (each-zero (GoodRecord p) rs i noRecord ok l)) (packs-fine p rs 0 i q)
           (nodeOf (recordAt rs i)) refl (listAt p rs) (valueAt p A rs) h)
         ∙ sym (value-at p A rs (each-low p 0 rs ok) i l)
 

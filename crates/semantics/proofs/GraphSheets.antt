@@ -14,7 +14,8 @@ use Rattle.semantics.specs.Walk.{member, order}
 use Rattle.semantics.specs.Graph.{Built, build, graphRoots, built, insertOnce, sortedOnce, renamed, graphOf}
 use Rattle.semantics.specs.Demand.{Assignment, noInteraction, constraintAt, interactionAt, fieldAt}
 use Rattle.semantics.proofs.Basics.{by-test, and-true, true-and}
-use Rattle.semantics.proofs.Passes.{each-zero}
+use Rattle.semantics.proofs.Lists.{getD-map}
+use Rattle.semantics.proofs.Encoding.{sheet-length, head-limits}
 use Rattle.semantics.proofs.Records.{each-low}
 use Rattle.semantics.proofs.Walks.{Mem, mem-here, mem-there, mem-cases}
 use Rattle.semantics.proofs.Orders.{not-in, mem-left, mem-right, mem-either, mem-getD, Below, order-closed, order-roots, order-below, order-distinct, distinct-length}
@@ -70,13 +71,6 @@ facts-good n x f =
 pub head-is : (s : Sheet) → passes headTests (headWords s) ≡ leb (length (s .records)) 4096 && (leb (length (s .constraints)) 1024 && (leb (length (s .interactions)) 1024 && true))
 unfolding headTests headWords passes
 head-is s = refl
-
-pub head-facts : (s : Sheet) → passes headTests (headWords s) ≡ true
-    → (length (s .records) ≤ 4096) × (length (s .constraints) ≤ 1024) × (length (s .interactions) ≤ 1024)
-head-facts s h =
-    let t = and-true (leb (length (s .records)) 4096) _ (sym (head-is s) ∙ h) in
-    let u = and-true (leb (length (s .constraints)) 1024) _ (t .1) in
-    (leb-true _ _ (t .0), leb-true _ _ (u .0), leb-true _ _ (and-true (leb (length (s .interactions)) 1024) _ (u .1) .0))
 
 pub facts-head : (s : Sheet) → length (s .records) ≤ 4096 → length (s .constraints) ≤ 1024 → length (s .interactions) ≤ 1024
     → passes headTests (headWords s) ≡ true
@@ -229,21 +223,12 @@ map-below b f (x ∷ xs) h y m = go (mem-cases y (f x) (map f xs) m) (map-below 
     go (inr k) ih = ih k
 
 -- Lengths.
-records-length : (rs : List Record) → length (flatMap recordWords rs) ≡ 5 * length rs
-unfolding flatMap recordWords
-records-length [] = refl
-records-length (r ∷ rs) = let ih = records-length rs in omega arith
-
 renamed-length : (f : ℕ → ℕ) (xs : List Interaction) → length (flatMap interactionWords (map (renamed f) xs)) ≡ length (flatMap interactionWords xs)
 unfolding flatMap interactionWords renamed
 renamed-length f [] = refl
 renamed-length f (x ∷ xs) =
     let ih = renamed-length f xs in
     simp (length-append, length-map, ih)
-
-pub length-is : (s : Sheet) → lengthOf s ≡ 4 + 5 * length (s .records) + length (s .constraints) + length (flatMap interactionWords (s .interactions))
-unfolding lengthOf encode headWords
-length-is s = simp (length-append, records-length) (omega arith)
 
 -- Interactions renamed to numbers below b.
 renamed-each : (n b m : ℕ) (f : ℕ → ℕ) (xs : List Interaction) → Each (λ i. GoodInteraction n) m xs
@@ -263,11 +248,6 @@ renamed-each n b m f (x ∷ xs) w h =
       }),
       renamed-each n b (suc m) f xs (w .1) (λ c k. h c (mem-right c (x .message ++ (x .count ∷ [])) rest k)),
     )
-
-pub getD-map : {X Y : Type 0} (f : X → Y) (l : List X) (j : ℕ) (d : X) (e : Y) → j < length l → getD (map f l) j e ≡ f (getD l j d)
-getD-map f [] j d e h = absurd (omega arith)
-getD-map f (x ∷ l) zero d e h = refl
-getD-map f (x ∷ l) (suc j) d e h = getD-map f l j d e (omega arith)
 
 module _ (p : ℕ) (big : 1 < p) (s : Sheet) (w : Inside p s) where
   -- The builder's state after the whole walk, under an assignment.
@@ -315,7 +295,7 @@ module _ (p : ℕ) (big : 1 < p) (s : Sheet) (w : Inside p s) where
 
   pub graph-inside : Inside p (graphOf p s)
   graph-inside =
-      let h = head-facts s (w .head) in
+      let h = head-limits s (w .head) in
       record {
         head = facts-head (graphOf p s) (omega (arith, graph-few)) (omega (arith, few-constraints)) (omega (arith, same-interactions));
         records = unfold graphOf in (kept .good);
@@ -330,7 +310,7 @@ module _ (p : ℕ) (big : 1 < p) (s : Sheet) (w : Inside p s) where
 
   pub graph-shorter : lengthOf (graphOf p s) ≤ lengthOf s
   graph-shorter =
-      omega (arith, length-is (graphOf p s), length-is s, graph-few, few-constraints, same-words)
+      omega (arith, sheet-length (graphOf p s), sheet-length s, graph-few, few-constraints, same-words)
     where
       same-words : length (flatMap interactionWords (graphOf p s .interactions)) ≡ length (flatMap interactionWords (s .interactions))
       same-words = unfold graphOf in (renamed-length (built p s .num) (s .interactions))

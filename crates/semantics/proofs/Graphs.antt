@@ -14,7 +14,7 @@ use Rattle.semantics.specs.Value.{Leaf, Node, leaf, const, add, sub, neg
 use Rattle.semantics.specs.Walk.{children, childrenAt, member}
 use Rattle.semantics.specs.Graph.{Pick, present, make, equalRecords, find, intern, Built, setNum, nodeFor, pick, takeIn, addRecord, build}
 use Rattle.semantics.proofs.Basics.{by-test, and-true}
-use Rattle.semantics.proofs.Passes.{each-zero, each-snoc}
+use Rattle.semantics.proofs.Lists.{each-zero, each-snoc}
 use Rattle.semantics.proofs.Records.{LowNode, LowRecord, low-more, good-low, each-low, Flat, flat-good, value-at, value-old, value-new, value-small}
 use Rattle.semantics.proofs.Rules.{GoodPick, add-good, sub-good, mul-good, neg-rule-good, pickValue, add-rule-value, sub-rule-value, mul-rule-value, neg-rule-value}
 use Rattle.semantics.proofs.Walks.{Mem, mem-here, mem-there, mem-cases, Closed}
@@ -131,7 +131,7 @@ module _ (p : ℕ) (big : 1 < p) (A : Leaf → ℕ) (small : (x : Leaf) → A x 
     unfolding nodeFor Done recordAt
     child-low x m =
         low-more (b .num x) (length (b .nodes)) (nodeOf (getD (b .nodes) (b .num x) noRecord)) (omega (arith, kept .done x m .0))
-        (good-low p (b .num x) (getD (b .nodes) (b .num x) noRecord) (each-zero (GoodRecord p) (b .nodes) noRecord (b .num x) (kept .good) (kept .done x m .0)))
+        (good-low p (b .num x) (getD (b .nodes) (b .num x) noRecord) (each-zero (GoodRecord p) (b .nodes) (b .num x) noRecord (kept .good) (kept .done x m .0)))
 
     pick-good : (r : Record) → GoodRecord p i r → (k : Node) → k ≡ nodeOf r → ((c : ℕ) → Mem c (children k) → Mem c s)
         → GoodPick p (length (b .nodes)) (pick p b r k)
@@ -182,7 +182,7 @@ module _ (p : ℕ) (big : 1 < p) (A : Leaf → ℕ) (small : (x : Leaf) → A x 
     add-kept l h =
         let r : Record = recordAt rs i in
         take-good (pick p b r (nodeOf r))
-        (pick-good r (unfold recordAt in (each-zero (GoodRecord p) rs noRecord i ok l)) (nodeOf r) refl h)
+        (pick-good r (unfold recordAt in (each-zero (GoodRecord p) rs i noRecord ok l)) (nodeOf r) refl h)
         (pick-value r (nodeOf r) refl h ∙ sym (value-at p A rs (each-low p 0 rs ok) i l))
 
   -- In an order that has children before parents, each record's node has the record's value.

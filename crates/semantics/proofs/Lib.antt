@@ -1,6 +1,8 @@
 pub mod Basics
+pub mod Lists
 pub mod Arithmetic
 pub mod Order
+pub mod Sorting
 pub mod Monomials
 pub mod Combining
 pub mod Passes
@@ -9,6 +11,10 @@ pub mod Records
 pub mod Orders
 pub mod Rules
 pub mod Graphs
+pub mod Encoding
 pub mod GraphSheets
 pub mod Expansions
+pub mod Grouping
+pub mod Calls
+pub mod Acceptance
 pub mod Examples

@@ -12,7 +12,7 @@ use Rattle.semantics.specs.Sheet.{Record, Each}
 use Rattle.semantics.specs.Value.{Node, leaf, const, add, sub, neg, mul, nodeOf, noRecord, recordAt}
 use Rattle.semantics.specs.Walk.{children, childrenAt, member, foldLeft, visit, order, Reaches, itself, through}
 use Rattle.semantics.proofs.Basics.{by-test, not-both}
-use Rattle.semantics.proofs.Passes.{each-zero}
+use Rattle.semantics.proofs.Lists.{each-zero}
 use Rattle.semantics.proofs.Records.{LowNode, LowRecord}
 use Rattle.semantics.proofs.Walks.{Mem, mem-here, mem-there, mem-cases, fold-keeps, visit-old, visit-has, fold-has, Closed, visit-closed, fold-reach, visit-reach, closed-reach, reach-le, Distinct, visit-distinct}
 
@@ -78,7 +78,7 @@ module _ (rs : List Record) (ok : Each LowRecord 0 rs) where
   low r c m = go (ltb r (length rs)) refl
     where
       go : (t : Bool) → ltb r (length rs) ≡ t → c < r
-      go true e = children-below r (nodeOf (getD rs r noRecord)) (each-zero LowRecord rs noRecord r ok (ltb-true _ _ e)) c m
+      go true e = children-below r (nodeOf (getD rs r noRecord)) (each-zero LowRecord rs r noRecord ok (ltb-true _ _ e)) c m
       go false e = unfold nodeOf children in (not-in c (rw (List·getD-eq-default rs noRecord (ltb-false _ _ e)) at m))
 
   module _ (roots : List ℕ) (named : Below (length rs) roots) where

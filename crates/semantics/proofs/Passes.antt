@@ -3,25 +3,10 @@ use mathlib.Core.Path.{_≡_, refl, sym, _∙_, ap, subst}
 use mathlib.Core.List.{List, [], _∷_, _++_}
 use Prim.Native.Nat.{ℕ, zero, suc, _+_, _<_}
 use native.Mathlib.Omega.{arith}
-use native.Mathlib.Nat.{zero-add}
 use lib.ListN.{length, getD, length-append, List·getD-append}
 use lib.Seq.{getD-at}
 use Rattle.semantics.specs.Sheet.{Each}
 use Rattle.semantics.specs.Value.{fill}
-
--- A property of each element, at its place.
-module _ {X : Type 0} (P : ℕ → X → Type 0) where
-  pub each-at : (n : ℕ) (xs : List X) (d : X) (i : ℕ) → Each P n xs → i < length xs → P (n + i) (getD xs i d)
-  each-at n [] d i w h = absurd (omega arith)
-  each-at n (x ∷ xs) d zero w h = subst (λ (k : ℕ). P k x) (omega arith) (w .0)
-  each-at n (x ∷ xs) d (suc i) w h = subst (λ (k : ℕ). P k (getD xs i d)) (omega arith) (each-at (suc n) xs d i (w .1) (omega arith))
-
-  pub each-zero : (xs : List X) (d : X) (i : ℕ) → Each P 0 xs → i < length xs → P i (getD xs i d)
-  each-zero xs d i w h = rw zero-add at (each-at 0 xs d i w h)
-
-  pub each-snoc : (n : ℕ) (xs : List X) (x : X) → Each P n xs → P (n + length xs) x → Each P n (xs ++ (x ∷ []))
-  each-snoc n [] x w h = (subst (λ (k : ℕ). P k x) (omega arith) h, tt)
-  each-snoc n (y ∷ xs) x w h = (w .0, each-snoc (suc n) xs x (w .1) (subst (λ (k : ℕ). P k x) (omega arith) h))
 
 module _ {R X : Type 0} (step : R → (ℕ → X) → X) (d : X) where
   pub fill-length : (done : List X) (rs : List R) → length (fill step d done rs) ≡ length done + length rs

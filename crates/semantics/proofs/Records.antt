@@ -14,7 +14,8 @@ use Rattle.semantics.specs.Sheet.{Record, recordOf, recordWords, recordT
 use Rattle.semantics.specs.Value.{Leaf, Node, leaf, const, add, sub, neg, mul, leafOf, nodeOf, noRecord, recordAt, fill, nodeValue, recordValue, values, valueAt}
 use Rattle.semantics.proofs.Basics.{by-test, and-true, true-and, not-both}
 use Rattle.semantics.proofs.Arithmetic.{addM-lt, subM-lt, mulM-lt, negM-lt}
-use Rattle.semantics.proofs.Passes.{each-zero, fill-at, fill-old, fill-length, fill-snoc}
+use Rattle.semantics.proofs.Lists.{each-zero}
+use Rattle.semantics.proofs.Passes.{fill-at, fill-old, fill-length, fill-snoc}
 
 -- The children that a node looks at are below n.
 abbrev pub LowNode : ℕ → Node → Type 0
@@ -204,6 +205,6 @@ module _ (p : ℕ) (big : 1 < p) (A : Leaf → ℕ) (small : (x : Leaf) → A x 
       go : (t : Bool) → ltb i (length rs) ≡ t → valueAt p A rs i < p
       go true e =
           subst (λ (x : ℕ). x < p) (sym (value-at p A rs (each-low p 0 rs w) i (ltb-true _ _ e)))
-          (good-value i (recordAt rs i) (unfold recordAt in (each-zero (GoodRecord p) rs noRecord i w (ltb-true _ _ e))) (valueAt p A rs))
+          (good-value i (recordAt rs i) (unfold recordAt in (each-zero (GoodRecord p) rs i noRecord w (ltb-true _ _ e))) (valueAt p A rs))
       go false e = unfold valueAt in
           (subst (λ (x : ℕ). x < p) (sym (List·getD-eq-default (values p A rs) 0 (omega (arith, length-values p A rs, ltb-false i (length rs) e)))) (omega arith))

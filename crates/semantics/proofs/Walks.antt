@@ -12,7 +12,6 @@ use Rattle.semantics.specs.Sheet.{Record, Each}
 use Rattle.semantics.specs.Value.{Node, leaf, const, add, sub, neg, mul, nodeOf, noRecord, recordAt}
 use Rattle.semantics.specs.Walk.{children, childrenAt, member, foldLeft, visit, order, Reaches, itself, through}
 use Rattle.semantics.proofs.Basics.{by-test}
-use Rattle.semantics.proofs.Passes.{each-zero}
 
 abbrev pub Mem : ℕ → List ℕ → Type 0
 Mem x s = member x s ≡ true

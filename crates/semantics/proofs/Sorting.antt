@@ -1,0 +1,96 @@
+-- What sorting keeps, and that it sorts.
+use mathlib.Core.Path.{_≡_, refl, sym, _∙_, ap, subst}
+use mathlib.Core.Bool.{Bool, true, false, cond}
+use mathlib.Core.List.{List, [], _∷_, _++_}
+use Rattle.semantics.specs.Monomial.{insertSorted, sort}
+use Rattle.semantics.proofs.Basics.{by-test, not-both}
+
+-- A property of every element.
+abbrev pub All : {X : Type 0} → (X → Type 0) → List X → Type 0
+All P [] = Unit {0}
+All P (x ∷ xs) = P x × All P xs
+
+pub all-append : {X : Type 0} (P : X → Type 0) (xs ys : List X) → All P xs → All P ys → All P (xs ++ ys)
+all-append P [] ys h k = k
+all-append P (x ∷ xs) ys h k = (h .0, all-append P xs ys (h .1) k)
+
+module _ {X : Type 0} (after : X → X → Bool) where
+  -- Where an element goes: behind the first, or in front.
+  pub insert-by : (P : List X → Type 0) (x y : X) (ys : List X) → (after x y ≡ true → P (y ∷ insertSorted after x ys))
+      → (after x y ≡ false → P (x ∷ y ∷ ys)) → P (insertSorted after x (y ∷ ys))
+  unfolding insertSorted
+  insert-by P x y ys f g = by-test P (after x y) f g
+
+  pub insert-nil : (x : X) → insertSorted after x [] ≡ x ∷ []
+  unfolding insertSorted
+  insert-nil x = refl
+
+  pub sort-nil : sort after [] ≡ []
+  unfolding sort
+  sort-nil = refl
+
+  pub sort-cons : (x : X) (xs : List X) → sort after (x ∷ xs) ≡ insertSorted after x (sort after xs)
+  unfolding sort
+  sort-cons x xs = refl
+
+  -- What every element has, every element has after sorting.
+  insert-all : (P : X → Type 0) (x : X) (ys : List X) → P x → All P ys → All P (insertSorted after x ys)
+  insert-all P x ys h = elim ys [
+    | [] ↦ λ k. rw insert-nil (h, tt)
+    | y ∷ (t → ih) ↦ λ k. insert-by (All P) x y t (λ e. (k .0, ih (k .1))) (λ e. (h, k))
+  ]
+
+  pub sort-all : (P : X → Type 0) (xs : List X) → All P xs → All P (sort after xs)
+  sort-all P [] k = rw sort-nil tt
+  sort-all P (x ∷ xs) k = rw sort-cons (insert-all P x (sort after xs) (k .0) (sort-all P xs (k .1)))
+
+  -- What follows from the rest, whatever the order of the first two, does not change by sorting.
+  module _ {Y : Type 0} (F : List X → Y) (rest : (x : X) (s t : List X) → F s ≡ F t → F (x ∷ s) ≡ F (x ∷ t))
+      (swap : (x y : X) (t : List X) → F (x ∷ y ∷ t) ≡ F (y ∷ x ∷ t)) where
+    insert-same : (x : X) (ys : List X) → F (insertSorted after x ys) ≡ F (x ∷ ys)
+    insert-same x ys = elim ys [
+      | [] ↦ ap F (insert-nil x)
+      | y ∷ (t → ih) ↦
+          insert-by (λ (l : List X). F l ≡ F (x ∷ y ∷ t)) x y t (λ e. rest y (insertSorted after x t) (x ∷ t) ih ∙ swap y x t) (λ e. refl)
+    ]
+
+    pub sort-same : (xs : List X) → F (sort after xs) ≡ F xs
+    sort-same xs = elim xs [
+      | [] ↦ ap F sort-nil
+      | x ∷ (t → ih) ↦ ap F (sort-cons x t) ∙ insert-same x (sort after t) ∙ rest x (sort after t) t ih
+    ]
+
+  -- Sorted: no element is after one that stands behind it.
+  abbrev pub Ahead : X → List X → Type 0
+  Ahead x ys = All (λ (y : X). after x y ≡ false) ys
+
+  abbrev pub Sorted : List X → Type 0
+  Sorted [] = Unit {0}
+  Sorted (x ∷ xs) = Ahead x xs × Sorted xs
+
+  module _ (asym : (x y : X) → after x y ≡ true → after y x ≡ false)
+      (trans : (x y z : X) → after x y ≡ true → after y z ≡ true → after x z ≡ true)
+      (total : (x y : X) → after x y ≡ false → after y x ≡ false → x ≡ y) where
+    not-after-trans : (x y z : X) → after x y ≡ false → after y z ≡ false → after x z ≡ false
+    not-after-trans x y z h k = go (after x z) (after z y) refl refl
+      where
+        go : (s t : Bool) → after x z ≡ s → after z y ≡ t → after x z ≡ false
+        go false t e f = e
+        go true true e f = not-both (trans x z y e f) h
+        go true false e f = not-both e (subst (λ (q : X). after x q ≡ false) (total y z k f) h)
+
+    ahead-trans : (x y : X) (s : List X) → after x y ≡ false → Ahead y s → Ahead x s
+    ahead-trans x y [] h k = tt
+    ahead-trans x y (z ∷ s) h k = (not-after-trans x y z h (k .0), ahead-trans x y s h (k .1))
+
+    sorted-insert : (x : X) (s : List X) → Sorted s → Sorted (insertSorted after x s)
+    sorted-insert x s = elim s [
+      | [] ↦ λ k. rw insert-nil (tt, tt)
+      | y ∷ (t → ih) ↦ λ k. insert-by Sorted x y t
+          (λ e. (insert-all (λ (z : X). after y z ≡ false) x t (asym x y e) (k .0), ih (k .1)))
+          (λ e. ((e, ahead-trans x y t e (k .0)), k))
+    ]
+
+    pub sorted-sort : (xs : List X) → Sorted (sort after xs)
+    sorted-sort [] = rw sort-nil tt
+    sorted-sort (x ∷ xs) = rw sort-cons (sorted-insert x (sort after xs) (sorted-sort xs))
