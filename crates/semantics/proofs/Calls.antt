@@ -8,7 +8,7 @@ use lib.ListN.{length, getD, take, length-map, List·getD-map}
 use lib.Seq.{take-append-seam, getD-append-add}
 use borrow.Author.Tests.{le-leb}
 use Rattle.semantics.specs.Answer.{Answer, good, refused}
-use Rattle.semantics.specs.Call.{Outcome, Result, Accepted, zeros, padded, paddedAll, outcome, handedBack, needs}
+use Rattle.semantics.specs.Call.{Result, Accepted, zeros, padded, paddedAll, outcome, handedBack, needs}
 use Rattle.semantics.proofs.Basics.{cond-true}
 
 -- A slice long enough is no reason to refuse.
@@ -24,18 +24,20 @@ padded-at (w ∷ ws) [] k h = absurd (omega arith)
 padded-at (w ∷ ws) (n ∷ ns) zero h = take-append-seam w _
 padded-at (w ∷ ws) (n ∷ ns) (suc k) h = padded-at ws ns k (omega arith)
 
--- With a slice for each output, output k is handed back.
-pub handed-back : (scratch lent : List ℕ) (r : Result) (k : ℕ) → length (r .outputs) ≤ length lent
-    → handedBack (length scratch) (outcome scratch lent (good r)) k ≡ getD (r .outputs) k []
-unfolding handedBack outcome
-handed-back scratch lent r k h =
-    (λ i. take (List·getD-map length (r .outputs) k [] i) (slice i)) ∙ padded-at (r .outputs) lent k h
-  where
-    slice : getD (map zeros scratch ++ paddedAll (r .outputs) lent) (length scratch + k) [] ≡ getD (paddedAll (r .outputs) lent) k []
-    slice =
-        ap (λ (n : ℕ). getD (map zeros scratch ++ paddedAll (r .outputs) lent) (n + k) []) (sym (length-map scratch zeros))
-        ∙ getD-append-add (map zeros scratch) (paddedAll (r .outputs) lent) k []
+-- A call that comes to a result is accepted, and with a slice for each output it hands back every output.
+module _ (scratch lent : List ℕ) (a : Answer Result) (r : Result) (e : a ≡ good r) where
+  pub accepted : Accepted (outcome scratch lent a)
+  unfolding outcome
+  accepted = rw e
 
-pub accepted : (scratch lent : List ℕ) (r : Result) → Accepted (outcome scratch lent (good r))
-unfolding outcome
-accepted scratch lent r = refl
+  pub handed-back : (k : ℕ) → length (r .outputs) ≤ length lent → handedBack (length scratch) (outcome scratch lent a) k ≡ getD (r .outputs) k []
+  unfolding handedBack outcome
+  handed-back k h =
+      ap (λ (b : Answer Result). handedBack (length scratch) (outcome scratch lent b) k) e
+      ∙ (λ i. take (List·getD-map length (r .outputs) k [] i) (slice i))
+      ∙ padded-at (r .outputs) lent k h
+    where
+      slice : getD (map zeros scratch ++ paddedAll (r .outputs) lent) (length scratch + k) [] ≡ getD (paddedAll (r .outputs) lent) k []
+      slice =
+          ap (λ (n : ℕ). getD (map zeros scratch ++ paddedAll (r .outputs) lent) (n + k) []) (sym (length-map scratch zeros))
+          ∙ getD-append-add (map zeros scratch) (paddedAll (r .outputs) lent) k []

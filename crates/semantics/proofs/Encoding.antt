@@ -33,35 +33,35 @@ goes-on true s n k h = (refl, h)
 goes-on false s n k h = stopped≢reading h
 
 -- Words that pass their tests are read over.
-pub words-read : (n : ℕ) (ts : List (ℕ → Bool)) (us vs : List ℕ) (i : ℕ) → passes ts us ≡ true
+pub scan-words : (n : ℕ) (ts : List (ℕ → Bool)) (us vs : List ℕ) (i : ℕ) → passes ts us ≡ true
     → scanWords n ts (reading i (us ++ vs)) ≡ reading (i + length us) vs
 unfolding passes scanWords
-words-read n [] [] vs i h = ap (λ (k : ℕ). reading k vs) (omega arith)
-words-read n [] (u ∷ us) vs i h = absurd (true≢false (sym h))
-words-read n (t ∷ ts) [] vs i h = absurd (true≢false (sym h))
-words-read n (t ∷ ts) (u ∷ us) vs i h =
+scan-words n [] [] vs i h = ap (λ (k : ℕ). reading k vs) (omega arith)
+scan-words n [] (u ∷ us) vs i h = absurd (true≢false (sym h))
+scan-words n (t ∷ ts) [] vs i h = absurd (true≢false (sym h))
+scan-words n (t ∷ ts) (u ∷ us) vs i h =
     cond-true (t u) _ _ (and-true (t u) (passes ts us) h .0)
-    ∙ words-read n ts us vs (suc i) (and-true (t u) (passes ts us) h .1)
+    ∙ scan-words n ts us vs (suc i) (and-true (t u) (passes ts us) h .1)
     ∙ ap (λ (k : ℕ). reading k vs) (omega arith)
 
 -- Where the scan goes on, it has read over words that pass their tests.
-pub read-words : (n : ℕ) (ts : List (ℕ → Bool)) (s : Scan) (j : ℕ) (vs : List ℕ) → scanWords n ts s ≡ reading j vs
+pub scan-words-only : (n : ℕ) (ts : List (ℕ → Bool)) (s : Scan) (j : ℕ) (vs : List ℕ) → scanWords n ts s ≡ reading j vs
     → (us : List ℕ) × (i : ℕ) × (s ≡ reading i (us ++ vs)) × (passes ts us ≡ true)
 unfolding passes scanWords
-read-words n [] s j vs h = ([], j, h, refl)
-read-words n (t ∷ ts) (stopped m k) j vs h = stopped≢reading h
-read-words n (t ∷ ts) (reading i []) j vs h = stopped≢reading h
-read-words n (t ∷ ts) (reading i (w ∷ ws)) j vs h =
+scan-words-only n [] s j vs h = ([], j, h, refl)
+scan-words-only n (t ∷ ts) (stopped m k) j vs h = stopped≢reading h
+scan-words-only n (t ∷ ts) (reading i []) j vs h = stopped≢reading h
+scan-words-only n (t ∷ ts) (reading i (w ∷ ws)) j vs h =
     let g = goes-on (t w) (scanWords n ts (reading (suc i) ws)) n i h in
-    let r = read-words n ts (reading (suc i) ws) j vs (g .1) in
+    let r = scan-words-only n ts (reading (suc i) ws) j vs (g .1) in
     (w ∷ r .0, i, ap (λ (s : Scan). reading i (w ∷ rest s)) (r .2), true-and (t w) (passes ts (r .0)) (g .0) (r .3))
 
-read-part : (n : ℕ) (tests : List ℕ → List (ℕ → Bool)) (s : Scan) (j : ℕ) (vs : List ℕ) → scanPart n tests s ≡ reading j vs
+scan-part-only : (n : ℕ) (tests : List ℕ → List (ℕ → Bool)) (s : Scan) (j : ℕ) (vs : List ℕ) → scanPart n tests s ≡ reading j vs
     → (us : List ℕ) × (i : ℕ) × (s ≡ reading i (us ++ vs)) × (passes (tests (us ++ vs)) us ≡ true)
 unfolding scanPart
-read-part n tests (stopped m k) j vs h = stopped≢reading h
-read-part n tests (reading i ws) j vs h =
-    let r = read-words n (tests ws) (reading i ws) j vs h in
+scan-part-only n tests (stopped m k) j vs h = stopped≢reading h
+scan-part-only n tests (reading i ws) j vs h =
+    let r = scan-words-only n (tests ws) (reading i ws) j vs h in
     (r .0, r .1, r .2, subst (λ (s : Scan). passes (tests (rest s)) (r .0) ≡ true) (r .2) (r .3))
 
 -- A family of parts, read back: `none` and `more` say how many words the reader takes for so many parts.
@@ -76,33 +76,33 @@ module _ {X : Type 0} (words : X → List ℕ) (reads : ℕ → List ℕ → Lis
       ∙ more (length xs) x (flatMap words xs ++ vs)
       ∙ ap (λ (ys : List X). x ∷ ys) (parts-back xs vs)
 
--- A family of parts, scanned. `same`: the tests of a part ask its own words alone. `only`: words that pass them are the words of a part.
+-- A family of parts, scan-sheet-only. `same`: the tests of a part ask its own words alone. `only`: words that pass them are the words of a part.
 module _ {X : Type 0} (words : X → List ℕ) (tests : ℕ → List ℕ → List (ℕ → Bool))
     (same : (own : ℕ) (x : X) (vs : List ℕ) → tests own (words x ++ vs) ≡ tests own (words x))
     (only : (own : ℕ) (us vs : List ℕ) → passes (tests own (us ++ vs)) us ≡ true → (x : X) × (us ≡ words x)) where
   abbrev Good : ℕ → X → Type 0
   Good own x = passes (tests own (words x)) (words x) ≡ true
 
-  parts-read : (n own : ℕ) (xs : List X) (vs : List ℕ) (i : ℕ) → Each Good own xs
+  scan-parts : (n own : ℕ) (xs : List X) (vs : List ℕ) (i : ℕ) → Each Good own xs
       → scanParts n tests (length xs) own (reading i (flatMap words xs ++ vs)) ≡ reading (i + length (flatMap words xs)) vs
   unfolding flatMap scanParts scanPart
-  parts-read n own [] vs i h = ap (λ (k : ℕ). reading k vs) (omega arith)
-  parts-read n own (x ∷ xs) vs i h =
+  scan-parts n own [] vs i h = ap (λ (k : ℕ). reading k vs) (omega arith)
+  scan-parts n own (x ∷ xs) vs i h =
       let us : List ℕ = words x in
       let ws : List ℕ = flatMap words xs ++ vs in
       ap (λ (l : List ℕ). scanParts n tests (length xs) (suc own) (scanPart n (tests own) (reading i l))) (append-assoc us (flatMap words xs) vs)
-      ∙ ap (scanParts n tests (length xs) (suc own)) (words-read n (tests own (us ++ ws)) us ws i (rw (same own x ws) (h .0)))
-      ∙ parts-read n (suc own) xs vs (i + length us) (h .1)
+      ∙ ap (scanParts n tests (length xs) (suc own)) (scan-words n (tests own (us ++ ws)) us ws i (rw (same own x ws) (h .0)))
+      ∙ scan-parts n (suc own) xs vs (i + length us) (h .1)
       ∙ ap (λ (k : ℕ). reading k vs) (simp length-append (omega arith))
 
-  read-parts : (n count own : ℕ) (s : Scan) (j : ℕ) (vs : List ℕ) → scanParts n tests count own s ≡ reading j vs
+  scan-parts-only : (n count own : ℕ) (s : Scan) (j : ℕ) (vs : List ℕ) → scanParts n tests count own s ≡ reading j vs
       → (xs : List X) × (i : ℕ) × (s ≡ reading i (flatMap words xs ++ vs)) × (length xs ≡ count) × Each Good own xs
   unfolding flatMap scanParts
-  read-parts n zero own s j vs h = ([], j, h, refl, tt)
-  read-parts n (suc count) own s j vs h =
-      let r = read-parts n count (suc own) (scanPart n (tests own) s) j vs h in
+  scan-parts-only n zero own s j vs h = ([], j, h, refl, tt)
+  scan-parts-only n (suc count) own s j vs h =
+      let r = scan-parts-only n count (suc own) (scanPart n (tests own) s) j vs h in
       let ws : List ℕ = flatMap words (r .0) ++ vs in
-      let q = read-part n (tests own) s (r .1) ws (r .2) in
+      let q = scan-part-only n (tests own) s (r .1) ws (r .2) in
       let x = only own (q .0) ws (q .3) in (
         x .0 ∷ r .0,
         q .1,
@@ -113,6 +113,7 @@ module _ {X : Type 0} (words : X → List ℕ) (tests : ℕ → List ℕ → Lis
         (rw (same own (x .0) ws) at (subst (λ (us : List ℕ). passes (tests own (us ++ ws)) us ≡ true) (x .1) (q .3)), r .4),
       )
 
+-- Words that pass: as many as the tests, and each at its place.
 pub passes-length : (ts : List (ℕ → Bool)) (us : List ℕ) → passes ts us ≡ true → length us ≡ length ts
 unfolding passes
 passes-length [] [] h = refl
@@ -129,22 +130,20 @@ passes-at (s ∷ ts) [] i t u h l = absurd (true≢false (sym h))
 passes-at (s ∷ ts) (v ∷ us) zero t u h l = and-true (s v) (passes ts us) h .0
 passes-at (s ∷ ts) (v ∷ us) (suc i) t u h l = passes-at ts us i t u (and-true (s v) (passes ts us) h .1) (omega arith)
 
--- Records as parts.
-row-length : (kind : ℕ) → 1 ≤ kind → kind ≤ 9 → length (row kind) ≡ 4
-unfolding row table
-row-length kind l h =
-    each-at (λ i (r : List ℕ). length r ≡ 4) 0 table (kind - 1) []
-    (refl, (refl, (refl, (refl, (refl, (refl, (refl, (refl, (refl, tt))))))))) (omega arith)
+-- Records as parts: with a kind from 1 to 9 there are five tests.
+record-tests : (p own : ℕ) (ws : List ℕ) → 1 ≤ getD ws 0 0 → getD ws 0 0 ≤ 9 → length (recordTests p own ws) ≡ 5
+unfolding recordTests row table
+record-tests p own ws l h =
+    ap suc (length-map (row (getD ws 0 0)) (fits p own (getD ws 1 0))
+    ∙ each-at (λ i (r : List ℕ). length r ≡ 4) 0 table (getD ws 0 0 - 1) []
+    (refl, (refl, (refl, (refl, (refl, (refl, (refl, (refl, (refl, tt))))))))) (omega arith))
 
 record-only : (p own : ℕ) (us vs : List ℕ) → passes (recordTests p own (us ++ vs)) us ≡ true → (r : Record) × (us ≡ recordWords r)
 unfolding passes recordTests recordWords readRecord
 record-only p own [] vs h = absurd (true≢false (sym h))
 record-only p own (k ∷ us) vs h =
-    let q = and-true (leb 1 k && leb k 9) _ h in
-    let b = and-true (leb 1 k) (leb k 9) (q .0) in
-    let f : ℕ → ℕ → Bool = fits p own (getD (us ++ vs) 0 0) in
-    let e : length (k ∷ us) ≡ 5 =
-    passes-length (recordTests p own (k ∷ us ++ vs)) (k ∷ us) h ∙ ap suc (length-map (row k) f ∙ row-length k (omega tests) (omega tests)) in
+    let b = and-true (leb 1 k) (leb k 9) (and-true (leb 1 k && leb k 9) _ h .0) in
+    let e = passes-length (recordTests p own (k ∷ us ++ vs)) (k ∷ us) h ∙ record-tests p own (k ∷ us ++ vs) (omega tests) (omega tests) in
     let r : Record = readRecord (k ∷ us) in (
       r,
       one-by-one 5 0 (k ∷ us) (omega arith)
@@ -163,12 +162,12 @@ records-none : (vs : List ℕ) → readRecords zero vs ≡ []
 unfolding readRecords
 records-none vs = refl
 
-records-back : (rs : List Record) (vs : List ℕ) → readRecords (length rs) (flatMap recordWords rs ++ vs) ≡ rs
+pub records-back : (rs : List Record) (vs : List ℕ) → readRecords (length rs) (flatMap recordWords rs ++ vs) ≡ rs
 records-back = parts-back recordWords readRecords records-none record-more
 
-records-read : (p m own : ℕ) (rs : List Record) (vs : List ℕ) (i : ℕ) → Each (GoodRecord p) own rs
+scan-records : (p m own : ℕ) (rs : List Record) (vs : List ℕ) (i : ℕ) → Each (GoodRecord p) own rs
     → scanParts m (recordTests p) (length rs) own (reading i (flatMap recordWords rs ++ vs)) ≡ reading (i + length (flatMap recordWords rs)) vs
-records-read p = parts-read recordWords (recordTests p) (record-same p) (record-only p)
+scan-records p = scan-parts recordWords (recordTests p) (record-same p) (record-only p)
 
 -- Interactions as parts: the fourth word says how many more there are.
 interaction-only : (n own : ℕ) (us vs : List ℕ) → passes (interactionTests n (us ++ vs)) us ≡ true → (x : Interaction) × (us ≡ interactionWords x)
@@ -195,13 +194,13 @@ interaction-more n x vs = λ i.
     record { bus = x .bus; weight = x .weight; count = x .count; message = take-append-seam (x .message) vs i }
     ∷ readInteractions n (drop-at (interactionWords x) vs (4 + length (x .message)) (omega arith) i)
 
-interactions-back : (xs : List Interaction) (vs : List ℕ) → readInteractions (length xs) (flatMap interactionWords xs ++ vs) ≡ xs
+pub interactions-back : (xs : List Interaction) (vs : List ℕ) → readInteractions (length xs) (flatMap interactionWords xs ++ vs) ≡ xs
 interactions-back = parts-back interactionWords readInteractions interactions-none interaction-more
 
-interactions-read : (n m own : ℕ) (xs : List Interaction) (vs : List ℕ) (i : ℕ) → Each (λ own. GoodInteraction n) own xs
+scan-interactions : (n m own : ℕ) (xs : List Interaction) (vs : List ℕ) (i : ℕ) → Each (λ own. GoodInteraction n) own xs
     → scanParts m (λ own. interactionTests n) (length xs) own (reading i (flatMap interactionWords xs ++ vs))
     ≡ reading (i + length (flatMap interactionWords xs)) vs
-interactions-read n = parts-read interactionWords (λ own. interactionTests n) (interaction-same n) (interaction-only n)
+scan-interactions n = scan-parts interactionWords (λ own. interactionTests n) (interaction-same n) (interaction-only n)
 
 -- The words of a sheet and what stands behind them, part by part.
 abbrev wordsThen : Sheet → List ℕ → List ℕ
@@ -211,10 +210,15 @@ words-then : (s : Sheet) (vs : List ℕ) → encode s ++ vs ≡ wordsThen s vs
 unfolding encode
 words-then s vs = simp append-assoc
 
-records-length : (rs : List Record) → length (flatMap recordWords rs) ≡ 5 * length rs
+pub records-length : (rs : List Record) → length (flatMap recordWords rs) ≡ 5 * length rs
 unfolding flatMap recordWords
 records-length [] = refl
 records-length (r ∷ rs) = omega (arith, records-length rs)
+
+pub sheet-length : (s : Sheet)
+    → lengthOf s ≡ 4 + 5 * length (s .records) + length (s .constraints) + length (flatMap interactionWords (s .interactions))
+unfolding lengthOf encode headWords
+sheet-length s = simp (length-append, records-length) (omega arith)
 
 -- The words of a sheet give the sheet back, whatever stands behind them.
 pub sheet-back : (s : Sheet) (vs : List ℕ) → readSheet (encode s ++ vs) ≡ s
@@ -241,44 +245,52 @@ sheet-back s vs = ap readSheet (words-then s vs) ∙ λ i. record {
         ∙ drop-append-seam (s .constraints) I
 
 -- Spare words.
-spare-read : (room k i : ℕ) → k ≤ room → scanSpare room (reading i (replicate k 0)) ≡ reading (i + k) []
+scan-spare : (room k i : ℕ) → k ≤ room → scanSpare room (reading i (replicate k 0)) ≡ reading (i + k) []
 unfolding scanSpare
-spare-read zero zero i h = ap (λ (n : ℕ). reading n []) (omega arith)
-spare-read zero (suc k) i h = absurd (omega arith)
-spare-read (suc room) zero i h = ap (λ (n : ℕ). reading n []) (omega arith)
-spare-read (suc room) (suc k) i h = spare-read room k (suc i) (omega arith) ∙ ap (λ (n : ℕ). reading n []) (omega arith)
+scan-spare zero zero i h = ap (λ (n : ℕ). reading n []) (omega arith)
+scan-spare zero (suc k) i h = absurd (omega arith)
+scan-spare (suc room) zero i h = ap (λ (n : ℕ). reading n []) (omega arith)
+scan-spare (suc room) (suc k) i h = scan-spare room k (suc i) (omega arith) ∙ ap (λ (n : ℕ). reading n []) (omega arith)
 
-read-spare : (room : ℕ) (s : Scan) (j : ℕ) (vs : List ℕ) → scanSpare room s ≡ reading j vs
+scan-spare-only : (room : ℕ) (s : Scan) (j : ℕ) (vs : List ℕ) → scanSpare room s ≡ reading j vs
     → (k : ℕ) × (i : ℕ) × (k ≤ room) × (s ≡ reading i (replicate k 0))
 unfolding scanSpare
-read-spare room (stopped m k) j vs h = stopped≢reading h
-read-spare room (reading i []) j vs h = (0, i, omega arith, refl)
-read-spare zero (reading i (w ∷ ws)) j vs h = stopped≢reading h
-read-spare (suc room) (reading i (w ∷ ws)) j vs h =
+scan-spare-only room (stopped m k) j vs h = stopped≢reading h
+scan-spare-only room (reading i []) j vs h = (0, i, omega arith, refl)
+scan-spare-only zero (reading i (w ∷ ws)) j vs h = stopped≢reading h
+scan-spare-only (suc room) (reading i (w ∷ ws)) j vs h =
     let g = goes-on (eqb w 0) (scanSpare room (reading (suc i) ws)) 7 i h in
-    let r = read-spare room (reading (suc i) ws) j vs (g .1) in
+    let r = scan-spare-only room (reading (suc i) ws) j vs (g .1) in
     let e : w ≡ 0 = eqb-true w 0 (g .0) in
     (suc (r .0), i, omega arith, λ k. reading i (e k ∷ rest (r .3 k)))
 
+-- A sheet inside the limits, with at most 126 zeros behind it, is read to the end.
+pub scan-sheet : (p : ℕ) (s : Sheet) (k : ℕ) → Inside p s → k ≤ 126 → scanSheet p (encode s ++ replicate k 0) ≡ reading (lengthOf s + k) []
+unfolding scanSheet headWords
+scan-sheet p s k h l =
+    ap (scanSheet p) (words-then s (replicate k 0))
+    ∙ ap (λ (t : Scan). scanI (scanC (scanR t))) (scan-words 3 headTests (headWords s) _ 0 (h .head))
+    ∙ ap (λ (t : Scan). scanI (scanC t)) (scan-records p 5 0 (s .records) _ _ (h .records))
+    ∙ ap scanI (scan-words 6 (replicate (length (s .constraints)) (names E)) (s .constraints) _ _ (h .constraints))
+    ∙ ap (scanSpare 126) (scan-interactions E 6 0 (s .interactions) _ _ (h .interactions))
+    ∙ scan-spare 126 k _ l
+    ∙ ap (λ (n : ℕ). reading n []) (omega (arith, sheet-length s, records-length (s .records)))
+  where
+    E : ℕ
+    E = length (s .records)
+
+    scanR : Scan → Scan
+    scanR t = scanParts 5 (recordTests p) E 0 t
+
+    scanC : Scan → Scan
+    scanC t = scanWords 6 (replicate (length (s .constraints)) (names E)) t
+
+    scanI : Scan → Scan
+    scanI t = scanSpare 126 (scanParts 6 (λ own. interactionTests E) (length (s .interactions)) 0 t)
+
 pub check-complete : (p : ℕ) (s : Sheet) (k : ℕ) → Inside p s → k ≤ 126 → check p (encode s ++ replicate k 0) ≡ good s
-unfolding check scanSheet judged headWords
-check-complete p s k h l =
-    let E : ℕ = length (s .records) in
-    let I : ℕ = length (s .interactions) in
-    let zs : List ℕ = replicate k 0 in
-    let cs : List ℕ = s .constraints in
-    let scanI : Scan → Scan = λ t. scanSpare 126 (scanParts 6 (λ own. interactionTests E) I 0 t) in
-    let scanC : Scan → Scan = λ t. scanI (scanWords 6 (replicate (length cs) (names E)) t) in
-    let scanR : Scan → Scan = λ t. scanC (scanParts 5 (recordTests p) E 0 t) in
-    let e : scanSheet p (wordsThen s zs) ≡ reading _ [] =
-    ap scanR (words-read 3 headTests (headWords s) _ 0 (h .head))
-    ∙ ap scanC (records-read p 5 0 (s .records) _ _ (h .records))
-    ∙ ap scanI (words-read 6 (replicate (length cs) (names E)) cs _ _ (h .constraints))
-    ∙ ap (scanSpare 126) (interactions-read E 6 0 (s .interactions) _ _ (h .interactions))
-    ∙ spare-read 126 k _ l in
-    ap (check p) (words-then s zs)
-    ∙ ap (λ (t : Scan). judged t (readSheet (wordsThen s zs))) e
-    ∙ ap good (ap readSheet (sym (words-then s zs)) ∙ sheet-back s zs)
+unfolding check judged
+check-complete p s k h l = λ i. judged (scan-sheet p s k h l i) (sheet-back s (replicate k 0) i)
 
 -- Results, told apart from refusals and from each other.
 abbrev resultOr : {X : Type 0} → X → Answer X → X
@@ -344,16 +356,17 @@ assembled p ws hs rs cs xs vs i e h lr gr gc lx gx = (
         head-only hs h
         ∙ sym (λ i. 1 ∷ (lr ∙ at-head 1 (omega arith)) i ∷ (lc ∙ at-head 2 (omega arith)) i ∷ (lx ∙ at-head 3 (omega arith)) i ∷ [])
 
-scanned : (p : ℕ) (ws : List ℕ) (j : ℕ) (vs : List ℕ) → scanSheet p ws ≡ reading j vs
+scan-sheet-only : (p : ℕ) (ws : List ℕ) (j : ℕ) (vs : List ℕ) → scanSheet p ws ≡ reading j vs
     → (s : Sheet) × (k : ℕ) × Inside p s × (k ≤ 126) × (ws ≡ encode s ++ replicate k 0)
 unfolding scanSheet
-scanned p ws j vs h =
+scan-sheet-only p ws j vs h =
     let E : ℕ = getD ws 1 0 in
-    let z = read-spare 126 _ j vs h in
-    let x = read-parts interactionWords (λ own. interactionTests E) (interaction-same E) (interaction-only E) 6 (getD ws 3 0) 0 _ (z .1) _ (z .3) in
-    let c = read-words 6 (replicate (getD ws 2 0) (names E)) _ (x .1) _ (x .2) in
-    let r = read-parts recordWords (recordTests p) (record-same p) (record-only p) 5 E 0 _ (c .1) _ (c .2) in
-    let f = read-words 3 headTests (reading 0 ws) (r .1) _ (r .2) in
+    let I : ℕ = getD ws 3 0 in
+    let z = scan-spare-only 126 _ j vs h in
+    let x = scan-parts-only interactionWords (λ own. interactionTests E) (interaction-same E) (interaction-only E) 6 I 0 _ (z .1) _ (z .3) in
+    let c = scan-words-only 6 (replicate (getD ws 2 0) (names E)) _ (x .1) _ (x .2) in
+    let r = scan-parts-only recordWords (recordTests p) (record-same p) (record-only p) 5 E 0 _ (c .1) _ (c .2) in
+    let f = scan-words-only 3 headTests (reading 0 ws) (r .1) _ (r .2) in
     let a = assembled p ws (f .0) (r .0) (c .0) (x .0) _ (f .1) (f .2) (f .3) (r .3) (r .4) (c .3) (x .3) (x .4) in
     (a .0, z .0, a .1, z .2, a .2)
 
@@ -363,7 +376,7 @@ pub check-sound : (p : ℕ) (ws : List ℕ) (s : Sheet) → check p ws ≡ good 
 unfolding check
 check-sound p ws s h =
     let t = judged-good (scanSheet p ws) (readSheet ws) s h in
-    go (scanned p ws (t .0) (t .1) (t .2))
+    go (scan-sheet-only p ws (t .0) (t .1) (t .2))
   where
     go : (t : Sheet) × (k : ℕ) × Inside p t × (k ≤ 126) × (ws ≡ encode t ++ replicate k 0)
         → Inside p s × ((k : ℕ) × (k ≤ 126) × (ws ≡ encode s ++ replicate k 0))
@@ -381,20 +394,16 @@ check-encode p s h = ap (check p) (sym (append-nil (encode s))) ∙ check-comple
 pub same-sheet : (s t : Sheet) (us vs : List ℕ) → encode s ++ us ≡ encode t ++ vs → s ≡ t
 same-sheet s t us vs e = sym (sheet-back s us) ∙ ap readSheet e ∙ sheet-back t vs
 
--- The length of a sheet, and how long a sheet inside the limits is at most.
-pub sheet-length : (s : Sheet)
-    → lengthOf s ≡ 4 + 5 * length (s .records) + length (s .constraints) + length (flatMap interactionWords (s .interactions))
-unfolding lengthOf encode headWords
-sheet-length s = simp (length-append, records-length) (omega arith)
-
+-- How long a sheet inside the limits is at most.
 pub head-limits : (s : Sheet) → passes headTests (headWords s) ≡ true
     → (length (s .records) ≤ 4096) × (length (s .constraints) ≤ 1024) × (length (s .interactions) ≤ 1024)
 unfolding headTests headWords
 head-limits s h =
-    let any : ℕ → Bool = λ w. true in
-    (leb-true _ _ (passes-at headTests (headWords s) 1 any 0 h (omega arith)),
+    let any : ℕ → Bool = λ w. true in (
+      leb-true _ _ (passes-at headTests (headWords s) 1 any 0 h (omega arith)),
       leb-true _ _ (passes-at headTests (headWords s) 2 any 0 h (omega arith)),
-      leb-true _ _ (passes-at headTests (headWords s) 3 any 0 h (omega arith)))
+      leb-true _ _ (passes-at headTests (headWords s) 3 any 0 h (omega arith)),
+    )
 
 pub message-limit : (n : ℕ) (x : Interaction) → GoodInteraction n x → length (x .message) ≤ 63
 unfolding interactionTests interactionWords

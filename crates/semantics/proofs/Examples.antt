@@ -66,12 +66,12 @@ examples :
     × (packs (recordOf 1 2 0 0 0) ≡ refused 9 0)
     -- "v + (−w): four nodes v, w, Neg, Sub"
     × (graph (sheetOf (v ∷ w ∷ recordOf 8 1 0 1 0 ∷ recordOf 6 0 2 1 0 ∷ []) (3 ∷ []))
-      ≡ words (v ∷ w ∷ recordOf 8 1 0 1 0 ∷ recordOf 7 0 1 1 0 ∷ []) (3 ∷ []))
+    ≡ words (v ∷ w ∷ recordOf 8 1 0 1 0 ∷ recordOf 7 0 1 1 0 ∷ []) (3 ∷ []))
     -- "−(−v): three nodes", "0 − v: three nodes"
     × (graph (sheetOf (v ∷ recordOf 8 0 0 1 0 ∷ recordOf 8 1 0 1 0 ∷ []) (2 ∷ []))
-      ≡ words (v ∷ recordOf 8 0 0 1 0 ∷ recordOf 8 1 0 1 0 ∷ []) (2 ∷ []))
+    ≡ words (v ∷ recordOf 8 0 0 1 0 ∷ recordOf 8 1 0 1 0 ∷ []) (2 ∷ []))
     × (graph (sheetOf (v ∷ recordOf 5 0 0 0 0 ∷ recordOf 7 1 0 1 0 ∷ []) (2 ∷ []))
-      ≡ words (recordOf 5 0 0 0 0 ∷ v ∷ recordOf 7 0 1 1 0 ∷ []) (2 ∷ []))
+    ≡ words (recordOf 5 0 0 0 0 ∷ v ∷ recordOf 7 0 1 1 0 ∷ []) (2 ∷ []))
     -- "v·0: two nodes, no headers", "constraint 0: one node, no headers"
     × (graph (sheetOf (v ∷ recordOf 5 0 0 0 0 ∷ recordOf 9 0 1 1 0 ∷ []) (2 ∷ [])) ≡ words (v ∷ recordOf 5 0 0 0 0 ∷ []) (1 ∷ []))
     × (slices (words (v ∷ recordOf 5 0 0 0 0 ∷ []) (1 ∷ [])) ≡ none)
@@ -79,18 +79,18 @@ examples :
     × (slices (words (recordOf 5 0 0 0 0 ∷ []) (0 ∷ [])) ≡ none)
     -- "v + w with degree words 1 and 2, both constraints: four nodes, two indices, two headers of two terms"
     × (graph (sheetOf (v ∷ w ∷ recordOf 6 0 1 1 0 ∷ recordOf 6 0 1 2 0 ∷ []) (2 ∷ 3 ∷ []))
-      ≡ words (v ∷ w ∷ recordOf 6 0 1 1 0 ∷ recordOf 6 0 1 2 0 ∷ []) (2 ∷ 3 ∷ []))
+    ≡ words (v ∷ w ∷ recordOf 6 0 1 1 0 ∷ recordOf 6 0 1 2 0 ∷ []) (2 ∷ 3 ∷ []))
     × (slices (words (v ∷ w ∷ recordOf 6 0 1 1 0 ∷ recordOf 6 0 1 2 0 ∷ []) (2 ∷ 3 ∷ []))
-      ≡ (0 ∷ 0 ∷ 1 ∷ 2 ∷ 1 ∷ 2 ∷ 1 ∷ 2 ∷ []) ∷ (1 ∷ 65537 ∷ []) ∷ (0 ∷ 1 ∷ 1 ∷ 1 ∷ 0 ∷ 1 ∷ 1 ∷ 1 ∷ []) ∷ [])
+    ≡ (0 ∷ 0 ∷ 1 ∷ 2 ∷ 1 ∷ 2 ∷ 1 ∷ 2 ∷ []) ∷ (1 ∷ 65537 ∷ []) ∷ (0 ∷ 1 ∷ 1 ∷ 1 ∷ 0 ∷ 1 ∷ 1 ∷ 1 ∷ []) ∷ [])
     -- "the same Add twice: one index"
     × (graph (sheetOf (v ∷ w ∷ recordOf 6 0 1 1 0 ∷ recordOf 6 0 1 1 0 ∷ []) (2 ∷ 3 ∷ []))
-      ≡ words (v ∷ w ∷ recordOf 6 0 1 1 0 ∷ []) (2 ∷ []))
+    ≡ words (v ∷ w ∷ recordOf 6 0 1 1 0 ∷ []) (2 ∷ []))
     -- "(p − 1)·(p − 1): two nodes, the second 1"
     × (graph (sheetOf (recordOf 5 2013265920 0 0 0 ∷ recordOf 9 0 0 0 0 ∷ []) (1 ∷ []))
-      ≡ words (recordOf 5 2013265920 0 0 0 ∷ recordOf 5 1 0 0 0 ∷ []) (1 ∷ []))
+    ≡ words (recordOf 5 2013265920 0 0 0 ∷ recordOf 5 1 0 0 0 ∷ []) (1 ∷ []))
     -- "(v + w)·(v − w): v·v with 1, w·w with p − 1"
     × (slices (words (v ∷ w ∷ recordOf 6 0 1 1 0 ∷ recordOf 7 0 1 1 0 ∷ recordOf 9 2 3 2 0 ∷ []) (4 ∷ []))
-      ≡ (0 ∷ 0 ∷ 2 ∷ 1 ∷ 2 ∷ 1 ∷ 2 ∷ 1 ∷ []) ∷ (1 ∷ 1 ∷ 65537 ∷ 65537 ∷ []) ∷ (0 ∷ 1 ∷ 0 ∷ 2013265920 ∷ []) ∷ [])
+    ≡ (0 ∷ 0 ∷ 2 ∷ 1 ∷ 2 ∷ 1 ∷ 2 ∷ 1 ∷ []) ∷ (1 ∷ 1 ∷ 65537 ∷ 65537 ∷ []) ∷ (0 ∷ 1 ∷ 0 ∷ 2013265920 ∷ []) ∷ [])
 unfolding packs sheetOf graph words slices none
 examples = (refl, refl, refl, refl, refl, refl, refl, refl, refl, refl, refl, refl, refl, refl, refl, refl, refl, refl, refl)
 

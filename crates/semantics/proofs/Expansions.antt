@@ -19,14 +19,16 @@ use Rattle.semantics.specs.Monomial.{Monomial, negMonomial, products, co
 use Rattle.semantics.specs.Expand.{workFault, recordFault, listSize, expandRecord, expandAll}
 use Rattle.semantics.specs.Demand.{productOf}
 use Rattle.semantics.proofs.Basics.{by-test}
+use Rattle.semantics.proofs.Members.{Mem, mem-here, mem-there, mem-cases, not-in}
 use Rattle.semantics.proofs.Arithmetic.{addM-lt, mulM-lt, addM-zero, mulM-one, one-mulM, subM-add}
 use Rattle.semantics.proofs.Monomials.{one, val, val-append, val-neg, val-mul}
 use Rattle.semantics.proofs.Combining.{val-combine}
 use Rattle.semantics.proofs.Lists.{each-zero}
 use Rattle.semantics.proofs.Passes.{fill-at}
+use Rattle.semantics.proofs.Encoding.{refused≢good}
+use Rattle.semantics.proofs.Packed.{leaf-back}
 use Rattle.semantics.proofs.Records.{LowNode, LowRecord, each-low, good-value, value-at}
-use Rattle.semantics.proofs.Walks.{Mem, mem-here, mem-there, mem-cases, Closed}
-use Rattle.semantics.proofs.Orders.{not-in}
+use Rattle.semantics.proofs.Walks.{Closed}
 
 -- A record's list is made of its children's.
 module _ (p : ℕ) where
@@ -51,31 +53,8 @@ module _ (p : ℕ) where
       ap (λ (k : ℕ). getD (fill (recordList p) [] [] rs) k []) (sym (zero-add i))
       ∙ fill-at (recordList p) [] LowRecord list-low 0 [] rs noRecord i refl w h
 
--- An accepted walk met no refusal at any of its records.
-module _ (p : ℕ) (rs : List Record) (pool : ℕ) where
-  good-not : {X : Type 0} {x : X} {n k : ℕ} {Y : Type 0} → refused n k ≡ good x → Y
-  good-not e = absurd (subst IsRefused e tt)
-    where
-      IsRefused : {X : Type 0} → Answer X → Type 0
-      IsRefused (good x) = ⊥
-      IsRefused (refused n k) = Unit {0}
-
-  record-fine : (i used u : ℕ) → expandRecord p rs pool i used ≡ good u → recordFault p rs i ≡ 0
-  unfolding expandRecord
-  record-fine i used u =
-      by-test (λ (a : Answer ℕ). a ≡ good u → recordFault p rs i ≡ 0) (eqb (recordFault p rs i) 0) (λ e q. eqb-true _ _ e) (λ e q. good-not q)
-
-  pub walk-fine : (s : List ℕ) (u : ℕ) → expandAll p rs pool s ≡ good u → (i : ℕ) → Mem i s → recordFault p rs i ≡ 0
-  unfolding expandAll
-  walk-fine [] u e i m = not-in i m
-  walk-fine (j ∷ s) u e i m = go (λ v q k. walk-fine s v q i k) (expandAll p rs pool s) refl (mem-cases i j s m) e
-    where
-      go : ((v : ℕ) → expandAll p rs pool s ≡ good v → Mem i s → recordFault p rs i ≡ 0) → (a : Answer ℕ) → expandAll p rs pool s ≡ a
-          → (i ≡ j) ⊎ Mem i s → andThen a (expandRecord p rs pool j) ≡ good u → recordFault p rs i ≡ 0
-      go ih (good v) q (inl d) f = unfold andThen in (subst (λ (k : ℕ). recordFault p rs k ≡ 0) (sym d) (record-fine j v u f))
-      go ih (good v) q (inr k) f = ih v q k
-      go ih (refused n k) q d f = unfold andThen in (good-not f)
-
+-- A record that is not refused can be packed, if it is a leaf.
+module _ (p : ℕ) (rs : List Record) where
   pub packs-fine : (i : ℕ) → recordFault p rs i ≡ 0 → packFault (recordAt rs i) ≡ 0
   unfolding recordFault
   packs-fine i = go (eqb (packFault (recordAt rs i)) 0) refl
@@ -86,9 +65,23 @@ module _ (p : ℕ) (rs : List Record) (pool : ℕ) where
       go true e h = eqb-true _ _ e
       go false e h = h
 
--- The packed number of a record that may stand and can be packed names the record's own variable or row mark.
-abbrev pub Back : ℕ → Type 0
-Back p = (own : ℕ) (r : Record) (x : Leaf) → GoodRecord p own r → nodeOf r ≡ leaf x → packFault r ≡ 0 → leafOf (unpacked (packed r)) ≡ x
+-- An accepted walk met no refusal at any of its records.
+module _ (p : ℕ) (rs : List Record) (pool : ℕ) where
+  record-fine : (i used u : ℕ) → expandRecord p rs pool i used ≡ good u → recordFault p rs i ≡ 0
+  unfolding expandRecord
+  record-fine i used u =
+      by-test (λ (a : Answer ℕ). a ≡ good u → recordFault p rs i ≡ 0) (eqb (recordFault p rs i) 0) (λ e q. eqb-true _ _ e) (λ e q. refused≢good q)
+
+  pub walk-fine : (s : List ℕ) (u : ℕ) → expandAll p rs pool s ≡ good u → (i : ℕ) → Mem i s → recordFault p rs i ≡ 0
+  unfolding expandAll
+  walk-fine [] u e i m = not-in i m
+  walk-fine (j ∷ s) u e i m = go (λ v q k. walk-fine s v q i k) (expandAll p rs pool s) refl (mem-cases i j s m) e
+    where
+      go : ((v : ℕ) → expandAll p rs pool s ≡ good v → Mem i s → recordFault p rs i ≡ 0) → (a : Answer ℕ) → expandAll p rs pool s ≡ a
+          → (i ≡ j) ⊎ Mem i s → andThen a (expandRecord p rs pool j) ≡ good u → recordFault p rs i ≡ 0
+      go ih (good v) q (inl d) f = unfold andThen in (subst (λ (k : ℕ). recordFault p rs k ≡ 0) (sym d) (record-fine j v u f))
+      go ih (good v) q (inr k) f = ih v q k
+      go ih (refused n k) q d f = unfold andThen in (refused≢good f)
 
 module _ (p : ℕ) (big : 1 < p) (A : Leaf → ℕ) (small : (x : Leaf) → A x < p) where
   single : (v : ℕ) → val p (productOf p A) (record { vars = v ∷ []; coef = 1 } ∷ []) ≡ A (leafOf (unpacked v))
@@ -99,11 +92,11 @@ module _ (p : ℕ) (big : 1 < p) (A : Leaf → ℕ) (small : (x : Leaf) → A x 
   unfolding val one productOf
   plain k h = simp (mulM-one, addM-zero)
 
-  module _ (back : Back p) (own : ℕ) (r : Record) (ok : GoodRecord p own r) (packs : packFault r ≡ 0) where
+  module _ (own : ℕ) (r : Record) (ok : GoodRecord p own r) (packs : packFault r ≡ 0) where
     node-keeps : (k : Node) → nodeOf r ≡ k → (f : ℕ → List Monomial) (g : ℕ → ℕ) → ((c : ℕ) → Mem c (children k) → val p (productOf p A) (f c) ≡ g c)
         → val p (productOf p A) (finished p k (working p r k f)) ≡ nodeValue p A k g
     unfolding finished working nodeValue children
-    node-keeps (leaf x) e f g h = single (packed r) ∙ ap A (back own r x ok e packs)
+    node-keeps (leaf x) e f g h = single (packed r) ∙ ap A (leaf-back p own r x ok e packs)
     node-keeps (const k) e f g h = plain k (subst (λ (n : Node). nodeValue p A n g < p) e (good-value p big A small own r ok g))
     node-keeps (add x y) e f g h =
         let hx = h x (mem-here x (y ∷ [])) in
@@ -120,7 +113,7 @@ module _ (p : ℕ) (big : 1 < p) (A : Leaf → ℕ) (small : (x : Leaf) → A x 
         simp (val-combine, val-mul, hx, hy)
 
   -- The value rule for the records of an order.
-  module _ (back : Back p) (rs : List Record) (ok : Each (GoodRecord p) 0 rs) where
+  module _ (rs : List Record) (ok : Each (GoodRecord p) 0 rs) where
     one-keeps : (i : ℕ) → i < length rs → recordFault p rs i ≡ 0
         → ((c : ℕ) → Mem c (childrenAt rs i) → val p (productOf p A) (listAt p rs c) ≡ valueAt p A rs c)
         → val p (productOf p A) (listAt p rs i) ≡ valueAt p A rs i
@@ -128,8 +121,8 @@ module _ (p : ℕ) (big : 1 < p) (A : Leaf → ℕ) (small : (x : Leaf) → A x 
     one-keeps i l q h =
         ap (val p (productOf p A)) (list-at p rs (each-low p 0 rs ok) i l)
         ∙ unfold recordList in
-          (node-keeps back i (recordAt rs i) (unfold recordAt in (each-zero (GoodRecord p) rs i noRecord ok l)) (packs-fine p rs 0 i q)
-          (nodeOf (recordAt rs i)) refl (listAt p rs) (valueAt p A rs) h)
+        (node-keeps i (recordAt rs i) (unfold recordAt in (each-zero (GoodRecord p) rs i noRecord ok l)) (packs-fine p rs i q)
+        (nodeOf (recordAt rs i)) refl (listAt p rs) (valueAt p A rs) h)
         ∙ sym (value-at p A rs (each-low p 0 rs ok) i l)
 
     pub lists-keep : (s : List ℕ) → Closed (childrenAt rs) s → ((i : ℕ) → Mem i s → i < length rs) → ((i : ℕ) → Mem i s → recordFault p rs i ≡ 0)

@@ -14,11 +14,11 @@ use Rattle.semantics.specs.Walk.{member, order}
 use Rattle.semantics.specs.Graph.{Built, build, graphRoots, built, insertOnce, sortedOnce, renamed, graphOf}
 use Rattle.semantics.specs.Demand.{Assignment, noInteraction, constraintAt, interactionAt, fieldAt}
 use Rattle.semantics.proofs.Basics.{by-test, and-true, true-and}
+use Rattle.semantics.proofs.Members.{Mem, mem-here, mem-there, mem-cases, not-in, mem-left, mem-right, mem-either, mem-getD, Below, cons-below, append-below, flat-mem, flat-below, place-of, mem-map, map-below}
 use Rattle.semantics.proofs.Lists.{getD-map}
 use Rattle.semantics.proofs.Encoding.{sheet-length, head-limits}
 use Rattle.semantics.proofs.Records.{each-low}
-use Rattle.semantics.proofs.Walks.{Mem, mem-here, mem-there, mem-cases}
-use Rattle.semantics.proofs.Orders.{not-in, mem-left, mem-right, mem-either, mem-getD, Below, order-closed, order-roots, order-below, order-distinct, distinct-length}
+use Rattle.semantics.proofs.Orders.{order-closed, order-roots, order-below, order-distinct, distinct-length}
 use Rattle.semantics.proofs.Graphs.{Done, Good, build-good}
 
 -- Words that name records are numbers below, and the other way round.
@@ -66,7 +66,7 @@ unfolding names
 facts-good n x f =
     interaction-is n x
     ∙ true-and (leb (x .bus) 65535) _ (le-leb _ _ (f .bus)) (true-and (names n (x .count)) _ (lt-ltb _ _ (f .count))
-      (true-and (leb (length (x .message)) 63) _ (le-leb _ _ (f .short)) (below-named n (x .message) (f .message))))
+    (true-and (leb (length (x .message)) 63) _ (le-leb _ _ (f .short)) (below-named n (x .message) (f .message))))
 
 pub head-is : (s : Sheet) → passes headTests (headWords s) ≡ leb (length (s .records)) 4096 && (leb (length (s .constraints)) 1024 && (leb (length (s .interactions)) 1024 && true))
 unfolding headTests headWords passes
@@ -79,25 +79,8 @@ facts-head s e c i =
     (true-and (leb (length (s .constraints)) 1024) _ (le-leb _ _ c) (true-and (leb (length (s .interactions)) 1024) _ (le-leb _ _ i) refl))
 
 -- The roots of the builder name records.
-roots-of : (n m : ℕ) (xs : List Interaction) → Each (λ i. GoodInteraction n) m xs → Below n (flatMap (λ (x : Interaction). x .message ++ (x .count ∷ [])) xs)
-unfolding flatMap
-roots-of n m [] w y k = not-in y k
-roots-of n m (x ∷ xs) w y k =
-    let f = interaction-facts n x (w .0) in
-    go f (roots-of n (suc m) xs (w .1) y) (mem-either y (x .message ++ (x .count ∷ [])) (flatMap (λ (z : Interaction). z .message ++ (z .count ∷ [])) xs) k)
-  where
-    last : InteractionFacts n x → (y ≡ x .count) ⊎ Mem y [] → y < n
-    last f (inl e) = omega (arith, f .count)
-    last f (inr e) = not-in y e
-
-    here : InteractionFacts n x → Mem y (x .message) ⊎ Mem y (x .count ∷ []) → y < n
-    here f (inl e) = f .message y e
-    here f (inr e) = last f (mem-cases y (x .count) [] e)
-
-    go : InteractionFacts n x → (Mem y (flatMap (λ (z : Interaction). z .message ++ (z .count ∷ [])) xs) → y < n)
-        → Mem y (x .message ++ (x .count ∷ [])) ⊎ Mem y (flatMap (λ (z : Interaction). z .message ++ (z .count ∷ [])) xs) → y < n
-    go f ih (inl e) = here f (mem-either y (x .message) (x .count ∷ []) e)
-    go f ih (inr e) = ih e
+interaction-below : (n : ℕ) (x : Interaction) → InteractionFacts n x → Below n (x .message ++ (x .count ∷ []))
+interaction-below n x f = append-below n (x .message) (x .count ∷ []) (f .message) (cons-below n (x .count) [] (f .count) (λ y k. not-in y k))
 
 pub graph-roots : (p : ℕ) (s : Sheet) → Inside p s → Below (length (s .records)) (graphRoots s)
 unfolding graphRoots
@@ -105,18 +88,14 @@ graph-roots p s w x m = go (mem-either x (s .constraints) (flatMap (λ (z : Inte
   where
     go : Mem x (s .constraints) ⊎ Mem x (flatMap (λ (z : Interaction). z .message ++ (z .count ∷ [])) (s .interactions)) → x < length (s .records)
     go (inl e) = named-below (length (s .records)) (s .constraints) (w .constraints) x e
-    go (inr e) = roots-of (length (s .records)) 0 (s .interactions) (w .interactions) x e
+    go (inr e) =
+        flat-below (length (s .records)) (λ (z : Interaction). z .message ++ (z .count ∷ [])) (λ i. GoodInteraction (length (s .records)))
+        (λ i z u. interaction-below (length (s .records)) z (interaction-facts (length (s .records)) z u)) 0 (s .interactions) (w .interactions) x e
 
 -- Which records are roots.
 pub constraint-root : (s : Sheet) (c : ℕ) → Mem c (s .constraints) → Mem c (graphRoots s)
 unfolding graphRoots
 constraint-root s c m = mem-left c (s .constraints) _ m
-
-flat-mem : {X : Type 0} (f : X → List ℕ) (xs : List X) (d : X) (i c : ℕ) → i < length xs → Mem c (f (getD xs i d)) → Mem c (flatMap f xs)
-unfolding flatMap
-flat-mem f [] d i c h m = absurd (omega arith)
-flat-mem f (x ∷ xs) d zero c h m = mem-left c (f x) (flatMap f xs) m
-flat-mem f (x ∷ xs) d (suc i) c h m = mem-right c (f x) (flatMap f xs) (flat-mem f xs d i c (omega arith) m)
 
 pub interaction-root : (s : Sheet) (i c : ℕ) → i < length (s .interactions)
     → Mem c (interactionAt s i .message ++ (interactionAt s i .count ∷ [])) → Mem c (graphRoots s)
@@ -140,13 +119,6 @@ pub sorted-length : (ns : List ℕ) → length (sortedOnce ns) ≤ length ns
 unfolding sortedOnce
 sorted-length [] = omega arith
 sorted-length (n ∷ ns) = omega (arith, insert-length n (sortedOnce ns), sorted-length ns)
-
-mem-swap : (y n x : ℕ) (xs : List ℕ) → Mem y (n ∷ xs) → Mem y (n ∷ x ∷ xs)
-mem-swap y n x xs m = go (mem-cases y n xs m)
-  where
-    go : (y ≡ n) ⊎ Mem y xs → Mem y (n ∷ x ∷ xs)
-    go (inl e) = subst (λ (z : ℕ). Mem z (n ∷ x ∷ xs)) (sym e) (mem-here n (x ∷ xs))
-    go (inr k) = mem-there y n (x ∷ xs) (mem-there y x xs k)
 
 insert-new : (n : ℕ) (xs : List ℕ) → Mem n (insertOnce n xs)
 insert-new n xs = elim xs [
@@ -183,44 +155,11 @@ insert-below b n xs h = elim xs [
   | x ∷ (t → ih) ↦ λ w. by-once (Below b) n x t (cons-below b n (x ∷ t) h w)
       (cons-below b x (insertOnce n t) (w x (mem-here x t)) (ih (λ y m. w y (mem-there y x t m)))) (λ e. w)
 ]
-  where
-    cons-below : (b n : ℕ) (xs : List ℕ) → n < b → Below b xs → Below b (n ∷ xs)
-    cons-below b n xs h w y m = go (mem-cases y n xs m)
-      where
-        go : (y ≡ n) ⊎ Mem y xs → y < b
-        go (inl e) = omega arith
-        go (inr k) = w y k
 
 pub sorted-below : (b : ℕ) (ns : List ℕ) → Below b ns → Below b (sortedOnce ns)
 unfolding sortedOnce
 sorted-below b [] w = w
 sorted-below b (n ∷ ns) w = insert-below b n (sortedOnce ns) (w n (mem-here n ns)) (sorted-below b ns (λ y m. w y (mem-there y n ns m)))
-
--- A member stands at a place.
-pub place-of : (x : ℕ) (xs : List ℕ) → Mem x xs → (q : ℕ) × (q < length xs) × (getD xs q 0 ≡ x)
-place-of x [] m = not-in x m
-place-of x (y ∷ xs) m = go (mem-cases x y xs m) (place-of x xs)
-  where
-    go : (x ≡ y) ⊎ Mem x xs → (Mem x xs → (q : ℕ) × (q < length xs) × (getD xs q 0 ≡ x)) → (q : ℕ) × (q < suc (length xs)) × (getD (y ∷ xs) q 0 ≡ x)
-    go (inl e) ih = (0, omega arith, sym e)
-    go (inr k) ih = let a = ih k in (suc (a .0), omega (arith, a .1), a .2)
-
--- What a function makes of numbers.
-pub mem-map : (f : ℕ → ℕ) (x : ℕ) (xs : List ℕ) → Mem x xs → Mem (f x) (map f xs)
-mem-map f x [] m = not-in x m
-mem-map f x (y ∷ xs) m = go (mem-cases x y xs m) (mem-map f x xs)
-  where
-    go : (x ≡ y) ⊎ Mem x xs → (Mem x xs → Mem (f x) (map f xs)) → Mem (f x) (f y ∷ map f xs)
-    go (inl e) ih = subst (λ (z : ℕ). Mem (f x) (z ∷ map f xs)) (ap f e) (mem-here (f x) (map f xs))
-    go (inr k) ih = mem-there (f x) (f y) (map f xs) (ih k)
-
-map-below : (b : ℕ) (f : ℕ → ℕ) (xs : List ℕ) → ((x : ℕ) → Mem x xs → f x < b) → Below b (map f xs)
-map-below b f [] h y m = not-in y m
-map-below b f (x ∷ xs) h y m = go (mem-cases y (f x) (map f xs) m) (map-below b f xs (λ z k. h z (mem-there z x xs k)) y)
-  where
-    go : (y ≡ f x) ⊎ Mem y (map f xs) → (Mem y (map f xs) → y < b) → y < b
-    go (inl e) ih = omega (arith, h x (mem-here x xs))
-    go (inr k) ih = ih k
 
 -- Lengths.
 renamed-length : (f : ℕ → ℕ) (xs : List Interaction) → length (flatMap interactionWords (map (renamed f) xs)) ≡ length (flatMap interactionWords xs)
@@ -281,9 +220,13 @@ module _ (p : ℕ) (big : 1 < p) (s : Sheet) (w : Inside p s) where
 
   pub graph-few : length (graphOf p s .records) ≤ length (s .records)
   graph-few =
-      omega (arith, graph-nodes, distinct-length (length (s .records)) (order (s .records) (graphRoots s))
-      (order-distinct (s .records) (each-low p 0 (s .records) (w .records)) (graphRoots s) (graph-roots p s w))
-      (order-below (s .records) (each-low p 0 (s .records) (w .records)) (graphRoots s) (graph-roots p s w)))
+      omega (
+        arith,
+        graph-nodes,
+        distinct-length (length (s .records)) (order (s .records) (graphRoots s))
+            (order-distinct (s .records) (each-low p 0 (s .records) (w .records)) (graphRoots s) (graph-roots p s w))
+            (order-below (s .records) (each-low p 0 (s .records) (w .records)) (graphRoots s) (graph-roots p s w)),
+      )
 
   few-constraints : length (graphOf p s .constraints) ≤ length (s .constraints)
   unfolding graphOf

@@ -14,11 +14,11 @@ use Rattle.semantics.specs.Value.{Leaf, Node, leaf, const, add, sub, neg
 use Rattle.semantics.specs.Walk.{children, childrenAt, member}
 use Rattle.semantics.specs.Graph.{Pick, present, make, equalRecords, find, intern, Built, setNum, nodeFor, pick, takeIn, addRecord, build}
 use Rattle.semantics.proofs.Basics.{by-test, and-true}
+use Rattle.semantics.proofs.Members.{Mem, mem-here, mem-there, mem-cases, not-in}
 use Rattle.semantics.proofs.Lists.{each-zero, each-snoc}
 use Rattle.semantics.proofs.Records.{LowNode, LowRecord, low-more, good-low, each-low, Flat, flat-good, value-at, value-old, value-new, value-small}
 use Rattle.semantics.proofs.Rules.{GoodPick, add-good, sub-good, mul-good, neg-rule-good, pickValue, add-rule-value, sub-rule-value, mul-rule-value, neg-rule-value}
-use Rattle.semantics.proofs.Walks.{Mem, mem-here, mem-there, mem-cases, Closed}
-use Rattle.semantics.proofs.Orders.{not-in}
+use Rattle.semantics.proofs.Walks.{Closed}
 
 -- Equal in all five words is equal.
 pub equal-is : (r s : Record) → equalRecords r s ≡ true → r ≡ s

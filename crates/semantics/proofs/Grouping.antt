@@ -6,7 +6,7 @@ use mathlib.Core.List.{List, [], _∷_, _++_, map, flatMap, append-assoc}
 use Prim.Native.Nat.{ℕ, zero, suc, _+_, _*_, _/_, _≤_, _<_}
 use native.Mathlib.Omega.{arith}
 use lib.Dec.{eqb}
-use lib.ListN.{length, getD, take, drop, length-append}
+use lib.ListN.{length, getD, length-append}
 use lib.Seq.{take-at, drop-at, take-append-seam}
 use borrow.Author.Tests.{eqb-true, eqb-false, eq-eqb, ne-eqb}
 use Rattle.semantics.specs.Arithmetic.{addM, mulM}
@@ -17,11 +17,11 @@ use Rattle.semantics.specs.Group.{Root, labelled, constraintRoots, count
 use Rattle.semantics.specs.Group.{Group, push, split, groups, constraintTerm, interactionTerm}
 use Rattle.semantics.specs.Group.{headers, variables, terms, rows, Listed, listedAt, listed}
 use Rattle.semantics.specs.Demand.{productOf, coefficients, sumOf, ofConstraint, ofCount, ofField, first, second}
-use Rattle.semantics.specs.Demand.{AllAfter, Ascending, NonZeroTerms, NonZero, noInteraction, constraintAt, interactionAt, fieldAt}
+use Rattle.semantics.specs.Demand.{AllAfter, Ascending, NonZero, noInteraction, constraintAt, interactionAt, fieldAt}
 use Rattle.semantics.proofs.Basics.{by-test, not-both}
 use Rattle.semantics.proofs.Arithmetic.{addM-lt, mulM-lt, addM-zero, zero-addM, zero-mulM, addM-mulM, addM-assoc, sums}
 use Rattle.semantics.proofs.Order.{lex-inv, lex-head, lex-tail, lex-irrefl, lex-trans, lex-total, beforeVars-trans, beforeVars-total}
-use Rattle.semantics.proofs.Monomials.{val, one, val-cons, val-one, val-lt}
+use Rattle.semantics.proofs.Monomials.{val, val-cons, val-one, val-lt}
 use Rattle.semantics.proofs.Sorting.{All, all-append, sort-all, sort-same, Ahead, Sorted, sorted-sort}
 
 -- A group as it reads.
@@ -48,13 +48,15 @@ module _ (term : Item → List ℕ) (width : ℕ) (wide : (t : Item) → length 
   unfolding rows flatMap
   rows-terms ts rest = elim ts [
     | [] ↦ refl
-    | t ∷ (ts → ih) ↦ simp (append-assoc, take-at (term t) (flatMap term ts ++ rest) width (wide t), drop-at (term t) (flatMap term ts ++ rest) width (wide t), ih)
+    | t ∷ (ts → ih) ↦
+        let rest′ : List ℕ = flatMap term ts ++ rest in
+        simp (append-assoc, take-at (term t) rest′ width (wide t), drop-at (term t) rest′ width (wide t), ih)
   ]
 
   -- A group behind the variables and the terms of those before it.
   read-one : (g : Group) (vs ts vmore tmore : List ℕ) (vo to : ℕ) → length vs ≡ vo → length ts ≡ width * to
       → listedAt width (vs ++ (g .vars ++ vmore)) (ts ++ (flatMap term (g .terms) ++ tmore)) (vo ∷ to ∷ length (g .vars) ∷ length (g .terms) ∷ [])
-        ≡ shown term g
+      ≡ shown term g
   unfolding listedAt shown
   read-one g vs ts vmore tmore vo to h k =
       simp (drop-at vs (g .vars ++ vmore) vo h, drop-at ts (flatMap term (g .terms) ++ tmore) (width * to) k, take-append-seam, rows-terms)
@@ -65,15 +67,16 @@ module _ (term : Item → List ℕ) (width : ℕ) (wide : (t : Item) → length 
   read-back [] vs ts vo to h k = refl
   read-back (g ∷ gs) vs ts vo to h k =
       let ih = read-back gs (vs ++ g .vars) (ts ++ flatMap term (g .terms)) (vo + length (g .vars)) (to + length (g .terms))
-            (length-append vs (g .vars) ∙ omega arith)
-            (length-append ts (flatMap term (g .terms)) ∙ omega (arith, terms-length (g .terms))) in
-      simp (read-one g vs ts (variables gs) (terms term gs) vo to h k) 
+      (length-append vs (g .vars) ∙ omega arith)
+      (length-append ts (flatMap term (g .terms)) ∙ omega (arith, terms-length (g .terms))) in
+      simp (read-one g vs ts (variables gs) (terms term gs) vo to h k)
       (ap (λ (l : List Listed). shown term g ∷ l)
       (rw (append-assoc vs (g .vars) (variables gs), append-assoc ts (flatMap term (g .terms)) (terms term gs)) at ih))
 
   pub listed-layout : (gs : List Group) → listed width (headers 0 0 gs) (variables gs) (terms term gs) ≡ map (shown term) gs
   unfolding listed
-  listed-layout gs = let e = headers-length 0 0 gs in
+  listed-layout gs =
+      let e = headers-length 0 0 gs in
       let q : length (headers 0 0 gs) / 4 ≡ length gs = omega arith in
       rw q (read-back gs [] [] 0 0 refl (omega arith))
 
@@ -164,11 +167,11 @@ unfolding split
 split-first [] = tt
 split-first (t ∷ ts) = push-first t ts (split ts)
 
-module _ (term : Item → List ℕ) where
-  after-trans : (u v : List ℕ) (hs : List Listed) → beforeVars u v ≡ true → AllAfter v hs → AllAfter u hs
-  after-trans u v [] h k = tt
-  after-trans u v (x ∷ hs) h k = (beforeVars-trans u v (x .vars) h (k .0), after-trans u v hs h (k .1))
+after-trans : (u v : List ℕ) (hs : List Listed) → beforeVars u v ≡ true → AllAfter v hs → AllAfter u hs
+after-trans u v [] h k = tt
+after-trans u v (x ∷ hs) h k = (beforeVars-trans u v (x .vars) h (k .0), after-trans u v hs h (k .1))
 
+module _ (term : Item → List ℕ) where
   push-ascends : (t : Item) (ts : List Item) (gs : List Group) → Ahead later t ts → First ts gs
       → Ascending (map (shown term) gs) → Ascending (map (shown term) (push t gs))
   unfolding shown
@@ -225,19 +228,19 @@ module _ (term : Item → List ℕ) (coefficient : List ℕ → ℕ) (same : (t 
       split-nonzero (sort later (items list roots)) (sort-all later (λ (t : Item). t .coef ≡ 0 → ⊥) (items list roots) (items-nonzero list roots))
 
 -- The value of some items, of which those count whose index and field are asked for; and of some roots.
-module _ (p : ℕ) (w : List ℕ → ℕ) (hit : ℕ → ℕ → Bool) where
-  unfoldable pub share : Item → ℕ
-  share t = cond (hit (t .index) (t .field)) (t .coef) 0
+share : (ℕ → ℕ → Bool) → Item → ℕ
+share hit t = cond (hit (t .index) (t .field)) (t .coef) 0
 
-  unfoldable pub itemsVal : List Item → ℕ
+module _ (p : ℕ) (w : List ℕ → ℕ) (hit : ℕ → ℕ → Bool) where
+  itemsVal : List Item → ℕ
   itemsVal [] = 0
-  itemsVal (t ∷ ts) = addM p (mulM p (share t) (w (t .vars))) (itemsVal ts)
+  itemsVal (t ∷ ts) = addM p (mulM p (share hit t) (w (t .vars))) (itemsVal ts)
 
   unfoldable pub rootsVal : (ℕ → List Monomial) → List Root → ℕ
   rootsVal list [] = 0
   rootsVal list (r ∷ roots) = addM p (cond (hit (r .index) (r .field)) (val p w (list (r .node))) 0) (rootsVal list roots)
 
-  items-cons : (t : Item) (ts : List Item) → itemsVal (t ∷ ts) ≡ addM p (mulM p (share t) (w (t .vars))) (itemsVal ts)
+  items-cons : (t : Item) (ts : List Item) → itemsVal (t ∷ ts) ≡ addM p (mulM p (share hit t) (w (t .vars))) (itemsVal ts)
   unfolding itemsVal
   items-cons t ts = refl
 
@@ -246,11 +249,15 @@ module _ (p : ℕ) (w : List ℕ → ℕ) (hit : ℕ → ℕ → Bool) where
   unfolding rootsVal
   roots-cons list r roots = refl
 
+cond-zero : (b : Bool) (c : ℕ) → c ≡ 0 → cond b c 0 ≡ 0
+cond-zero true c e = e
+cond-zero false c e = refl
+
 module _ (p : ℕ) (big : 1 < p) (w : List ℕ → ℕ) (hit : ℕ → ℕ → Bool) where
   items-lt : (ts : List Item) → itemsVal p w hit ts < p
   unfolding itemsVal
   items-lt [] = omega arith
-  items-lt (t ∷ ts) = addM-lt p big (mulM p (share p w hit t) (w (t .vars))) (itemsVal p w hit ts)
+  items-lt (t ∷ ts) = addM-lt p big (mulM p (share hit t) (w (t .vars))) (itemsVal p w hit ts)
 
   items-append : (ts us : List Item) → itemsVal p w hit (ts ++ us) ≡ addM p (itemsVal p w hit ts) (itemsVal p w hit us)
   items-append ts us = elim ts [
@@ -259,19 +266,15 @@ module _ (p : ℕ) (big : 1 < p) (w : List ℕ → ℕ) (hit : ℕ → ℕ → B
   ]
 
   -- A monomial that is left out is worth nothing.
-  cond-zero : (b : Bool) (c : ℕ) → c ≡ 0 → cond b c 0 ≡ 0
-  cond-zero true c e = e
-  cond-zero false c e = refl
-
   of-cons : (r : Root) (m : Monomial) (ms : List Monomial) → itemsVal p w hit (itemsOf r (m ∷ ms))
       ≡ addM p (mulM p (cond (hit (r .index) (r .field)) (m .coef) 0) (w (m .vars))) (itemsVal p w hit (itemsOf r ms))
   unfolding itemsOf share
   of-cons r m ms =
       by-test (λ (l : List Item). itemsVal p w hit l
-        ≡ addM p (mulM p (cond (hit (r .index) (r .field)) (m .coef) 0) (w (m .vars))) (itemsVal p w hit (itemsOf r ms)))
+      ≡ addM p (mulM p (cond (hit (r .index) (r .field)) (m .coef) 0) (w (m .vars))) (itemsVal p w hit (itemsOf r ms)))
       (eqb (m .coef) 0)
       (λ e. rw (cond-zero (hit (r .index) (r .field)) (m .coef) (eqb-true (m .coef) 0 e), zero-mulM)
-        (sym (zero-addM p big (itemsVal p w hit (itemsOf r ms)) (items-lt (itemsOf r ms)))))
+      (sym (zero-addM p big (itemsVal p w hit (itemsOf r ms)) (items-lt (itemsOf r ms)))))
       (λ e. items-cons p w hit _ (itemsOf r ms))
 
   -- The items of one root are worth its list where it is asked for, and nothing elsewhere.
@@ -319,25 +322,25 @@ module _ (p : ℕ) (big : 1 < p) (A : Leaf → ℕ) (hit : ℕ → ℕ → Bool)
   abbrev sumShown : List Group → ℕ
   sumShown gs = sumOf p A carries coefficient (map (shown term) gs)
 
-  term-share : (t : Item) → cond (carries (term t)) (coefficient (term t)) 0 ≡ share p (productOf p A) hit t
+  term-share : (t : Item) → cond (carries (term t)) (coefficient (term t)) 0 ≡ share hit t
   unfolding share
   term-share t = rw (asked t, same t)
 
   new-sum : (t : Item) (gs : List Group) → sumShown (record { vars = t .vars; terms = t ∷ [] } ∷ gs)
-      ≡ addM p (mulM p (share p (productOf p A) hit t) (productOf p A (t .vars))) (sumShown gs)
+      ≡ addM p (mulM p (share hit t) (productOf p A (t .vars))) (sumShown gs)
   unfolding shown
   new-sum t gs = simp (sum-cons, coefficients-cons, coefficients-nil, term-share, addM-mulM, zero-mulM, addM-zero, mulM-lt)
 
   old-sum : (t : Item) (g : Group) (gs : List Group) → t .vars ≡ g .vars → sumShown (record { vars = g .vars; terms = t ∷ g .terms } ∷ gs)
-      ≡ addM p (mulM p (share p (productOf p A) hit t) (productOf p A (t .vars))) (sumShown (g ∷ gs))
+      ≡ addM p (mulM p (share hit t) (productOf p A (t .vars))) (sumShown (g ∷ gs))
   unfolding shown
   old-sum t g gs e = simp (sum-cons, coefficients-cons, term-share, e, addM-mulM, addM-assoc)
 
   push-sum : (t : Item) (gs : List Group)
-      → sumShown (push t gs) ≡ addM p (mulM p (share p (productOf p A) hit t) (productOf p A (t .vars))) (sumShown gs)
+      → sumShown (push t gs) ≡ addM p (mulM p (share hit t) (productOf p A (t .vars))) (sumShown gs)
   push-sum t [] = unfold push in (new-sum t [])
   push-sum t (g ∷ gs) =
-      push-by (λ (l : List Group). sumShown l ≡ addM p (mulM p (share p (productOf p A) hit t) (productOf p A (t .vars))) (sumShown (g ∷ gs)))
+      push-by (λ (l : List Group). sumShown l ≡ addM p (mulM p (share hit t) (productOf p A (t .vars))) (sumShown (g ∷ gs)))
       t g gs (λ e. new-sum t (g ∷ gs)) (old-sum t g gs)
 
   split-sum : (ts : List Item) → sumShown (split ts) ≡ itemsVal p (productOf p A) hit ts
@@ -434,7 +437,7 @@ module _ (p : ℕ) (big : 1 < p) (w : List ℕ → ℕ) (list : ℕ → List Mon
       labelled-val p big w hit list _ noInteraction i (s .interactions) h
       (λ m x e. labelled-none p big w hit list _ 0 (x .message) (λ g c z. one-root p big w hit list _ false (rw (ne-eqb m i e))))
       ∙ labelled-one p big w hit list (λ n c. record { node = c; index = i; field = n }) 0 f (interactionAt s i .message) k
-        (λ m c e. rw (eq-eqb i i refl, ne-eqb m f e)) (λ c. rw (eq-eqb i i refl, eq-eqb f f refl))
+      (λ m c e. rw (eq-eqb i i refl, ne-eqb m f e)) (λ c. rw (eq-eqb i i refl, eq-eqb f f refl))
     where
       hit : ℕ → ℕ → Bool
       hit index field = eqb index i && eqb field f

@@ -1,5 +1,6 @@
 pub mod Basics
 pub mod Lists
+pub mod Members
 pub mod Arithmetic
 pub mod Order
 pub mod Sorting
@@ -15,6 +16,8 @@ pub mod Encoding
 pub mod GraphSheets
 pub mod Expansions
 pub mod Grouping
+pub mod Packed
 pub mod Calls
+pub mod Blocks
 pub mod Acceptance
 pub mod Examples

@@ -8,9 +8,9 @@ use lib.Dec.{ltb, eqb}
 use Rattle.semantics.specs.Arithmetic.{addM, mulM, negM, subM}
 use Rattle.semantics.specs.Packing.{unpacked}
 use Rattle.semantics.specs.Value.{Leaf, leafOf}
-use Rattle.semantics.specs.Monomial.{Monomial, insertSorted, sort, above, negMonomial, mulMonomial, products}
+use Rattle.semantics.specs.Monomial.{Monomial, sort, above, negMonomial, mulMonomial, products}
 use Rattle.semantics.specs.Demand.{productOf}
-use Rattle.semantics.proofs.Basics.{by-test}
+use Rattle.semantics.proofs.Sorting.{sort-same}
 use Rattle.semantics.proofs.Arithmetic.{addM-lt, mulM-lt, zero-addM, sums, prods, ring, addM-zero, negM-zero, mulM-zero, zero-mulM, one-mulM}
 
 -- The value of a list, where each variable list has a weight: the product of its variables, or 1 at one list and 0 elsewhere.
@@ -69,21 +69,8 @@ module _ (p : ℕ) (big : 1 < p) (A : Leaf → ℕ) where
   product-lt [] = big
   product-lt (v ∷ vs) = mulM-lt p big (A (leafOf (unpacked v))) (productOf p A vs)
 
-  product-insert : (v : ℕ) (ws : List ℕ) → productOf p A (insertSorted above v ws) ≡ productOf p A (v ∷ ws)
-  unfolding insertSorted
-  product-insert v ws = elim ws [
-    | [] ↦ refl
-    | w ∷ (t → ih) ↦
-        by-test (λ (l : List ℕ). productOf p A l ≡ productOf p A (v ∷ w ∷ t)) (above v w)
-        (λ e. simp (product-cons, ih, prods)) (λ e. refl)
-  ]
-
   product-sort : (vs : List ℕ) → productOf p A (sort above vs) ≡ productOf p A vs
-  unfolding sort
-  product-sort vs = elim vs [
-    | [] ↦ refl
-    | v ∷ (t → ih) ↦ product-insert v (sort above t) ∙ simp (product-cons, ih)
-  ]
+  product-sort = sort-same above (productOf p A) (λ v s t e. simp (product-cons, e)) (λ v u t. simp (product-cons, prods))
 
   product-append : (vs ws : List ℕ) → productOf p A (vs ++ ws) ≡ mulM p (productOf p A vs) (productOf p A ws)
   product-append vs ws = elim vs [

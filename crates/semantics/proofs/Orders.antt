@@ -12,56 +12,13 @@ use Rattle.semantics.specs.Sheet.{Record, Each}
 use Rattle.semantics.specs.Value.{Node, leaf, const, add, sub, neg, mul, nodeOf, noRecord, recordAt}
 use Rattle.semantics.specs.Walk.{children, childrenAt, member, foldLeft, visit, order, Reaches, itself, through}
 use Rattle.semantics.proofs.Basics.{by-test, not-both}
+use Rattle.semantics.proofs.Members.{Mem, mem-here, mem-there, mem-cases, not-in, Below, cons-below}
 use Rattle.semantics.proofs.Lists.{each-zero}
 use Rattle.semantics.proofs.Records.{LowNode, LowRecord}
-use Rattle.semantics.proofs.Walks.{Mem, mem-here, mem-there, mem-cases, fold-keeps, visit-old, visit-has, fold-has, Closed, visit-closed, fold-reach, visit-reach, closed-reach, reach-le, Distinct, visit-distinct}
-
-pub not-in : {X : Type 0} (c : ℕ) → Mem c [] → X
-not-in c m = unfold member in (absurd (true≢false (sym m)))
-
-pub mem-left : (x : ℕ) (s t : List ℕ) → Mem x s → Mem x (s ++ t)
-mem-left x [] t m = not-in x m
-mem-left x (y ∷ s) t m = go (mem-cases x y s m) (mem-left x s t)
-  where
-    go : (x ≡ y) ⊎ Mem x s → (Mem x s → Mem x (s ++ t)) → Mem x (y ∷ (s ++ t))
-    go (inl e) ih = subst (λ (z : ℕ). Mem z (y ∷ (s ++ t))) (sym e) (mem-here y (s ++ t))
-    go (inr k) ih = mem-there x y (s ++ t) (ih k)
-
-pub mem-right : (x : ℕ) (s t : List ℕ) → Mem x t → Mem x (s ++ t)
-mem-right x [] t m = m
-mem-right x (y ∷ s) t m = mem-there x y (s ++ t) (mem-right x s t m)
-
-pub mem-either : (x : ℕ) (s t : List ℕ) → Mem x (s ++ t) → Mem x s ⊎ Mem x t
-mem-either x [] t m = inr m
-mem-either x (y ∷ s) t m = go (mem-cases x y (s ++ t) m) (mem-either x s t)
-  where
-    more : Mem x s ⊎ Mem x t → Mem x (y ∷ s) ⊎ Mem x t
-    more (inl k) = inl (mem-there x y s k)
-    more (inr k) = inr k
-
-    go : (x ≡ y) ⊎ Mem x (s ++ t) → (Mem x (s ++ t) → Mem x s ⊎ Mem x t) → Mem x (y ∷ s) ⊎ Mem x t
-    go (inl e) ih = inl (subst (λ (z : ℕ). Mem z (y ∷ s)) (sym e) (mem-here y s))
-    go (inr k) ih = more (ih k)
-
-pub mem-getD : (l : List ℕ) (j : ℕ) → j < length l → Mem (getD l j 0) l
-mem-getD [] j h = absurd (omega arith)
-mem-getD (x ∷ l) zero h = mem-here x l
-mem-getD (x ∷ l) (suc j) h = mem-there (getD l j 0) x l (mem-getD l j (omega arith))
-
--- Numbers below n.
-abbrev pub Below : ℕ → List ℕ → Type 0
-Below n s = (x : ℕ) → Mem x s → x < n
+use Rattle.semantics.proofs.Walks.{fold-keeps, visit-old, visit-has, fold-has, Closed, visit-closed, fold-reach, visit-reach, closed-reach, reach-le, Distinct, visit-distinct}
 
 two-below : (n x y : ℕ) → x < n → y < n → Below n (x ∷ y ∷ [])
-two-below n x y h k c m = go (mem-cases c x (y ∷ []) m)
-  where
-    last : (c ≡ y) ⊎ Mem c [] → c < n
-    last (inl e) = omega arith
-    last (inr e) = not-in c e
-
-    go : (c ≡ x) ⊎ Mem c (y ∷ []) → c < n
-    go (inl e) = omega arith
-    go (inr e) = last (mem-cases c y [] e)
+two-below n x y h k = cons-below n x (y ∷ []) h (cons-below n y [] k (λ c m. not-in c m))
 
 children-below : (n : ℕ) (k : Node) → LowNode n k → Below n (children k)
 unfolding children

@@ -131,7 +131,7 @@ pub two-good : (p n k l r g : ℕ) → (leb 1 k && leb k 9) ≡ true → row k �
 two-good p n k l r g u q hl hr =
     good-is p n (recordOf k l r g 0)
     ∙ true-and (isKind (recordOf k l r g 0)) _ (unfold isKind in u)
-      (row-two p n (recordOf k l r g 0) k q ∙ rw (lt-ltb l n hl, lt-ltb r n hr))
+    (row-two p n (recordOf k l r g 0) k q ∙ rw (lt-ltb l n hl, lt-ltb r n hr))
 
 pub neg-good : (p n x g : ℕ) → x < n → GoodRecord p n (recordOf 8 x 0 g 0)
 unfolding isKind

@@ -1,6 +1,6 @@
 -- What sorting keeps, and that it sorts.
-use mathlib.Core.Path.{_≡_, refl, sym, _∙_, ap, subst}
-use mathlib.Core.Bool.{Bool, true, false, cond}
+use mathlib.Core.Path.{_≡_, refl, _∙_, ap, subst}
+use mathlib.Core.Bool.{Bool, true, false}
 use mathlib.Core.List.{List, [], _∷_, _++_}
 use Rattle.semantics.specs.Monomial.{insertSorted, sort}
 use Rattle.semantics.proofs.Basics.{by-test, not-both}

@@ -12,22 +12,7 @@ use Rattle.semantics.specs.Sheet.{Record, Each}
 use Rattle.semantics.specs.Value.{Node, leaf, const, add, sub, neg, mul, nodeOf, noRecord, recordAt}
 use Rattle.semantics.specs.Walk.{children, childrenAt, member, foldLeft, visit, order, Reaches, itself, through}
 use Rattle.semantics.proofs.Basics.{by-test}
-
-abbrev pub Mem : ℕ → List ℕ → Type 0
-Mem x s = member x s ≡ true
-
--- Membership.
-pub mem-here : (x : ℕ) (s : List ℕ) → Mem x (x ∷ s)
-unfolding member
-mem-here x s = rw (eq-eqb x x refl)
-
-pub mem-there : (x y : ℕ) (s : List ℕ) → Mem x s → Mem x (y ∷ s)
-unfolding member
-mem-there x y s h = by-test (λ (t : Bool). t ≡ true) (eqb x y) (λ e. refl) (λ e. h)
-
-pub mem-cases : (x y : ℕ) (s : List ℕ) → Mem x (y ∷ s) → (x ≡ y) ⊎ Mem x s
-unfolding member
-mem-cases x y s = by-test (λ (t : Bool). t ≡ true → (x ≡ y) ⊎ Mem x s) (eqb x y) (λ e h. inl (eqb-true x y e)) (λ e h. inr h)
+use Rattle.semantics.proofs.Members.{Mem, mem-here, mem-there, mem-cases}
 
 -- A property that each step keeps, the fold keeps.
 pub fold-keeps : {S : Type 0} (P : S → Type 0) (f : S → ℕ → S) (cs : List ℕ) → ((s : S) (c : ℕ) → Mem c cs → P s → P (f s c)) → (s : S) → P s → P (foldLeft f s cs)

@@ -99,8 +99,8 @@ unfoldable pub checkCall : (p : ℕ) (ws : List ℕ) → Outcome
 checkCall p ws =
     outcome [] []
     (onSheet p ws (λ s. result [] (
-      length (s .records) ∷ length (s .constraints) ∷ length (s .interactions) ∷ lengthOf s
-      ∷ (4 + 5 * length (s .records) + length (s .constraints)) ∷ [])))
+    length (s .records) ∷ length (s .constraints) ∷ length (s .interactions) ∷ lengthOf s
+    ∷ (4 + 5 * length (s .records) + length (s .constraints)) ∷ [])))
 
 -- The builder: "Scratch E words; output L words."
 unfoldable pub builderCall : (p : ℕ) (ws : List ℕ) (scratch out : ℕ) → Outcome

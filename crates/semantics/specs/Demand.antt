@@ -149,4 +149,4 @@ module _ (p : ℕ) where
     pub graphLists : (ws : List ℕ) (scratch out : ℕ) (s : Sheet) → Accepted (builderCall p ws scratch out) → check p ws ≡ good s
         → (work pool h v t work₁ pool₁ h₁ v₁ t₁ h₂ v₂ t₂ : ℕ)
         → GraphListsRule s (constraintCall p (handedBack 1 (builderCall p ws scratch out) 0) work pool h v t)
-          (interactionCall p (handedBack 1 (builderCall p ws scratch out) 0) work₁ pool₁ h₁ v₁ t₁ h₂ v₂ t₂)
+        (interactionCall p (handedBack 1 (builderCall p ws scratch out) 0) work₁ pool₁ h₁ v₁ t₁ h₂ v₂ t₂)
