@@ -5,7 +5,7 @@ use mathlib.Core.List.{List, [], _∷_, _++_, flatMap}
 use Prim.Native.Nat.{ℕ}
 use lib.ListN.{length, getD, take, drop, replicate}
 use Rattle.semantics.specs.Answer.{Answer, good, refused, andThen}
-use Rattle.semantics.specs.Arithmetic.{prime, addM, subM, mulM, negM}
+use Rattle.semantics.specs.Arithmetic.{prime, addM, subM, mulM, negM, signedOf}
 use Rattle.semantics.specs.Sheet.{Record, Interaction, Sheet, recordOf, recordWords, interactionWords, headWords, encode, lengthOf, table, row, fits, recordTests, names, interactionTests, headTests}
 use Rattle.semantics.specs.Check.{scanWords, scanPart, scanParts, scanSpare, scanSheet, readRecord, readRecords, readInteraction, readInteractions, readSheet, judged, check}
 use Rattle.semantics.specs.Block.{wordBytes, wordAt, wordsOf, total, checkWord, blockGood, badLength, readBlocks, blockBytes, firstWords, writeBlocks, blocksFor}
@@ -17,7 +17,7 @@ use Rattle.semantics.specs.Monomial.{before, beforeVars, insertSorted, s
 use Rattle.semantics.specs.Expand.{longer, workFault, listSize, recordFault, expandRecord, expandAll}
 use Rattle.semantics.specs.Group.{labelled, constraintRoots, countRoots, fieldRoots, itemsOf, items, key, later, push, split, groups, constraintTerm, interactionTerm, headers, variables, terms, layout, rows, listedAt, listed}
 use Rattle.semantics.specs.Call.{Reply, Outcome, zeros, padded, paddedAll, outcome, handedBack, needs, result, readerCall, onSheet, writerCall, builderCall, maxRotationCall, firstShort, fitted, family, expansion, constraintOutputs, constraintCall, interactionOutputs, maxFieldsLen, interactionCall}
-use Rattle.semantics.specs.Sheetlist.{digits, decimal, hexDigit, hexDigits, signed, line, tLine, uLine, wLine, headerLines, step, interactionLines, constraintLines, graphLines, sheetLines, sheetlist}
+use Rattle.semantics.specs.Sheetlist.{digits, decimal, hexDigit, hexDigits, integer, signed, line, tLine, uLine, wLine, headerLines, step, interactionLines, constraintLines, graphLines, sheetLines, sheetlist}
 
 -- v and w: main, part 0, offset 0, columns 0 and 1.
 abbrev v : Record
@@ -104,7 +104,7 @@ listingSheet = record {
 
 -- What `sheetlist` prints for it, from the block that the writer makes.
 listing : List ℕ
-unfolding listingSheet slices writerCall writeBlocks blockBytes firstWords blocksFor wordBytes wordAt wordsOf total checkWord sheetlist readerCall badLength readBlocks blockGood sheetLines graphLines constraintLines interactionLines step headerLines tLine uLine wLine line signed decimal digits hexDigits hexDigit maxRotationCall maxRotation rotation interactionCall interactionOutputs maxFieldsLen countRoots fieldRoots interactionTerm listed listedAt rows
+unfolding listingSheet slices writerCall writeBlocks blockBytes firstWords blocksFor wordBytes wordAt wordsOf total checkWord sheetlist readerCall badLength readBlocks blockGood sheetLines graphLines constraintLines interactionLines step headerLines tLine uLine wLine line signed integer signedOf decimal digits hexDigits hexDigit maxRotationCall maxRotation rotation interactionCall interactionOutputs maxFieldsLen countRoots fieldRoots interactionTerm listed listedAt rows
 listing = sheetlist prime (handedBack 0 (writerCall prime (encode listingSheet) 512) 0)
 
 -- The text in 01, line by line.

@@ -1,5 +1,8 @@
 -- Arithmetic modulo p (01: "All arithmetic on values is modulo p, each kept as 0 to p − 1").
-use Prim.Native.Nat.{ℕ, _+_, _*_, _-_, _%_}
+use mathlib.Core.Bool.{cond}
+use Prim.Native.Nat.{ℕ, _+_, _*_, _-_, _/_, _%_}
+use lib.Dec.{leb}
+use lib.IntN.{ℤ, pos, negsuc, _-ℤ_}
 
 -- "p is 2013265921"; every definition below takes the modulus as its parameter.
 abbrev pub prime : ℕ
@@ -16,3 +19,7 @@ mulM p a b = (a * b) % p
 
 unfoldable pub negM : ℕ → ℕ → ℕ
 negM p a = (p - a % p) % p
+
+-- "A coefficient up to 1006632960 prints as itself, above that less p, so it may be negative": a value as a signed number.
+unfoldable pub signedOf : (p : ℕ) → ℕ → ℤ
+signedOf p c = cond (leb c ((p - 1) / 2)) (pos c) (pos c -ℤ pos p)

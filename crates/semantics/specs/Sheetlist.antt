@@ -4,6 +4,8 @@ use mathlib.Core.List.{List, [], _∷_, _++_, map, flatMap}
 use Prim.Native.Nat.{ℕ, zero, suc, _+_, _*_, _-_, _/_, _%_}
 use lib.Dec.{eqb, leb, ltb}
 use lib.ListN.{length, getD}
+use lib.IntN.{ℤ, pos, negsuc}
+use Rattle.semantics.specs.Arithmetic.{signedOf}
 use Rattle.semantics.specs.Call.{Reply, Outcome, outcome, readerCall, builderCall, maxRotationCall, constraintCall, interactionCall, handedBack}
 use Rattle.semantics.specs.Group.{Listed, listed}
 
@@ -23,9 +25,13 @@ unfoldable pub hexDigits : (count : ℕ) → ℕ → List ℕ
 hexDigits zero n = []
 hexDigits (suc count) n = hexDigits count (n / 16) ++ (hexDigit (n % 16) ∷ [])
 
--- "A coefficient up to 1006632960 prints as itself, above that less p, so it may be negative."
+-- A signed number in decimal.
+unfoldable pub integer : ℤ → List ℕ
+integer (pos n) = decimal n
+integer (negsuc n) = 45 ∷ decimal (suc n)
+
 unfoldable pub signed : (p : ℕ) → ℕ → List ℕ
-signed p c = cond (leb c ((p - 1) / 2)) (decimal c) (45 ∷ decimal (p - c))
+signed p c = integer (signedOf p c)
 
 -- Words parted by spaces, and the end of the line.
 unfoldable pub line : List (List ℕ) → List ℕ
