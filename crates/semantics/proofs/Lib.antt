@@ -20,4 +20,5 @@ pub mod Packed
 pub mod Calls
 pub mod Blocks
 pub mod Acceptance
+pub mod Demands
 pub mod Examples
