@@ -1,10 +1,10 @@
 -- What an accepted call hands back.
 use mathlib.Core.Path.{_≡_, refl, sym, _∙_, ap}
-use mathlib.Core.List.{List, [], _∷_, _++_, map}
-use Prim.Native.Nat.{ℕ, zero, suc, _+_, _≤_}
+use mathlib.Core.List.{List, [], _∷_, _++_, map, map-append}
+use Prim.Native.Nat.{ℕ, zero, suc, _+_, _-_, _≤_}
 use native.Mathlib.Omega.{arith}
 use lib.Dec.{leb}
-use lib.ListN.{length, getD, take, length-map, List·getD-map}
+use lib.ListN.{length, getD, take, replicate, length-append, length-map, length-replicate, List·getD-map}
 use lib.Seq.{take-append-seam, getD-append-add}
 use borrow.Author.Tests.{le-leb}
 use Rattle.semantics.specs.Answer.{Answer, good, refused}
@@ -41,3 +41,55 @@ module _ (scratch lent : List ℕ) (a : Answer Result) (r : Result) (e : a ≡ g
       slice =
           ap (λ (n : ℕ). getD (map zeros scratch ++ paddedAll (r .outputs) lent) (n + k) []) (sym (length-map scratch zeros))
           ∙ getD-append-add (map zeros scratch) (paddedAll (r .outputs) lent) k []
+
+-- Whatever the answer, every slice keeps its length; after a refusal it holds only zeros.
+abbrev pub AllZero : List ℕ → Type 0
+AllZero [] = Unit {0}
+AllZero (w ∷ ws) = (w ≡ 0) × AllZero ws
+
+abbrev pub AllZeros : List (List ℕ) → Type 0
+AllZeros [] = Unit {0}
+AllZeros (s ∷ ss) = AllZero s × AllZeros ss
+
+zeros-zero : (n : ℕ) → AllZero (zeros n)
+unfolding zeros
+zeros-zero zero = tt
+zeros-zero (suc n) = (refl, zeros-zero n)
+
+zeros-length : (lent : List ℕ) → map length (map zeros lent) ≡ lent
+unfolding zeros
+zeros-length [] = refl
+zeros-length (n ∷ ns) = λ i. length-replicate {A = ℕ} n 0 i ∷ zeros-length ns i
+
+pub refused-zeros : (scratch lent : List ℕ) (n k : ℕ)
+    → AllZeros (outcome scratch lent (refused n k) .slices) × (map length (outcome scratch lent (refused n k) .slices) ≡ scratch ++ lent)
+unfolding outcome
+refused-zeros scratch lent n k = (all (scratch ++ lent), zeros-length (scratch ++ lent))
+  where
+    all : (ns : List ℕ) → AllZeros (map zeros ns)
+    all [] = tt
+    all (m ∷ ns) = (zeros-zero m, all ns)
+
+-- The outputs have their slices, each long enough.
+abbrev pub Room : List (List ℕ) → List ℕ → Type 0
+Room [] [] = Unit {0}
+Room [] (n ∷ ns) = ⊥
+Room (w ∷ ws) [] = ⊥
+Room (w ∷ ws) (n ∷ ns) = (length w ≤ n) × Room ws ns
+
+padded-length : (ws : List (List ℕ)) (lent : List ℕ) → Room ws lent → map length (paddedAll ws lent) ≡ lent
+unfolding paddedAll padded zeros
+padded-length [] [] h = refl
+padded-length [] (n ∷ ns) h = absurd h
+padded-length (w ∷ ws) [] h = absurd h
+padded-length (w ∷ ws) (n ∷ ns) h =
+    λ i. one i ∷ padded-length ws ns (h .1) i
+  where
+    one : length (w ++ replicate (n - length w) 0) ≡ n
+    one = simp (length-append, length-replicate) (omega (arith, h .0))
+
+pub accepted-lengths : (scratch lent : List ℕ) (r : Result) → Room (r .outputs) lent
+    → map length (outcome scratch lent (good r) .slices) ≡ scratch ++ lent
+unfolding outcome
+accepted-lengths scratch lent r h =
+    map-append length (map zeros scratch) (paddedAll (r .outputs) lent) ∙ (λ i. zeros-length scratch i ++ padded-length (r .outputs) lent h i)

@@ -4,8 +4,10 @@ use mathlib.Core.Bool.{Bool, true, false}
 use mathlib.Core.List.{List, [], _∷_, _++_, map, flatMap, map-append}
 use Prim.Native.Nat.{ℕ, zero, suc, _+_, _*_, _≤_, _<_}
 use native.Mathlib.Omega.{arith}
+use lib.Dec.{lit<}
 use lib.ListN.{length, getD}
 use Rattle.semantics.specs.Answer.{Answer, good, refused, andThen}
+use Rattle.semantics.specs.Arithmetic.{prime}
 use Rattle.semantics.specs.Sheet.{Record, Interaction, Sheet, Inside, Each, GoodInteraction, encode, lengthOf}
 use Rattle.semantics.specs.Check.{check}
 use Rattle.semantics.specs.Value.{Leaf, valueAt}
@@ -15,12 +17,12 @@ use Rattle.semantics.specs.Monomial.{Monomial, listAt}
 use Rattle.semantics.specs.Expand.{expandAll}
 use Rattle.semantics.specs.Group.{Root, labelled, constraintRoots, countRoots, fieldRoots, Item, constraintTerm, interactionTerm, Listed, listed, layout}
 use Rattle.semantics.specs.Call.{Outcome, Result, Accepted, handedBack, needs, result, onSheet, builderCall, fitted, family, expansion, constraintOutputs, constraintCall, interactionOutputs, maxFieldsLen, interactionCall}
-use Rattle.semantics.specs.Demand.{Assignment, productOf, sumOf, ofConstraint, ofCount, ofField, second, first, Ascending, NonZero, noInteraction, constraintAt, interactionAt, fieldAt, listsFrom, GraphRule, ConstraintRule, InteractionRule, GraphListsRule, Demand}
+use Rattle.semantics.specs.Demand.{Assignment, productOf, sumOf, ofConstraint, ofCount, ofField, second, first, Ascending, NonZero, noInteraction, constraintAt, interactionAt, fieldAt, listsFrom, ReachedRule, GraphRule, ConstraintRule, InteractionRule, GraphListsRule, Demand}
 use Rattle.semantics.proofs.Members.{Mem, mem-left, mem-right, mem-here, mem-getD, Below, cons-below, append-below, flat-mem, flat-below, not-in}
-use Rattle.semantics.proofs.Orders.{order-closed, order-roots, order-below}
-use Rattle.semantics.proofs.Records.{each-low}
+use Rattle.semantics.proofs.Orders.{order-closed, order-roots, order-below, order-reached, order-all, order-distinct}
+use Rattle.semantics.proofs.Records.{LowRecord, each-low}
 use Rattle.semantics.proofs.Encoding.{check-inside, check-encode, good-injective}
-use Rattle.semantics.proofs.GraphSheets.{named-below, InteractionFacts, interaction-facts, graph-inside, graph-shorter, graph-nodes, constraint-place, same-interactions, same-fields, constraint-kept, count-kept, field-kept}
+use Rattle.semantics.proofs.GraphSheets.{named-below, InteractionFacts, interaction-facts, graph-roots, graph-inside, graph-shorter, graph-nodes, constraint-place, same-interactions, same-fields, constraint-kept, count-kept, field-kept}
 use Rattle.semantics.proofs.Monomials.{val}
 use Rattle.semantics.proofs.Expansions.{walk-fine, lists-keep}
 use Rattle.semantics.proofs.Grouping.{laid, laid-ascends, laid-nonzero, constraint-wide, constraint-coef, interaction-wide, interaction-coef, constraint-sum, count-sum, field-sum}
@@ -206,10 +208,14 @@ module _ (p : ℕ) (big : 1 < p) where
         e .checked,
         record {
           words = e .words;
-          ascending = (subst Ascending (sym n) (laid-ascends interactionTerm 3 interaction-wide list (countRoots s)),
-            subst Ascending (sym d) (laid-ascends interactionTerm 3 interaction-wide list (fieldRoots s)));
-          nonZero = (subst (NonZero first) (sym n) (laid-nonzero interactionTerm 3 interaction-wide first interaction-coef list (countRoots s)),
-            subst (NonZero first) (sym d) (laid-nonzero interactionTerm 3 interaction-wide first interaction-coef list (fieldRoots s)));
+          ascending = (
+            subst Ascending (sym n) (laid-ascends interactionTerm 3 interaction-wide list (countRoots s)),
+            subst Ascending (sym d) (laid-ascends interactionTerm 3 interaction-wide list (fieldRoots s)),
+          );
+          nonZero = (
+            subst (NonZero first) (sym n) (laid-nonzero interactionTerm 3 interaction-wide first interaction-coef list (countRoots s)),
+            subst (NonZero first) (sym d) (laid-nonzero interactionTerm 3 interaction-wide first interaction-coef list (fieldRoots s)),
+          );
           count = λ A i b. ap (sumOf p (A .at) (ofCount i) first) n ∙ count-sum p big (A .at) list s i b ∙ value A (interactionAt s i .count) (count-in s i b);
           field = λ A i f b c. ap (sumOf p (A .at) (ofField i f) first) d ∙ field-sum p big (A .at) list s i f b c ∙ value A (fieldAt s i f) (field-in s i f b c);
         },
@@ -243,6 +249,11 @@ module _ (p : ℕ) (big : 1 < p) where
     words = e;
     sheet = ap (check p) e ∙ check-encode p (graphOf p s) (graph-inside p big s w);
     shorter = subst (λ (l : List ℕ). length l ≤ lengthOf s) (sym e) (unfold lengthOf in (graph-shorter p big s w));
+    reached = record {
+      once = order-distinct (s .records) (low s w) (graphRoots s) (graph-roots p s w);
+      only = order-reached (s .records) (low s w) (graphRoots s) (graph-roots p s w);
+      all = order-all (s .records) (low s w) (graphRoots s) (graph-roots p s w);
+    };
     nodes = graph-nodes p big s w;
     constraint = constraint-kept p big s w;
     place = constraint-place p big s w;
@@ -251,6 +262,9 @@ module _ (p : ℕ) (big : 1 < p) where
     count = count-kept p big s w;
     field = field-kept p big s w;
   }
+    where
+      low : (s : Sheet) → Inside p s → Each LowRecord 0 (s .records)
+      low s w = each-low p 0 (s .records) (w .records)
 
   -- The expansions of the graph's words, against the source.
   module _ (s : Sheet) (w : Inside p s) (g : List ℕ) (e : check p g ≡ good (graphOf p s)) where
@@ -288,3 +302,7 @@ module _ (p : ℕ) (big : 1 < p) where
         let w = check-inside p ws s c in
         graph-lists s w g (graph-rule s g w (b .2 ∙ ap (λ (u : Sheet). encode (graphOf p u)) q) .sheet);
   }
+
+-- For the prime of the calls.
+pub demand-prime : Demand prime
+demand-prime = demand prime (lit< tt)

@@ -2,7 +2,7 @@
 use mathlib.Core.Path.{_≡_, refl}
 use mathlib.Core.Bool.{Bool, true, false, cond}
 use mathlib.Core.List.{List, [], _∷_, _++_, flatMap}
-use Prim.Native.Nat.{ℕ}
+use Prim.Native.Nat.{ℕ, zero, suc}
 use lib.ListN.{length, getD, take, drop, replicate}
 use Rattle.semantics.specs.Answer.{Answer, good, refused, andThen}
 use Rattle.semantics.specs.Arithmetic.{prime, addM, subM, mulM, negM, signedOf}
@@ -130,3 +130,31 @@ text =
 listing-is : listing ≡ text
 unfolding listing text
 listing-is = refl
+
+-- Further examples of 01's rules. The records of n variables, columns from k on, and of the sums of the first two, three, .. of them.
+manyVars : (k n : ℕ) → List Record
+manyVars k zero = []
+manyVars k (suc n) = recordOf 1 1 0 0 k ∷ manyVars (suc k) n
+
+sumsFrom : (at next n : ℕ) → List Record
+sumsFrom at next zero = []
+sumsFrom at next (suc n) = recordOf 6 at next 1 0 ∷ sumsFrom (suc at) (suc next) n
+
+-- 17 variables are records 0 to 16, the sum of the first 16 is record 31, and of all record 32.
+seventeen : List Record
+seventeen = manyVars 0 17 ++ (recordOf 6 0 1 1 0 ∷ sumsFrom 17 2 15)
+
+fault : Record → ℕ
+unfolding slices
+fault r = recordFault prime (seventeen ++ (r ∷ [])) 33
+
+further :
+    -- the graph's constraints are sorted by node, not by source
+    (graph (sheetOf (v ∷ w ∷ recordOf 6 0 1 1 0 ∷ []) (2 ∷ 0 ∷ [])) ≡ words (v ∷ w ∷ recordOf 6 0 1 1 0 ∷ []) (0 ∷ 2 ∷ []))
+    × (slices (graph (sheetOf (v ∷ w ∷ recordOf 6 0 1 1 0 ∷ []) (2 ∷ 0 ∷ [])))
+    ≡ (0 ∷ 0 ∷ 1 ∷ 2 ∷ 1 ∷ 2 ∷ 1 ∷ 1 ∷ []) ∷ (1 ∷ 65537 ∷ []) ∷ (0 ∷ 1 ∷ 1 ∷ 1 ∷ 1 ∷ 1 ∷ []) ∷ [])
+    -- 256 working monomials pass, 272 give 12 although only 152 are left of them when they are combined
+    × (fault (recordOf 9 31 31 2 0) ≡ 0)
+    × (fault (recordOf 9 31 32 2 0) ≡ 12)
+unfolding sheetOf graph words slices fault seventeen manyVars sumsFrom
+further = (refl, refl, refl, refl)

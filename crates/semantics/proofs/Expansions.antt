@@ -54,16 +54,13 @@ module _ (p : ℕ) where
       ∙ fill-at (recordList p) [] LowRecord list-low 0 [] rs noRecord i refl w h
 
 -- A record that is not refused can be packed, if it is a leaf.
+first-fault : (a b : ℕ) → cond (eqb a 0) b a ≡ 0 → a ≡ 0
+first-fault a b = by-test (λ (n : ℕ). n ≡ 0 → a ≡ 0) (eqb a 0) (λ e h. eqb-true a 0 e) (λ e h. h)
+
 module _ (p : ℕ) (rs : List Record) where
   pub packs-fine : (i : ℕ) → recordFault p rs i ≡ 0 → packFault (recordAt rs i) ≡ 0
   unfolding recordFault
-  packs-fine i = go (eqb (packFault (recordAt rs i)) 0) refl
-    where
-      go : (t : Bool) → eqb (packFault (recordAt rs i)) 0 ≡ t
-          → cond t (workFault (working p (recordAt rs i) (nodeOf (recordAt rs i)) (listAt p rs))) (packFault (recordAt rs i)) ≡ 0
-          → packFault (recordAt rs i) ≡ 0
-      go true e h = eqb-true _ _ e
-      go false e h = h
+  packs-fine i = first-fault (packFault (recordAt rs i)) _
 
 -- An accepted walk met no refusal at any of its records.
 module _ (p : ℕ) (rs : List Record) (pool : ℕ) where

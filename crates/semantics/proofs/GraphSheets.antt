@@ -104,15 +104,18 @@ interaction-root s i c h m =
     mem-right c (s .constraints) _ (flat-mem (λ (x : Interaction). x .message ++ (x .count ∷ [])) (s .interactions) noInteraction i c h m)
 
 -- Sorting once keeps the members, and adds none.
-by-once : (P : List ℕ → Type 0) (n x : ℕ) (xs : List ℕ) → P (n ∷ x ∷ xs) → P (x ∷ insertOnce n xs) → (n ≡ x → P (x ∷ xs)) → P (insertOnce n (x ∷ xs))
+-- Where a number goes: in front, further on, or nowhere, for it is there.
+by-once : (P : List ℕ → Type 0) (n x : ℕ) (xs : List ℕ)
+    → (n < x → P (n ∷ x ∷ xs)) → (x < n → P (x ∷ insertOnce n xs)) → (n ≡ x → P (x ∷ xs)) → P (insertOnce n (x ∷ xs))
 unfolding insertOnce
 by-once P n x xs f g h =
-    by-test P (ltb n x) (λ e. f) (λ e. by-test P (ltb x n) (λ k. g) (λ k. h (omega (arith, ltb-false n x e, ltb-false x n k))))
+    by-test P (ltb n x) (λ e. f (ltb-true n x e))
+    (λ e. by-test P (ltb x n) (λ k. g (ltb-true x n k)) (λ k. h (omega (arith, ltb-false n x e, ltb-false x n k))))
 
 insert-length : (n : ℕ) (xs : List ℕ) → length (insertOnce n xs) ≤ suc (length xs)
 insert-length n xs = elim xs [
   | [] ↦ unfold insertOnce in (omega arith)
-  | x ∷ (t → ih) ↦ by-once (λ (l : List ℕ). length l ≤ suc (suc (length t))) n x t (omega arith) (omega arith) (λ e. omega arith)
+  | x ∷ (t → ih) ↦ by-once (λ (l : List ℕ). length l ≤ suc (suc (length t))) n x t (λ e. omega arith) (λ e. omega arith) (λ e. omega arith)
 ]
 
 pub sorted-length : (ns : List ℕ) → length (sortedOnce ns) ≤ length ns
@@ -123,14 +126,14 @@ sorted-length (n ∷ ns) = omega (arith, insert-length n (sortedOnce ns), sorted
 insert-new : (n : ℕ) (xs : List ℕ) → Mem n (insertOnce n xs)
 insert-new n xs = elim xs [
   | [] ↦ unfold insertOnce in (mem-here n [])
-  | x ∷ (t → ih) ↦ by-once (Mem n) n x t (mem-here n (x ∷ t)) (mem-there n x (insertOnce n t) ih)
+  | x ∷ (t → ih) ↦ by-once (Mem n) n x t (λ e. mem-here n (x ∷ t)) (λ e. mem-there n x (insertOnce n t) ih)
       (λ e. subst (λ (z : ℕ). Mem z (x ∷ t)) (sym e) (mem-here x t))
 ]
 
 insert-old : (y n : ℕ) (xs : List ℕ) → Mem y xs → Mem y (insertOnce n xs)
 insert-old y n xs = elim xs [
   | [] ↦ λ m. not-in y m
-  | x ∷ (t → ih) ↦ λ m. by-once (Mem y) n x t (mem-there y n (x ∷ t) m) (keep-mem y x t (insertOnce n t) ih m) (λ e. m)
+  | x ∷ (t → ih) ↦ λ m. by-once (Mem y) n x t (λ e. mem-there y n (x ∷ t) m) (λ e. keep-mem y x t (insertOnce n t) ih m) (λ e. m)
 ]
   where
     keep-mem : (y x : ℕ) (t u : List ℕ) → (Mem y t → Mem y u) → Mem y (x ∷ t) → Mem y (x ∷ u)
@@ -152,8 +155,8 @@ sorted-has y (n ∷ ns) m = go (mem-cases y n ns m) (sorted-has y ns)
 insert-below : (b n : ℕ) (xs : List ℕ) → n < b → Below b xs → Below b (insertOnce n xs)
 insert-below b n xs h = elim xs [
   | [] ↦ λ w. unfold insertOnce in (cons-below b n [] h w)
-  | x ∷ (t → ih) ↦ λ w. by-once (Below b) n x t (cons-below b n (x ∷ t) h w)
-      (cons-below b x (insertOnce n t) (w x (mem-here x t)) (ih (λ y m. w y (mem-there y x t m)))) (λ e. w)
+  | x ∷ (t → ih) ↦ λ w. by-once (Below b) n x t (λ e. cons-below b n (x ∷ t) h w)
+      (λ e. cons-below b x (insertOnce n t) (w x (mem-here x t)) (ih (λ y m. w y (mem-there y x t m)))) (λ e. w)
 ]
 
 pub sorted-below : (b : ℕ) (ns : List ℕ) → Below b ns → Below b (sortedOnce ns)
@@ -168,6 +171,36 @@ renamed-length f [] = refl
 renamed-length f (x ∷ xs) =
     let ih = renamed-length f xs in
     simp (length-append, length-map, ih)
+
+-- Sorted once, numbers ascend strictly.
+abbrev pub Over : ℕ → List ℕ → Type 0
+Over n [] = Unit {0}
+Over n (x ∷ xs) = (n < x) × Over n xs
+
+abbrev pub Ascends : List ℕ → Type 0
+Ascends [] = Unit {0}
+Ascends (x ∷ xs) = Over x xs × Ascends xs
+
+over-less : (m n : ℕ) (xs : List ℕ) → m < n → Over n xs → Over m xs
+over-less m n [] h k = tt
+over-less m n (x ∷ xs) h k = (omega arith, over-less m n xs h (k .1))
+
+insert-over : (m n : ℕ) (xs : List ℕ) → m < n → Over m xs → Over m (insertOnce n xs)
+insert-over m n xs h = elim xs [
+  | [] ↦ λ k. unfold insertOnce in (h, tt)
+  | x ∷ (t → ih) ↦ λ k. by-once (Over m) n x t (λ e. (h, k)) (λ e. (k .0, ih (k .1))) (λ e. k)
+]
+
+insert-ascends : (n : ℕ) (xs : List ℕ) → Ascends xs → Ascends (insertOnce n xs)
+insert-ascends n xs = elim xs [
+  | [] ↦ λ k. unfold insertOnce in (tt, tt)
+  | x ∷ (t → ih) ↦ λ k. by-once Ascends n x t (λ e. ((e, over-less n x t e (k .0)), k)) (λ e. (insert-over x n t e (k .0), ih (k .1))) (λ e. k)
+]
+
+pub sorted-ascends : (ns : List ℕ) → Ascends (sortedOnce ns)
+unfolding sortedOnce
+sorted-ascends [] = tt
+sorted-ascends (n ∷ ns) = insert-ascends n (sortedOnce ns) (sorted-ascends ns)
 
 -- Interactions renamed to numbers below b.
 renamed-each : (n b m : ℕ) (f : ℕ → ℕ) (xs : List Interaction) → Each (λ i. GoodInteraction n) m xs
@@ -231,6 +264,11 @@ module _ (p : ℕ) (big : 1 < p) (s : Sheet) (w : Inside p s) where
   few-constraints : length (graphOf p s .constraints) ≤ length (s .constraints)
   unfolding graphOf
   few-constraints = omega (arith, sorted-length (map (built p s .num) (s .constraints)), length-map (s .constraints) (built p s .num))
+
+  -- "The node numbers of the constraints are then sorted and repeats dropped."
+  pub constraints-ascend : Ascends (graphOf p s .constraints)
+  unfolding graphOf
+  constraints-ascend = sorted-ascends (map (built p s .num) (s .constraints))
 
   pub same-interactions : length (graphOf p s .interactions) ≡ length (s .interactions)
   unfolding graphOf

@@ -32,9 +32,7 @@ shown term g = record { vars = g .vars; terms = map term (g .terms) }
 headers-length : (vo to : ℕ) (gs : List Group) → length (headers vo to gs) ≡ 4 * length gs
 unfolding headers
 headers-length vo to [] = refl
-headers-length vo to (g ∷ gs) =
-    let ih = headers-length (vo + length (g .vars)) (to + length (g .terms)) gs in
-    omega arith
+headers-length vo to (g ∷ gs) = ap (λ (n : ℕ). suc (suc (suc (suc n)))) (headers-length _ _ gs) ∙ omega arith
 
 module _ (term : Item → List ℕ) (width : ℕ) (wide : (t : Item) → length (term t) ≡ width) where
   terms-length : (ts : List Item) → length (flatMap term ts) ≡ width * length ts

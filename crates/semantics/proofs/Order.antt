@@ -70,15 +70,15 @@ lex-total (x ∷ xs) (y ∷ ys) h k = go (lex-not x y xs ys h) (lex-not y x ys x
 
 pub beforeVars-irrefl : (xs : List ℕ) → beforeVars xs xs ≡ false
 unfolding beforeVars
-beforeVars-irrefl xs = lex-irrefl (length xs ∷ xs)
+beforeVars-irrefl xs = lex-irrefl _
 
 pub beforeVars-trans : (xs ys zs : List ℕ) → beforeVars xs ys ≡ true → beforeVars ys zs ≡ true → beforeVars xs zs ≡ true
 unfolding beforeVars
-beforeVars-trans xs ys zs = lex-trans (length xs ∷ xs) (length ys ∷ ys) (length zs ∷ zs)
+beforeVars-trans xs ys zs = lex-trans _ _ _
 
 pub beforeVars-total : (xs ys : List ℕ) → beforeVars xs ys ≡ false → beforeVars ys xs ≡ false → xs ≡ ys
 unfolding beforeVars
-beforeVars-total xs ys h k = let e = lex-total (length xs ∷ xs) (length ys ∷ ys) h k in cc
+beforeVars-total xs ys h k = let e = lex-total _ _ h k in cc
 
 pub beforeVars-asym : (xs ys : List ℕ) → beforeVars xs ys ≡ true → beforeVars ys xs ≡ false
 beforeVars-asym xs ys h = by-flag (beforeVars ys xs) refl

@@ -10,7 +10,7 @@ use lib.ListN.{length, getD, List·getD-eq-default}
 use borrow.Author.Tests.{eqb-true, eqb-false, eq-eqb, ne-eqb, ltb-true, ltb-false}
 use Rattle.semantics.specs.Sheet.{Record, Each}
 use Rattle.semantics.specs.Value.{Node, leaf, const, add, sub, neg, mul, nodeOf, noRecord, recordAt}
-use Rattle.semantics.specs.Walk.{children, childrenAt, member, foldLeft, visit, order, Reaches, itself, through}
+use Rattle.semantics.specs.Walk.{children, childrenAt, member, foldLeft, visit, order, Reaches, itself, through, Distinct}
 use Rattle.semantics.proofs.Basics.{by-test}
 use Rattle.semantics.proofs.Members.{Mem, mem-here, mem-there, mem-cases}
 
@@ -126,10 +126,6 @@ module _ (ch : ℕ → List ℕ) (low : (r c : ℕ) → Mem c (ch r) → c < r) 
   pub reach-le : (r x : ℕ) → Reaches ch r x → x ≤ r
   reach-le r x itself = omega arith
   reach-le r x (through {c = c} m q) = omega (arith, reach-le c x q, low r c m)
-
-abbrev pub Distinct : List ℕ → Type 0
-Distinct [] = Unit {0}
-Distinct (x ∷ s) = (member x s ≡ false) × Distinct s
 
 module _ (ch : ℕ → List ℕ) (low : (r c : ℕ) → Mem c (ch r) → c < r) where
   not-again : (n : ℕ) (s : List ℕ) (r : ℕ) → member r s ≡ false → member r (foldLeft (visit ch n) s (ch r)) ≡ false

@@ -11,7 +11,7 @@ use Rattle.semantics.specs.Sheet.{Record, Interaction, Sheet, Inside, en
 use Rattle.semantics.specs.Check.{check}
 use Rattle.semantics.specs.Packing.{unpacked}
 use Rattle.semantics.specs.Value.{Leaf, leafOf, valueAt}
-use Rattle.semantics.specs.Walk.{order}
+use Rattle.semantics.specs.Walk.{childrenAt, member, order, Reaches, Distinct}
 use Rattle.semantics.specs.Graph.{graphOf, graphRoots, built}
 use Rattle.semantics.specs.Monomial.{beforeVars}
 use Rattle.semantics.specs.Group.{Listed, listed}
@@ -90,12 +90,19 @@ fieldAt s i f = getD (interactionAt s i .message) f 0
 unfoldable pub listsFrom : (width : ℕ) → Outcome → (k : ℕ) → List Listed
 listsFrom width o k = listed width (handedBack 2 o k) (handedBack 2 o (suc k)) (handedBack 2 o (suc (suc k)))
 
+-- "records reached": an order has each of them once, and no others.
+pub record ReachedRule (rs : List Record) (roots : List ℕ) : Type 0 where
+  pub once : Distinct (order rs roots)
+  pub only : (x : ℕ) → member x (order rs roots) ≡ true → (c : ℕ) × (member c roots ≡ true) × Reaches (childrenAt rs) c x
+  pub all : (c x : ℕ) → member c roots ≡ true → Reaches (childrenAt rs) c x → member x (order rs roots) ≡ true
+
 module _ (p : ℕ) where
   -- The graph keeps every value, and is no larger than what was reached.
   pub record GraphRule (s : Sheet) (graph : List ℕ) : Type 0 where
     pub words : graph ≡ encode (graphOf p s)
     pub sheet : check p graph ≡ good (graphOf p s)
     pub shorter : length graph ≤ lengthOf s
+    pub reached : ReachedRule (s .records) (graphRoots s)
     pub nodes : length (graphOf p s .records) ≤ length (order (s .records) (graphRoots s))
     pub constraint : (A : Assignment p) (j : ℕ) → j < length (s .constraints)
         → valueAt p (A .at) (graphOf p s .records) (built p s .num (constraintAt s j)) ≡ valueAt p (A .at) (s .records) (constraintAt s j)

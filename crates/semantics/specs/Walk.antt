@@ -43,3 +43,8 @@ order rs roots = foldLeft (visit (childrenAt rs) (length rs)) [] roots
 pub data Reaches (ch : ℕ → List ℕ) : ℕ → ℕ → Type 0 where
   itself : {r : ℕ} → Reaches ch r r
   through : {r c x : ℕ} → member c (ch r) ≡ true → Reaches ch c x → Reaches ch r x
+
+-- Each once.
+abbrev pub Distinct : List ℕ → Type 0
+Distinct [] = Unit {0}
+Distinct (x ∷ s) = (member x s ≡ false) × Distinct s
