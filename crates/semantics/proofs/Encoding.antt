@@ -131,12 +131,15 @@ passes-at (s ∷ ts) (v ∷ us) zero t u h l = and-true (s v) (passes ts us) h .
 passes-at (s ∷ ts) (v ∷ us) (suc i) t u h l = passes-at ts us i t u (and-true (s v) (passes ts us) h .1) (omega arith)
 
 -- Records as parts: with a kind from 1 to 9 there are five tests.
+pub row-length : (kind : ℕ) → 1 ≤ kind → kind ≤ 9 → length (row kind) ≡ 4
+unfolding row table
+row-length kind l h =
+    each-at (λ i (r : List ℕ). length r ≡ 4) 0 table (kind - 1) []
+    (refl, (refl, (refl, (refl, (refl, (refl, (refl, (refl, (refl, tt))))))))) (omega arith)
+
 record-tests : (p own : ℕ) (ws : List ℕ) → 1 ≤ getD ws 0 0 → getD ws 0 0 ≤ 9 → length (recordTests p own ws) ≡ 5
-unfolding recordTests row table
-record-tests p own ws l h =
-    ap suc (length-map (row (getD ws 0 0)) (fits p own (getD ws 1 0))
-    ∙ each-at (λ i (r : List ℕ). length r ≡ 4) 0 table (getD ws 0 0 - 1) []
-    (refl, (refl, (refl, (refl, (refl, (refl, (refl, (refl, (refl, tt))))))))) (omega arith))
+unfolding recordTests
+record-tests p own ws l h = ap suc (length-map (row (getD ws 0 0)) (fits p own (getD ws 1 0)) ∙ row-length (getD ws 0 0) l h)
 
 record-only : (p own : ℕ) (us vs : List ℕ) → passes (recordTests p own (us ++ vs)) us ≡ true → (r : Record) × (us ≡ recordWords r)
 unfolding passes recordTests recordWords readRecord

@@ -1,20 +1,24 @@
 -- Laws of the scan, for the code that judges a sheet word by word.
 use mathlib.Core.Path.{_≡_, refl, sym, ap, subst, _∙_}
-use mathlib.Core.Bool.{Bool, true, false, cond, true≢false, _||_}
+use mathlib.Core.Bool.{Bool, true, false, cond, true≢false, _&&_, _||_}
 use mathlib.Core.List.{List, [], _∷_, _++_, map}
 use Prim.Native.Nat.{ℕ, zero, suc, _+_, _*_, _-_, _≤_, _<_}
+use native.Mathlib.Nat.{add-zero}
 use native.Mathlib.Numerals.{add-one}
 use native.Mathlib.Omega.{arith}
 use lib.Dec.{eqb, leb, ltb}
 use lib.ListN.{length, getD, drop, replicate, drop-of-length-le}
-use lib.Seq.{drop-cons, drop-length}
-use borrow.Author.Tests.{eq-eqb, ne-eqb}
-use Rattle.semantics.specs.Sheet.{fits, row, table, recordTests, names}
+use lib.Seq.{drop-cons, getD-drop}
+use borrow.Author.Tests.{eq-eqb, ne-eqb, leb-true, lt-ltb, le-ltb}
+use Rattle.semantics.specs.Sheet.{fits, row, table, recordTests, interactionTests, names}
 use Rattle.semantics.specs.Check.{Scan, reading, stopped, scanWords, scanPart, scanParts, scanSpare}
+use Rattle.semantics.proofs.Basics.{and-true}
+use Rattle.semantics.proofs.Lists.{one-by-one}
+use Rattle.semantics.proofs.Encoding.{row-length}
 use Rattle.sheet.specs.declared.Refusal.{Refusal}
 use Rattle.sheet.specs.declared.scan.Scanned.{Scanned}
 use Rattle.sheet.specs.declared.scan.Scanned.the-variants.{Next, Stop}
-use Rattle.sheet.specs.Scans.{scanOf, Ends}
+use Rattle.sheet.specs.Scans.{scanOf, Ends, Reaches}
 
 -- How a word is used, where it is known.
 module _ (p own a w : ℕ) where
@@ -91,3 +95,140 @@ row-more n f row j s h =
 pub row-done : (n : ℕ) (f : ℕ → ℕ → Bool) (row : List ℕ) (j : ℕ) (s whole : Scan) → length row ≤ j → scanWords n (map f (drop j row)) s ≡ whole → s ≡ whole
 unfolding scanWords
 row-done n f row j s whole h e = ap (λ (r : List ℕ). scanWords n (map f r) s) (sym (drop-of-length-le row h)) ∙ e
+
+-- A row has four uses.
+pub row-four : (kind : ℕ) → 1 ≤ kind → kind ≤ 9 → row kind ≡ getD (row kind) 0 0 ∷ getD (row kind) 1 0 ∷ getD (row kind) 2 0 ∷ getD (row kind) 3 0 ∷ []
+row-four kind l h =
+    one-by-one 4 0 (row kind) (omega (arith, row-length kind l h))
+    ∙ ap (λ (r : List ℕ). getD (row kind) 0 0 ∷ getD (row kind) 1 0 ∷ getD (row kind) 2 0 ∷ getD (row kind) 3 0 ∷ r)
+    (drop-of-length-le (row kind) {i = 4} (omega (arith, row-length kind l h)))
+
+pub kind-true : (k : ℕ) → leb 1 k && leb k 9 ≡ true → (1 ≤ k) × (k ≤ 9)
+kind-true k e = let t = and-true (leb 1 k) (leb k 9) e in (leb-true _ _ (t .0), leb-true _ _ (t .1))
+
+-- A record of the words `ws` from `at` on.
+module _ (p own : ℕ) (ws : List ℕ) (at : ℕ) where
+  pub record-cut : at ≤ length ws → length ws ≤ at → stopped 4 at ≡ scanPart 5 (recordTests p own) (reading at (drop at ws))
+  unfolding scanPart recordTests
+  record-cut h k = scan-cut 5 _ _ ws at h k
+
+  module _ (h : at < length ws) (kind : ℕ) (e : kind ≡ getD ws at 0) where
+    first-word : getD (drop at ws) 0 0 ≡ kind
+    first-word = getD-drop at ws 0 0 ∙ ap (λ (i : ℕ). getD ws i 0) (add-zero at) ∙ sym e
+
+    pub record-kind : leb 1 kind && leb kind 9 ≡ false → stopped 5 at ≡ scanPart 5 (recordTests p own) (reading at (drop at ws))
+    unfolding scanPart recordTests
+    record-kind f = scan-fails 5 _ _ ws at h (ap (λ (w : ℕ). leb 1 w && leb w 9) (sym e) ∙ f)
+
+    -- What is left once the kind is read: the words a to d, by its row.
+    pub record-rest : leb 1 kind && leb kind 9 ≡ true
+        → scanWords 5 (map (fits p own (getD ws (at + 1) 0)) (row kind)) (reading (at + 1) (drop (at + 1) ws)) ≡ scanPart 5 (recordTests p own) (reading at (drop at ws))
+    unfolding scanPart recordTests
+    record-rest f =
+        (λ i. scanWords 5 (map (fits p own (sym (getD-drop at ws 1 0) i)) (row (sym first-word i))) (reading (at + 1) (drop (at + 1) ws)))
+        ∙ scan-passes 5 _ _ ws at h (ap (λ (w : ℕ). leb 1 w && leb w 9) (sym e) ∙ f)
+
+    pub record-short : leb 1 kind && leb kind 9 ≡ true → length ws ≤ at + 1 → stopped 4 (at + 1) ≡ scanPart 5 (recordTests p own) (reading at (drop at ws))
+    record-short f k =
+        let b = kind-true kind f in
+        scan-cut 5 _ _ ws (at + 1) (omega arith) k
+        ∙ ap (λ (r : List ℕ). scanWords 5 (map (fits p own (getD ws (at + 1) 0)) r) (reading (at + 1) (drop (at + 1) ws))) (sym (row-four kind (b .0) (b .1)))
+        ∙ record-rest f
+
+-- Parts that are left: `own` of `count` are done.
+pub parts-stopped : (n : ℕ) (tests : ℕ → List ℕ → List (ℕ → Bool)) (count own m k : ℕ) → scanParts n tests count own (stopped m k) ≡ stopped m k
+unfolding scanParts scanPart
+parts-stopped n tests zero own m k = refl
+parts-stopped n tests (suc count) own m k = parts-stopped n tests count (suc own) m k
+
+pub parts-more : (n : ℕ) (tests : ℕ → List ℕ → List (ℕ → Bool)) (count own : ℕ) (s : Scan) → own < count
+    → scanParts n tests (count - (own + 1)) (own + 1) (scanPart n (tests own) s) ≡ scanParts n tests (count - own) own s
+unfolding scanParts
+parts-more n tests count own s h =
+    let m : count - own ≡ suc (count - (own + 1)) = omega arith in
+    rw (m, add-one)
+
+pub parts-done : (n : ℕ) (tests : ℕ → List ℕ → List (ℕ → Bool)) (count own : ℕ) (s whole : Scan) → count ≤ own
+    → scanParts n tests (count - own) own s ≡ whole → s ≡ whole
+unfolding scanParts
+parts-done n tests count own s whole h e =
+    let m : count - own ≡ 0 = omega arith in
+    ap (λ (k : ℕ). scanParts n tests k own s) (sym m) ∙ e
+
+-- The same for words that all have one test: `k` of `count` are done.
+module _ (n : ℕ) (t : ℕ → Bool) (ws : List ℕ) (count k i : ℕ) (whole : Scan) (h : k < count)
+    (e : scanWords n (replicate (count - k) t) (reading i (drop i ws)) ≡ whole) where
+  left : count - k ≡ suc (count - (k + 1))
+  left = omega arith
+
+  pub same-cut : i ≤ length ws → length ws ≤ i → stopped 4 i ≡ whole
+  same-cut a b = scan-cut n t (replicate (count - (k + 1)) t) ws i a b ∙ ap (λ (m : ℕ). scanWords n (replicate m t) (reading i (drop i ws))) (sym left) ∙ e
+
+  pub same-fails : i < length ws → t (getD ws i 0) ≡ false → stopped n i ≡ whole
+  same-fails a b = scan-fails n t (replicate (count - (k + 1)) t) ws i a b ∙ ap (λ (m : ℕ). scanWords n (replicate m t) (reading i (drop i ws))) (sym left) ∙ e
+
+  pub same-passes : i < length ws → t (getD ws i 0) ≡ true → scanWords n (replicate (count - (k + 1)) t) (reading (i + 1) (drop (i + 1) ws)) ≡ whole
+  same-passes a b = scan-passes n t (replicate (count - (k + 1)) t) ws i a b ∙ ap (λ (m : ℕ). scanWords n (replicate m t) (reading i (drop i ws))) (sym left) ∙ e
+
+pub same-done : (n : ℕ) (t : ℕ → Bool) (count k : ℕ) (s whole : Scan) → count ≤ k → scanWords n (replicate (count - k) t) s ≡ whole → s ≡ whole
+unfolding scanWords
+same-done n t count k s whole h e =
+    let m : count - k ≡ 0 = omega arith in
+    ap (λ (j : ℕ). scanWords n (replicate j t) s) (sym m) ∙ e
+
+pub names-true : (n w x : ℕ) → x ≡ w → x < n → names n w ≡ true
+unfolding names
+names-true n w x e h = lt-ltb w n (omega arith)
+
+pub names-false : (n w x : ℕ) → x ≡ w → n ≤ x → names n w ≡ false
+unfolding names
+names-false n w x e h = le-ltb w n (omega arith)
+
+-- One step of a run of tests: it stops the whole, or the rest of the tests goes on from the next word.
+module _ (n : ℕ) (t : ℕ → Bool) (ts : List (ℕ → Bool)) (ws : List ℕ) (r : Scanned) (s whole : Scan)
+    (e : scanOf ws r ≡ scanWords n (t ∷ []) s) (f : scanWords n (t ∷ ts) s ≡ whole) where
+  pub words-stop : (v : Refusal) → r ≡ Stop v → scanOf ws r ≡ whole
+  words-stop = step-stops (scanWords n ts) whole ws r (scanWords n (t ∷ []) s) e (sym (scan-more n t ts s) ∙ f) (scan-stopped n ts)
+
+  pub words-go : (m : ℕ) → r ≡ Next m → scanWords n ts (reading m (drop m ws)) ≡ whole
+  words-go = step-goes (scanWords n ts) whole ws r (scanWords n (t ∷ []) s) e (sym (scan-more n t ts s) ∙ f)
+
+pub step-at : (k : ℕ) (r : Scanned) (n : ℕ) → Reaches k r → r ≡ Next n → n ≡ k
+step-at k r n h q = subst (Reaches k) q h
+
+-- The tests of an interaction, in the order in which its words are judged.
+pub interaction-tests : (n : ℕ) (ws : List ℕ) (at : ℕ)
+    → scanWords 6 ((λ w. leb w 65535) ∷ (λ w. true) ∷ names n ∷ (λ w. leb w 63) ∷ replicate (getD ws (at + 3) 0) (names n)) (reading at (drop at ws))
+    ≡ scanPart 6 (interactionTests n) (reading at (drop at ws))
+unfolding scanPart interactionTests
+interaction-tests n ws at =
+    ap (λ (k : ℕ). scanWords 6 ((λ w. leb w 65535) ∷ (λ w. true) ∷ names n ∷ (λ w. leb w 63) ∷ replicate k (names n)) (reading at (drop at ws)))
+    (sym (getD-drop at ws 3 0))
+
+-- Spare words: `room` more may stand.
+module _ (ws : List ℕ) (i room : ℕ) (whole : Scan) (e : scanSpare room (reading i (drop i ws)) ≡ whole) where
+  pub spare-full : i < length ws → room ≡ 0 → stopped 7 i ≡ whole
+  unfolding scanSpare
+  spare-full h z = sym (ap (λ (l : List ℕ). scanSpare 0 (reading i l)) (drop-cons ws i 0 h)) ∙ ap (λ (k : ℕ). scanSpare k (reading i (drop i ws))) (sym z) ∙ e
+
+  pub spare-word : (room′ : ℕ) → room ≡ suc room′ → i < length ws → (getD ws i 0 ≡ 0 → ⊥) → stopped 7 i ≡ whole
+  unfolding scanSpare
+  spare-word m z h k =
+      sym (ap (λ (l : List ℕ). scanSpare (suc m) (reading i l)) (drop-cons ws i 0 h) ∙ rw (ne-eqb (getD ws i 0) 0 k))
+      ∙ ap (λ (q : ℕ). scanSpare q (reading i (drop i ws))) (sym z) ∙ e
+
+  pub spare-zero : (room′ : ℕ) → room ≡ suc room′ → i < length ws → getD ws i 0 ≡ 0 → scanSpare room′ (reading (i + 1) (drop (i + 1) ws)) ≡ whole
+  unfolding scanSpare
+  spare-zero m z h k =
+      sym (ap (λ (l : List ℕ). scanSpare (suc m) (reading i l)) (drop-cons ws i 0 h) ∙ rw (eq-eqb (getD ws i 0) 0 k, add-one))
+      ∙ ap (λ (q : ℕ). scanSpare q (reading i (drop i ws))) (sym z) ∙ e
+
+  pub spare-end : length ws ≤ i → reading i (drop i ws) ≡ whole
+  unfolding scanSpare
+  spare-end h = ap (reading i) (drop-of-length-le ws h) ∙ sym (at-end room) ∙ ap (λ (l : List ℕ). scanSpare room (reading i l)) (sym (drop-of-length-le ws h)) ∙ e
+    where
+      at-end : (k : ℕ) → scanSpare k (reading i []) ≡ reading i []
+      at-end k = refl
+
+pub stop-reaches : (k : ℕ) (r : Scanned) (v : Refusal) → r ≡ Stop v → Reaches k r
+stop-reaches k r v q = subst (Reaches k) (sym q) tt

@@ -1,4 +1,5 @@
 -- What the answers of the check mean.
+use mathlib.Core.Path.{_≡_}
 use mathlib.Core.List.{List}
 use Prim.Native.Nat.{ℕ, _+_, _*_, _≤_}
 use lib.ListN.{length, drop}
@@ -21,6 +22,11 @@ scanOf ws (Stop r) = stopped (r .number) (r .place)
 abbrev pub Ends : List ℕ → Scanned → Type 0
 Ends ws (Next i) = i ≤ length ws
 Ends ws (Stop r) = Unit {0}
+
+-- The next word is the one at k.
+abbrev pub Reaches : ℕ → Scanned → Type 0
+Reaches k (Next i) = i ≡ k
+Reaches k (Stop r) = Unit {0}
 
 -- 01's number and place, or the counts of the sheet.
 abbrev pub headOf : Sheet → Head
