@@ -267,29 +267,38 @@ scan-spare-only (suc room) (reading i (w ∷ ws)) j vs h =
     let e : w ≡ 0 = eqb-true w 0 (g .0) in
     (suc (r .0), i, omega arith, λ k. reading i (e k ∷ rest (r .3 k)))
 
+-- A sheet inside the limits is read over up to its interactions, and up to what stands behind it.
+module _ (p : ℕ) (s : Sheet) (h : Inside p s) (vs : List ℕ) where
+  pub scan-to-interactions : scanWords 6 (replicate (length (s .constraints)) (names (length (s .records))))
+      (scanParts 5 (recordTests p) (length (s .records)) 0 (scanWords 3 headTests (reading 0 (encode s ++ vs))))
+      ≡ reading (4 + 5 * length (s .records) + length (s .constraints)) (flatMap interactionWords (s .interactions) ++ vs)
+  unfolding headWords
+  scan-to-interactions =
+      ap (λ (ws : List ℕ). scanC (scanR (scanWords 3 headTests (reading 0 ws)))) (words-then s vs)
+      ∙ ap (λ (t : Scan). scanC (scanR t)) (scan-words 3 headTests (headWords s) _ 0 (h .head))
+      ∙ ap scanC (scan-records p 5 0 (s .records) _ _ (h .records))
+      ∙ scan-words 6 (replicate (length (s .constraints)) (names (length (s .records)))) (s .constraints) _ _ (h .constraints)
+      ∙ ap (λ (n : ℕ). reading n (flatMap interactionWords (s .interactions) ++ vs)) (omega (arith, records-length (s .records)))
+    where
+      scanR : Scan → Scan
+      scanR t = scanParts 5 (recordTests p) (length (s .records)) 0 t
+
+      scanC : Scan → Scan
+      scanC t = scanWords 6 (replicate (length (s .constraints)) (names (length (s .records)))) t
+
+  pub scan-to-end : scanParts 6 (λ own. interactionTests (length (s .records))) (length (s .interactions)) 0
+      (scanWords 6 (replicate (length (s .constraints)) (names (length (s .records))))
+      (scanParts 5 (recordTests p) (length (s .records)) 0 (scanWords 3 headTests (reading 0 (encode s ++ vs)))))
+      ≡ reading (lengthOf s) vs
+  scan-to-end =
+      ap (scanParts 6 (λ own. interactionTests (length (s .records))) (length (s .interactions)) 0) scan-to-interactions
+      ∙ scan-interactions (length (s .records)) 6 0 (s .interactions) vs _ (h .interactions)
+      ∙ ap (λ (n : ℕ). reading n vs) (omega (arith, sheet-length s))
+
 -- A sheet inside the limits, with at most 126 zeros behind it, is read to the end.
 pub scan-sheet : (p : ℕ) (s : Sheet) (k : ℕ) → Inside p s → k ≤ 126 → scanSheet p (encode s ++ replicate k 0) ≡ reading (lengthOf s + k) []
-unfolding scanSheet headWords
-scan-sheet p s k h l =
-    ap (scanSheet p) (words-then s (replicate k 0))
-    ∙ ap (λ (t : Scan). scanI (scanC (scanR t))) (scan-words 3 headTests (headWords s) _ 0 (h .head))
-    ∙ ap (λ (t : Scan). scanI (scanC t)) (scan-records p 5 0 (s .records) _ _ (h .records))
-    ∙ ap scanI (scan-words 6 (replicate (length (s .constraints)) (names E)) (s .constraints) _ _ (h .constraints))
-    ∙ ap (scanSpare 126) (scan-interactions E 6 0 (s .interactions) _ _ (h .interactions))
-    ∙ scan-spare 126 k _ l
-    ∙ ap (λ (n : ℕ). reading n []) (omega (arith, sheet-length s, records-length (s .records)))
-  where
-    E : ℕ
-    E = length (s .records)
-
-    scanR : Scan → Scan
-    scanR t = scanParts 5 (recordTests p) E 0 t
-
-    scanC : Scan → Scan
-    scanC t = scanWords 6 (replicate (length (s .constraints)) (names E)) t
-
-    scanI : Scan → Scan
-    scanI t = scanSpare 126 (scanParts 6 (λ own. interactionTests E) (length (s .interactions)) 0 t)
+unfolding scanSheet encode headWords
+scan-sheet p s k h l = ap (scanSpare 126) (scan-to-end p s h (replicate k 0)) ∙ scan-spare 126 k _ l
 
 pub check-complete : (p : ℕ) (s : Sheet) (k : ℕ) → Inside p s → k ≤ 126 → check p (encode s ++ replicate k 0) ≡ good s
 unfolding check judged

@@ -10,15 +10,20 @@ use lib.Dec.{eqb, leb, ltb}
 use lib.ListN.{length, getD, drop, replicate, drop-of-length-le}
 use lib.Seq.{drop-cons, getD-drop}
 use borrow.Author.Tests.{eq-eqb, ne-eqb, leb-true, lt-ltb, le-ltb}
-use Rattle.semantics.specs.Sheet.{fits, row, table, recordTests, interactionTests, names}
-use Rattle.semantics.specs.Check.{Scan, reading, stopped, scanWords, scanPart, scanParts, scanSpare}
+use Rattle.semantics.specs.Sheet.{Inside, encode, headWords, lengthOf, fits, row, table, recordTests, interactionTests, headTests, names}
+use Rattle.semantics.specs.Answer.{Answer, good, refused}
+use Rattle.semantics.specs.Sheet as semantics
+use Rattle.semantics.specs.Check.{Scan, reading, stopped, scanWords, scanPart, scanParts, scanSpare, scanSheet, readSheet, judged, check}
 use Rattle.semantics.proofs.Basics.{and-true}
 use Rattle.semantics.proofs.Lists.{one-by-one}
-use Rattle.semantics.proofs.Encoding.{row-length}
+use Rattle.semantics.proofs.Encoding.{row-length, check-sound, scan-to-interactions, scan-to-end}
 use Rattle.sheet.specs.declared.Refusal.{Refusal}
+use Rattle.sheet.specs.declared.Head.{Head}
+use Rattle.sheet.specs.declared.Checked.{Checked}
+use Rattle.sheet.specs.declared.Checked.the-variants.{Sheet}
 use Rattle.sheet.specs.declared.scan.Scanned.{Scanned}
 use Rattle.sheet.specs.declared.scan.Scanned.the-variants.{Next, Stop}
-use Rattle.sheet.specs.Scans.{scanOf, Ends, Reaches}
+use Rattle.sheet.specs.Scans.{scanOf, Ends, Reaches, refusedOf, checkedOf, headOf}
 
 -- How a word is used, where it is known.
 module _ (p own a w : ℕ) where
@@ -232,3 +237,77 @@ module _ (ws : List ℕ) (i room : ℕ) (whole : Scan) (e : scanSpare room (read
 
 pub stop-reaches : (k : ℕ) (r : Scanned) (v : Refusal) → r ≡ Stop v → Reaches k r
 stop-reaches k r v q = subst (Reaches k) (sym q) tt
+
+-- Where a scan goes on.
+abbrev indexOf : Scan → ℕ
+indexOf (reading i ws) = i
+indexOf (stopped n k) = 0
+
+-- The stages of the sheet check: what follows the head, the records, the constraints, the interactions.
+module _ (p : ℕ) (ws : List ℕ) where
+  abbrev pub afterInteractions : Scan → Scan
+  afterInteractions t = scanSpare 126 t
+
+  abbrev pub afterConstraints : Scan → Scan
+  afterConstraints t = scanSpare 126 (scanParts 6 (λ own. interactionTests (getD ws 1 0)) (getD ws 3 0) 0 t)
+
+  abbrev pub afterRecords : Scan → Scan
+  afterRecords t = afterConstraints (scanWords 6 (replicate (getD ws 2 0) (names (getD ws 1 0))) t)
+
+  abbrev pub afterHead : Scan → Scan
+  afterHead t = afterRecords (scanParts 5 (recordTests p) (getD ws 1 0) 0 t)
+
+  pub from-head : afterHead (scanWords 3 headTests (reading 0 ws)) ≡ scanSheet p ws
+  unfolding scanSheet
+  from-head = refl
+
+  spare-stopped : (m k : ℕ) → scanSpare 126 (stopped m k) ≡ stopped m k
+  unfolding scanSpare
+  spare-stopped m k = refl
+
+  pub stays₁ : (m k : ℕ) → afterInteractions (stopped m k) ≡ stopped m k
+  stays₁ m k = spare-stopped m k
+
+  pub stays₂ : (m k : ℕ) → afterConstraints (stopped m k) ≡ stopped m k
+  stays₂ m k = ap (scanSpare 126) (parts-stopped 6 (λ own. interactionTests (getD ws 1 0)) (getD ws 3 0) 0 m k) ∙ stays₁ m k
+
+  pub stays₃ : (m k : ℕ) → afterRecords (stopped m k) ≡ stopped m k
+  stays₃ m k = ap afterConstraints (scan-stopped 6 (replicate (getD ws 2 0) (names (getD ws 1 0))) m k) ∙ stays₂ m k
+
+  pub stays₄ : (m k : ℕ) → afterHead (stopped m k) ≡ stopped m k
+  stays₄ m k = ap afterRecords (parts-stopped 5 (recordTests p) (getD ws 1 0) 0 m k) ∙ stays₃ m k
+
+  -- A scan that stopped refuses the sheet; one that went to the end accepts it.
+  pub refuses : (r : Scanned) (v : Refusal) (x : Checked) → r ≡ Stop v → scanOf ws r ≡ scanSheet p ws → x ≡ refusedOf r → x ≡ checkedOf (check p ws)
+  unfolding check judged
+  refuses r v x q e h = h ∙ ap refusedOf q ∙ ap (λ (t : Scan). checkedOf (judged t (readSheet ws))) (sym (ap (scanOf ws) q) ∙ e)
+
+  module _ (n : ℕ) (r : Scanned) (q : r ≡ Next n) (e : scanOf ws r ≡ scanSheet p ws) where
+    accepts : check p ws ≡ good (readSheet ws)
+    unfolding check judged
+    accepts = ap (λ (t : Scan). judged t (readSheet ws)) (sym e ∙ ap (scanOf ws) q)
+
+    -- The words are those of the sheet and zeros, so the head and the places are the sheet's.
+    module _ (b : ℕ) (at-b : reading b (drop b ws) ≡ scanWords 6 (replicate (getD ws 2 0) (names (getD ws 1 0))) (scanParts 5 (recordTests p) (getD ws 1 0) 0 (scanWords 3 headTests (reading 0 ws))))
+        (l : ℕ) (at-l : reading l (drop l ws) ≡ scanParts 6 (λ own. interactionTests (getD ws 1 0)) (getD ws 3 0) 0 (reading b (drop b ws))) where
+      pub is-head : Sheet (record { records = getD ws 1 0; constraints = getD ws 2 0; interactions = getD ws 3 0; start = b; words = l }) ≡ checkedOf (check p ws)
+      is-head =
+          let c = check-sound p ws (readSheet ws) accepts in
+          go (readSheet ws) (c .0) (c .1 .0) (c .1 .2)
+          ∙ ap checkedOf (sym accepts)
+        where
+          go : (s : semantics.Sheet) → Inside p s → (k : ℕ) → ws ≡ encode s ++ replicate k 0
+              → Sheet (record { records = getD ws 1 0; constraints = getD ws 2 0; interactions = getD ws 3 0; start = b; words = l }) ≡ Sheet (headOf s)
+          go s h k w =
+              let zs : List ℕ = replicate k 0 in
+              let c₁ : getD ws 1 0 ≡ length (s .records) = ap (λ (u : List ℕ). getD u 1 0) w ∙ unfold encode headWords in refl in
+              let c₂ : getD ws 2 0 ≡ length (s .constraints) = ap (λ (u : List ℕ). getD u 2 0) w ∙ unfold encode headWords in refl in
+              let c₃ : getD ws 3 0 ≡ length (s .interactions) = ap (λ (u : List ℕ). getD u 3 0) w ∙ unfold encode headWords in refl in
+              let eb : b ≡ 4 + 5 * length (s .records) + length (s .constraints) =
+              ap indexOf (at-b ∙ (λ i. scanWords 6 (replicate (c₂ i) (names (c₁ i))) (scanParts 5 (recordTests p) (c₁ i) 0 (scanWords 3 headTests (reading 0 (w i)))))
+              ∙ scan-to-interactions p s h zs) in
+              let el : l ≡ lengthOf s =
+              ap indexOf (at-l ∙ ap (scanParts 6 (λ own. interactionTests (getD ws 1 0)) (getD ws 3 0) 0) at-b
+              ∙ (λ i. scanParts 6 (λ own. interactionTests (c₁ i)) (c₃ i) 0 (scanWords 6 (replicate (c₂ i) (names (c₁ i))) (scanParts 5 (recordTests p) (c₁ i) 0 (scanWords 3 headTests (reading 0 (w i))))))
+              ∙ scan-to-end p s h zs) in
+              λ i. Sheet (record { records = c₁ i; constraints = c₂ i; interactions = c₃ i; start = eb i; words = el i })

@@ -41,3 +41,8 @@ headOf s = record {
 abbrev pub checkedOf : Answer Sheet → Checked
 checkedOf (good s) = checked.Sheet (headOf s)
 checkedOf (refused n k) = checked.Refused (record { number = n; place = k })
+
+-- The refusal of a step that stopped.
+abbrev pub refusedOf : Scanned → Checked
+refusedOf (Stop r) = checked.Refused r
+refusedOf (Next i) = checked.Refused (record { number = 0; place = i })

@@ -4,7 +4,9 @@ ghost use Rattle.semantics.specs.Arithmetic.{prime};
 ghost use Rattle.semantics.specs.Check.{check};
 ghost use Rattle.sheet.specs.Scans.{checkedOf};
 
-pub mod scan;
+mod scan;
+
+use scan::Scanned;
 
 // A refusal by its number, with its place.
 pub struct Refusal {
@@ -24,4 +26,40 @@ pub struct Head {
 pub enum Checked {
     Sheet(Head),
     Refused(Refusal),
+}
+
+// The sheet check: words are read from the front and the first that fails decides.
+pub fn check_sheet(s: &[u32]) -> Checked
+    ensures { λ r. ⌜ r ≡ checkedOf (check prime (now (s .entry))) ⌝ }
+{
+    let head = scan::check_head(s);
+    let Scanned::Next(first) = head else {
+        return scan::refused(head);
+    };
+    let records = scan::wide(s[1]);
+    let constraints = scan::wide(s[2]);
+    let interactions = scan::wide(s[3]);
+    let all_records = scan::check_records(s, first, records);
+    let Scanned::Next(names) = all_records else {
+        return scan::refused(all_records);
+    };
+    let all_constraints = scan::check_names(s, names, constraints, records);
+    let Scanned::Next(start) = all_constraints else {
+        return scan::refused(all_constraints);
+    };
+    let all_interactions = scan::check_interactions(s, start, interactions, records);
+    let Scanned::Next(words) = all_interactions else {
+        return scan::refused(all_interactions);
+    };
+    let spare = scan::check_spare(s, words);
+    let Scanned::Next(_end) = spare else {
+        return scan::refused(spare);
+    };
+    Checked::Sheet(Head {
+        records: records,
+        constraints: constraints,
+        interactions: interactions,
+        start: start,
+        words: words,
+    })
 }

@@ -8,7 +8,8 @@ ghost use lib.ListN.{length, drop, replicate};
 ghost use Rattle.semantics.specs.Arithmetic.{prime};
 ghost use Rattle.semantics.specs.Sheet.{fits, row, recordTests, interactionTests, headTests, names};
 ghost use Rattle.semantics.specs.Check.{reading, scanWords, scanPart, scanParts, scanSpare};
-ghost use Rattle.sheet.specs.Scans.{scanOf, Ends, Reaches};
+ghost use Rattle.sheet.specs.Scans.{scanOf, Ends, Reaches, refusedOf};
+use crate::Checked;
 use crate::Refusal;
 
 const PRIME: u32 = 2013265921;
@@ -32,7 +33,7 @@ pub enum Scanned {
     Stop(Refusal),
 }
 
-fn wide(w: u32) -> usize
+pub fn wide(w: u32) -> usize
     ensures { λ r. ⌜ r ≡ w ⌝ }
 {
     w as usize
@@ -148,7 +149,7 @@ fn check_record(s: &[u32], at: usize, own: usize) -> Scanned
 }
 
 // The records, from the front.
-fn check_records(s: &[u32], at: usize, count: usize) -> Scanned
+pub fn check_records(s: &[u32], at: usize, count: usize) -> Scanned
     requires { ⌜ at ≤ length (now s) ⌝ }
     ensures { λ r. ⌜ (scanOf (now (s .entry)) r ≡ scanParts 5 (recordTests prime) count 0 (reading at (drop at (now (s .entry))))) × Ends (now (s .entry)) r ⌝ }
 {
@@ -166,7 +167,7 @@ fn check_records(s: &[u32], at: usize, count: usize) -> Scanned
 }
 
 // Words that name records, of which there are `records`.
-fn check_names(s: &[u32], at: usize, count: usize, records: usize) -> Scanned
+pub fn check_names(s: &[u32], at: usize, count: usize, records: usize) -> Scanned
     requires { ⌜ at ≤ length (now s) ⌝ }
     ensures { λ r. ⌜ (scanOf (now (s .entry)) r ≡ scanWords 6 (replicate count (names records)) (reading at (drop at (now (s .entry))))) × Ends (now (s .entry)) r × Reaches (at + count) r ⌝ }
 {
@@ -250,7 +251,7 @@ fn check_interaction(s: &[u32], at: usize, records: usize) -> Scanned
 }
 
 // The interactions, from the front.
-fn check_interactions(s: &[u32], at: usize, count: usize, records: usize) -> Scanned
+pub fn check_interactions(s: &[u32], at: usize, count: usize, records: usize) -> Scanned
     requires { ⌜ at ≤ length (now s) ⌝ }
     ensures { λ r. ⌜ (scanOf (now (s .entry)) r ≡ scanParts 6 (λ own. interactionTests records) count 0 (reading at (drop at (now (s .entry))))) × Ends (now (s .entry)) r ⌝ }
 {
@@ -268,7 +269,7 @@ fn check_interactions(s: &[u32], at: usize, count: usize, records: usize) -> Sca
 }
 
 // The spare words: at most 126, all zero.
-fn check_spare(s: &[u32], at: usize) -> Scanned
+pub fn check_spare(s: &[u32], at: usize) -> Scanned
     requires { ⌜ at ≤ length (now s) ⌝ }
     ensures { λ r. ⌜ scanOf (now (s .entry)) r ≡ scanSpare 126 (reading at (drop at (now (s .entry)))) ⌝ }
 {
@@ -313,7 +314,7 @@ fn check_form(s: &[u32]) -> Scanned
 }
 
 // The head: form, records, constraints, interactions.
-fn check_head(s: &[u32]) -> Scanned
+pub fn check_head(s: &[u32]) -> Scanned
     ensures { λ r. ⌜ (scanOf (now (s .entry)) r ≡ scanWords 3 headTests (reading 0 (now (s .entry)))) × Ends (now (s .entry)) r × Reaches 4 r ⌝ }
 {
     let form = check_form(s);
@@ -329,4 +330,17 @@ fn check_head(s: &[u32]) -> Scanned
         return constraints;
     };
     check_limit(s, three, 3, 1024)
+}
+
+// The refusal of a step that stopped.
+pub fn refused(r: Scanned) -> Checked
+    ensures { λ x. ⌜ x ≡ refusedOf r ⌝ }
+{
+    match r {
+        Scanned::Stop(v) => Checked::Refused(v),
+        Scanned::Next(at) => Checked::Refused(Refusal {
+            number: 0,
+            place: at,
+        }),
+    }
 }
