@@ -18,6 +18,7 @@ pub mod Expansions
 pub mod Grouping
 pub mod Packed
 pub mod Calls
+pub mod Access
 pub mod Blocks
 pub mod Acceptance
 pub mod Demands
