@@ -1,0 +1,32 @@
+use borrow.Author.Needs.{needs}
+use mathlib.Core.Path.{sym, ap, _∙_}
+use Rattle.semantics.specs.Sheet.{recordOf}
+use Rattle.packed_var.proofs.Laws.{packedC, pack-fields}
+use Rattle.packed_var.proofs.suhkelva_pack.Statement.{statement}
+use Rattle.packed_var.proofs.suhkelva_pack.Tie as tie
+
+pack-requires : tie.Need-pack-requires
+pack-requires c κs = search needs
+
+enum-known-v : tie.Need-enum-known-v
+enum-known-v c = search needs
+
+enum-known-r : tie.Need-enum-known-r
+enum-known-r c = search needs
+
+returns : tie.Need-returns
+returns c =
+    let args = c .before .before .before .before .args in
+    let pack = c .before .before .before .pack in
+    ap packedC (sym (c .before .v .given .1))
+    ∙ pack-fields (recordOf (args .kind) (args .a) (args .b) (args .c) (args .d)) (pack .result) (pack .ensures)
+
+returns-2 : tie.Need-returns-2
+returns-2 c =
+    let args = c .before .before .before .before .args in
+    let pack = c .before .before .before .pack in
+    ap packedC (sym (c .before .r .given .1))
+    ∙ pack-fields (recordOf (args .kind) (args .a) (args .b) (args .c) (args .d)) (pack .result) (pack .ensures)
+
+pub suhkelva-pack-spec : {M : Type 1} → statement M
+suhkelva-pack-spec = tie.close (tie.spec pack-requires enum-known-v enum-known-r returns returns-2)
