@@ -1,6 +1,6 @@
 -- Laws of words, sums and checks. Assumes nothing.
 use mathlib.Core.Path.{_≡_, refl, sym, ap, _∙_}
-use mathlib.Core.Bool.{Bool, true, false, cond}
+use mathlib.Core.Bool.{Bool, cond}
 use mathlib.Core.List.{List, [], _∷_}
 use Prim.Native.Nat.{ℕ, suc, _+_, _*_, _-_, _%_, _≤_, _<_}
 use native.Mathlib.Omega.{arith}
@@ -77,6 +77,6 @@ checked-fields Yes = refl
 checked-fields No = refl
 checked-fields (Refused r) = refl
 
-pub check-fields : (bytes : List ℕ) (number : ℕ) (k : BlockChecked) → checkedAnswer k ≡ blockCheck number bytes → blockC k ≡ blockFields (blockCheckCall bytes number .reply)
+pub check-fields : (bytes : List ℕ) (number : ℕ) {k j : BlockChecked} → checkedAnswer k ≡ blockCheck number bytes → k ≡ j → blockC j ≡ blockFields (blockCheckCall bytes number .reply)
 unfolding blockCheckCall
-check-fields bytes number k e = checked-fields k ∙ ap replyFields e
+check-fields bytes number {k} e h = ap blockC (sym h) ∙ checked-fields k ∙ ap replyFields e

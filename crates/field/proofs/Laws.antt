@@ -1,8 +1,8 @@
 -- Laws of values below the modulus, of reduced words, and of the signed reading. Assumes nothing.
-use mathlib.Core.Path.{_≡_, refl, sym, _∙_, ap}
+use mathlib.Core.Path.{_≡_, refl, sym, _∙_}
 use Prim.Native.Nat.{ℕ, suc, _+_, _*_, _-_, _/_, _%_, _<_, _≤_, _^_}
 use native.Mathlib.Omega.{arith}
-use native.Mathlib.Nat.{mod-lt, mod-eq-of-lt, lt-of-le-of-lt, mul-le-mul}
+use native.Mathlib.Nat.{mod-eq-of-lt, lt-of-le-of-lt, mul-le-mul}
 use lib.Dec.{lit<, ltb}
 use lib.IntN.{pos, _-ℤ_}
 use mir.Syntax.{w64}

@@ -5,7 +5,7 @@ use mathlib.Core.List.{[], _∷_}
 use Prim.Native.Nat.{ℕ, zero, suc, _+_, _*_, _≤_, _<_}
 use native.Mathlib.Omega.{arith}
 use lib.Dec.{eqb, leb, ltb}
-use borrow.Author.Tests.{lt-ltb, le-leb, lt-leb, ne-eqb}
+use borrow.Author.Tests.{lt-ltb}
 use Rattle.semantics.specs.Answer.{Answer, good, refused, andThen}
 use Rattle.semantics.specs.Sheet as sheet
 use Rattle.semantics.specs.Sheet.{recordOf, recordWords, table, row, fits}
@@ -26,8 +26,8 @@ use Rattle.packed_var.specs.declared.Unpacked.{Unpacked}
 use Rattle.packed_var.specs.declared.Unpacked.the-variants as unpacked′
 use Rattle.packed_var.specs.declared.SuhkelvaPacked.{SuhkelvaPacked}
 use Rattle.packed_var.specs.declared.SuhkelvaRecord.{SuhkelvaRecord}
-use Rattle.packed_var.specs.Variable.{sumOf, entryAt, entryRotated}
-use Rattle.packed_var.specs.Packed.{entryRecord, leafRecord, leafChecked, leafAnswer, refusalOf, packedAnswer, unpackedAnswer, wordsRecord, packedFields, recordFields}
+use Rattle.packed_var.specs.Variable.{entryAt, entryRotated}
+use Rattle.packed_var.specs.Packed.{entryRecord, leafRecord, leafChecked, leafAnswer, refusalOf, packedAnswer, unpackedAnswer, packedFields, recordFields}
 
 -- an entry with an offset, turned to a sum s that is known
 pub turned : (make : ℕ → Entry) (e : Entry) (k : ℕ) {s t u : Sum} → t ≡ s → t ≡ u → entryRotated e k ≡ entryAt make u → entryAt make s ≡ entryRotated e k
@@ -116,15 +116,15 @@ module _ (r : sheet.Record) {w : LeafRead} (answer : leafAnswer w ≡ leafChecke
       ap (λ (x : Refusal). refused (x .number) (x .place)) (q ∙ ap refusalOf p)
       ∙ ap (λ (x : Answer sheet.Record). andThen x packRecord) (sym (ap leafAnswer p) ∙ answer)
 
-  pub pack-said : {l : Leaf} → w ≡ read.Said l → packRecord (leafRecord l) ≡ pack r
+  pub pack-said : {l m : Leaf} → w ≡ read.Said l → l ≡ m → packRecord (leafRecord m) ≡ pack r
   unfolding pack andThen leafChecked
-  pack-said p = ap (λ (x : Answer sheet.Record). andThen x packRecord) (sym (ap leafAnswer p) ∙ answer)
+  pack-said p q = ap (λ (x : Leaf). packRecord (leafRecord x)) (sym q) ∙ ap (λ (x : Answer sheet.Record). andThen x packRecord) (sym (ap leafAnswer p) ∙ answer)
 
 -- ---- unpacking
-pub unpack-by : (n : ℕ) (w : sheet.Record) (p q : Packed) → w ≡ unpacked n → packedAnswer p ≡ pack w → p ≡ q
-    → cond (handsOut (packedAnswer q) n) (good w) (refused 5 0) ≡ unpack n
+pub unpack-by : (n : ℕ) (w : sheet.Record) {p q : Packed} {t : Bool} → w ≡ unpacked n → packedAnswer p ≡ pack w → p ≡ q → handsOut (packedAnswer q) n ≡ t
+    → cond t (good w) (refused 5 0) ≡ unpack n
 unfolding unpack
-unpack-by n w p q e a h = rw (← h, a, e)
+unpack-by n w e a h k = rw (← k, ← h, a, e)
 
 -- ---- the fields that go to C
 abbrev pub packedC : Packed → SuhkelvaPacked
@@ -145,10 +145,10 @@ unfolding recordFields outcome andThen result recordWords
 record-fields (unpacked′.Words w) = refl
 record-fields (unpacked′.Refused r) = refl
 
-pub pack-fields : (r : sheet.Record) (p : Packed) → packedAnswer p ≡ pack r → packedC p ≡ packedFields (packCall r .reply)
+pub pack-fields : (r : sheet.Record) {p q : Packed} → packedAnswer p ≡ pack r → p ≡ q → packedC q ≡ packedFields (packCall r .reply)
 unfolding packCall
-pack-fields r p e = packed-fields p ∙ ap (λ (x : Answer ℕ). packedFields (outcome [] [] (andThen x (λ n. result [] (n ∷ []))) .reply)) e
+pack-fields r {p} e h = ap packedC (sym h) ∙ packed-fields p ∙ ap (λ (x : Answer ℕ). packedFields (outcome [] [] (andThen x (λ n. result [] (n ∷ []))) .reply)) e
 
-pub unpack-fields : (n : ℕ) (u : Unpacked) → unpackedAnswer u ≡ unpack n → recordC u ≡ recordFields (unpackCall n .reply)
+pub unpack-fields : (n : ℕ) {u v : Unpacked} → unpackedAnswer u ≡ unpack n → u ≡ v → recordC v ≡ recordFields (unpackCall n .reply)
 unfolding unpackCall
-unpack-fields n u e = record-fields u ∙ ap (λ (x : Answer sheet.Record). recordFields (outcome [] [] (andThen x (λ r. result [] (recordWords r))) .reply)) e
+unpack-fields n {u} e h = ap recordC (sym h) ∙ record-fields u ∙ ap (λ (x : Answer sheet.Record). recordFields (outcome [] [] (andThen x (λ r. result [] (recordWords r))) .reply)) e

@@ -1,5 +1,4 @@
 -- What the answers of this crate stand for.
-use mathlib.Core.List.{List}
 use Prim.Native.Nat.{ℕ}
 use lib.ListN.{getD}
 use Rattle.semantics.specs.Answer.{Answer, good, refused}

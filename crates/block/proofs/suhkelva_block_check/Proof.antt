@@ -1,6 +1,5 @@
 use borrow.Author.Needs.{needs}
-use mathlib.Core.Path.{sym, ap, _∙_}
-use Rattle.block.proofs.Laws.{blockC, check-fields}
+use Rattle.block.proofs.Laws.{check-fields}
 use Rattle.block.proofs.suhkelva_block_check.Statement.{statement}
 use Rattle.block.proofs.suhkelva_block_check.Tie as tie
 
@@ -17,22 +16,13 @@ enum-known-r : tie.Need-enum-known-r
 enum-known-r c = search needs
 
 returns : tie.Need-returns
-returns c =
-    let args = c .before .before .before .before .args in
-    let block-check = c .before .before .block-check in
-    ap blockC (sym (c .enum-told .given .1)) ∙ check-fields (args .bytes .now) (args .number) (block-check .result) (block-check .ensures)
+returns c = check-fields _ _ (c .before .before .block-check .ensures) (c .enum-told .given .1)
 
 returns-2 : tie.Need-returns-2
-returns-2 c =
-    let args = c .before .before .before .before .args in
-    let block-check = c .before .before .block-check in
-    ap blockC (sym (c .enum-told2 .given .1)) ∙ check-fields (args .bytes .now) (args .number) (block-check .result) (block-check .ensures)
+returns-2 c = check-fields _ _ (c .before .before .block-check .ensures) (c .enum-told2 .given .1)
 
 returns-3 : tie.Need-returns-3
-returns-3 c =
-    let args = c .before .before .before .before .before .args in
-    let block-check = c .before .before .before .block-check in
-    ap blockC (sym (c .before .r .given .1)) ∙ check-fields (args .bytes .now) (args .number) (block-check .result) (block-check .ensures)
+returns-3 c = check-fields _ _ (c .before .before .before .block-check .ensures) (c .before .r .given .1)
 
 pub suhkelva-block-check-spec : {M : Type 1} → statement M
 suhkelva-block-check-spec =

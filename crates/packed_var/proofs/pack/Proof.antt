@@ -1,10 +1,7 @@
 use borrow.Author.Needs.{needs}
-use mathlib.Core.Path.{sym, ap, _∙_}
+use mathlib.Core.Path.{ap, _∙_}
 use Rattle.semantics.specs.Answer.{good}
-use Rattle.semantics.specs.Sheet.{recordOf}
 use Rattle.semantics.specs.Packing.{packed, packFault, packRecord}
-use Rattle.packed_var.specs.declared.leaf.Leaf.{Leaf}
-use Rattle.packed_var.specs.Packed.{leafRecord}
 use Rattle.packed_var.proofs.Laws.{pack-refused, pack-said}
 use Rattle.packed_var.proofs.pack.Statement.{statement}
 use Rattle.packed_var.proofs.pack.Tie as tie
@@ -22,10 +19,7 @@ refusal-of-requires : tie.Need-refusal-of-requires
 refusal-of-requires c κs = search needs
 
 returns : tie.Need-returns
-returns c =
-    let args = c .before .before .before .before .args in
-    pack-refused (recordOf (args .kind) (args .a) (args .b) (args .c) (args .d)) (c .before .before .before .leaf-of .ensures)
-    (c .before .enum-told .given .1) (c .refusal-of .ensures)
+returns c = pack-refused _ (c .before .before .before .leaf-of .ensures) (c .before .enum-told .given .1) (c .refusal-of .ensures)
 
 enum-known-said : tie.Need-enum-known-said
 enum-known-said c = search needs
@@ -52,39 +46,19 @@ is-transition-requires : tie.Need-is-transition-requires
 is-transition-requires c κs = search needs
 
 returns-2 : tie.Need-returns-2
-returns-2 c =
-    let args = c .before .before .before .before .before .before .before .before .args in
-    c .from-symbolic-var .ensures
-    ∙ ap (λ (l : Leaf). packRecord (leafRecord l)) (sym (c .before .before .said .given .1))
-    ∙ pack-said (recordOf (args .kind) (args .a) (args .b) (args .c) (args .d))
-    (c .before .before .before .before .before .before .before .leaf-of .ensures) (c .before .before .before .before .before .read .given .1)
+returns-2 c = c .from-symbolic-var .ensures ∙ pack-said _ (c .before .before .before .before .before .before .before .leaf-of .ensures) (c .before .before .before .before .before .read .given .1) (c .before .before .said .given .1)
 
 returns-3 : tie.Need-returns-3
 unfolding packRecord packFault packed
-returns-3 c =
-    let args = c .before .before .before .before .before .before .before .args in
-    ap good (c .is-first .ensures)
-    ∙ ap (λ (l : Leaf). packRecord (leafRecord l)) (sym (c .before .enum-told2 .given .1))
-    ∙ pack-said (recordOf (args .kind) (args .a) (args .b) (args .c) (args .d))
-    (c .before .before .before .before .before .before .leaf-of .ensures) (c .before .before .before .before .read .given .1)
+returns-3 c = ap good (c .is-first .ensures) ∙ pack-said _ (c .before .before .before .before .before .before .leaf-of .ensures) (c .before .before .before .before .read .given .1) (c .before .enum-told2 .given .1)
 
 returns-4 : tie.Need-returns-4
 unfolding packRecord packFault packed
-returns-4 c =
-    let args = c .before .before .before .before .before .before .before .args in
-    ap good (c .is-last .ensures)
-    ∙ ap (λ (l : Leaf). packRecord (leafRecord l)) (sym (c .before .enum-told3 .given .1))
-    ∙ pack-said (recordOf (args .kind) (args .a) (args .b) (args .c) (args .d))
-    (c .before .before .before .before .before .before .leaf-of .ensures) (c .before .before .before .before .read .given .1)
+returns-4 c = ap good (c .is-last .ensures) ∙ pack-said _ (c .before .before .before .before .before .before .leaf-of .ensures) (c .before .before .before .before .read .given .1) (c .before .enum-told3 .given .1)
 
 returns-5 : tie.Need-returns-5
 unfolding packRecord packFault packed
-returns-5 c =
-    let args = c .before .before .before .before .before .before .before .args in
-    ap good (c .is-transition .ensures)
-    ∙ ap (λ (l : Leaf). packRecord (leafRecord l)) (sym (c .before .enum-told4 .given .1))
-    ∙ pack-said (recordOf (args .kind) (args .a) (args .b) (args .c) (args .d))
-    (c .before .before .before .before .before .before .leaf-of .ensures) (c .before .before .before .before .read .given .1)
+returns-5 c = ap good (c .is-transition .ensures) ∙ pack-said _ (c .before .before .before .before .before .before .leaf-of .ensures) (c .before .before .before .before .read .given .1) (c .before .enum-told4 .given .1)
 
 pub pack-spec : {M : Type 1} → statement M
 pack-spec =

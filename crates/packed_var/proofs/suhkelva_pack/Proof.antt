@@ -1,7 +1,5 @@
 use borrow.Author.Needs.{needs}
-use mathlib.Core.Path.{sym, ap, _∙_}
-use Rattle.semantics.specs.Sheet.{recordOf}
-use Rattle.packed_var.proofs.Laws.{packedC, pack-fields}
+use Rattle.packed_var.proofs.Laws.{pack-fields}
 use Rattle.packed_var.proofs.suhkelva_pack.Statement.{statement}
 use Rattle.packed_var.proofs.suhkelva_pack.Tie as tie
 
@@ -15,18 +13,10 @@ enum-known-r : tie.Need-enum-known-r
 enum-known-r c = search needs
 
 returns : tie.Need-returns
-returns c =
-    let args = c .before .before .before .before .args in
-    let pack = c .before .before .before .pack in
-    ap packedC (sym (c .before .v .given .1))
-    ∙ pack-fields (recordOf (args .kind) (args .a) (args .b) (args .c) (args .d)) (pack .result) (pack .ensures)
+returns c = pack-fields _ (c .before .before .before .pack .ensures) (c .before .v .given .1)
 
 returns-2 : tie.Need-returns-2
-returns-2 c =
-    let args = c .before .before .before .before .args in
-    let pack = c .before .before .before .pack in
-    ap packedC (sym (c .before .r .given .1))
-    ∙ pack-fields (recordOf (args .kind) (args .a) (args .b) (args .c) (args .d)) (pack .result) (pack .ensures)
+returns-2 c = pack-fields _ (c .before .before .before .pack .ensures) (c .before .r .given .1)
 
 pub suhkelva-pack-spec : {M : Type 1} → statement M
 suhkelva-pack-spec = tie.close (tie.spec pack-requires enum-known-v enum-known-r returns returns-2)

@@ -1,6 +1,5 @@
 use borrow.Author.Needs.{needs}
-use mathlib.Core.Path.{sym, ap, _∙_}
-use Rattle.packed_var.proofs.Laws.{recordC, unpack-fields}
+use Rattle.packed_var.proofs.Laws.{unpack-fields}
 use Rattle.packed_var.proofs.suhkelva_unpack.Statement.{statement}
 use Rattle.packed_var.proofs.suhkelva_unpack.Tie as tie
 
@@ -14,14 +13,10 @@ enum-known-r : tie.Need-enum-known-r
 enum-known-r c = search needs
 
 returns : tie.Need-returns
-returns c =
-    let unpack = c .before .before .before .unpack in
-    ap recordC (sym (c .before .w .given .1)) ∙ unpack-fields (c .before .before .before .before .args .packed) (unpack .result) (unpack .ensures)
+returns c = unpack-fields _ (c .before .before .before .unpack .ensures) (c .before .w .given .1)
 
 returns-2 : tie.Need-returns-2
-returns-2 c =
-    let unpack = c .before .before .before .unpack in
-    ap recordC (sym (c .before .r .given .1)) ∙ unpack-fields (c .before .before .before .before .args .packed) (unpack .result) (unpack .ensures)
+returns-2 c = unpack-fields _ (c .before .before .before .unpack .ensures) (c .before .r .given .1)
 
 pub suhkelva-unpack-spec : {M : Type 1} → statement M
 suhkelva-unpack-spec =

@@ -1,5 +1,5 @@
 use borrow.Author.Needs.{needs}
-use mathlib.Core.Path.{_≡_, refl, sym, ap, subst, _∙_}
+use mathlib.Core.Path.{_≡_, refl, sym, ap, subst}
 use Rattle.packed_var.specs.declared.symbolic_variable.Entry.{Entry}
 use Rattle.packed_var.specs.declared.symbolic_variable.Entry.the-variants.{Preprocessed, Main}
 use Rattle.packed_var.specs.declared.symbolic_variable.Rotated.the-variants.{To}
