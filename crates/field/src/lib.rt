@@ -1,0 +1,54 @@
+// Values modulo the prime 2013265921, each kept below it; any word is taken.
+ghost use mathlib.Core.Path.{_≡_};
+ghost use Prim.Native.Nat.{_%_};
+ghost use Rattle.semantics.specs.Arithmetic.{prime, addM, subM, mulM, negM, signedOf};
+
+pub mod modular;
+
+pub const PRIME: u32 = 2013265921;
+
+// A word as a value; one below the prime is a value already.
+fn reduced(x: u32) -> u32
+    ensures { λ r. ⌜ r ≡ x % prime ⌝ }
+{
+    if x < PRIME {
+        x
+    } else {
+        modular::mul(PRIME, x, 1)
+    }
+}
+
+pub fn add(a: u32, b: u32) -> u32
+    ensures { λ r. ⌜ r ≡ addM prime a b ⌝ }
+{
+    modular::add(PRIME, reduced(a), reduced(b))
+}
+
+pub fn sub(a: u32, b: u32) -> u32
+    ensures { λ r. ⌜ r ≡ subM prime a b ⌝ }
+{
+    modular::sub(PRIME, reduced(a), reduced(b))
+}
+
+pub fn neg(a: u32) -> u32
+    ensures { λ r. ⌜ r ≡ negM prime a ⌝ }
+{
+    modular::neg(PRIME, reduced(a))
+}
+
+pub fn mul(a: u32, b: u32) -> u32
+    ensures { λ r. ⌜ r ≡ mulM prime a b ⌝ }
+{
+    modular::mul(PRIME, a, b)
+}
+
+// A value up to half the prime is itself, and above that less the prime.
+pub fn signed(a: u32) -> i64
+    ensures { λ r. ⌜ r ≡ signedOf prime a ⌝ }
+{
+    if a <= PRIME / 2 {
+        a as i64
+    } else {
+        a as i64 - PRIME as i64
+    }
+}

@@ -1,0 +1,154 @@
+-- Laws of entries, of the words of a leaf, and of packing. Assumes nothing.
+use mathlib.Core.Path.{_≡_, refl, sym, ap, _∙_}
+use mathlib.Core.Bool.{Bool, true, false, cond, _&&_, _||_}
+use mathlib.Core.List.{[], _∷_}
+use Prim.Native.Nat.{ℕ, zero, suc, _+_, _*_, _≤_, _<_}
+use native.Mathlib.Omega.{arith}
+use lib.Dec.{eqb, leb, ltb}
+use borrow.Author.Tests.{lt-ltb}
+use Rattle.semantics.specs.Answer.{Answer, good, refused, andThen}
+use Rattle.semantics.specs.Sheet as sheet
+use Rattle.semantics.specs.Sheet.{recordOf, recordWords, table, row, fits}
+use Rattle.semantics.specs.Check.{Scan, reading, stopped, scanWords, judged}
+use Rattle.semantics.specs.Packing.{packed, packFault, leafTests, packRecord, pack, unpacked, handsOut, unpack}
+use Rattle.semantics.specs.Call.{outcome, result, packCall, unpackCall}
+use Rattle.packed_var.specs.declared.symbolic_variable.Entry.{Entry}
+use Rattle.packed_var.specs.declared.symbolic_variable.Entry.the-variants.{Preprocessed, Main, Public, Challenge}
+use Rattle.packed_var.specs.declared.symbolic_variable.Sum.{Sum}
+use Rattle.packed_var.specs.declared.leaf.Leaf.{Leaf}
+use Rattle.packed_var.specs.declared.leaf.Leaf.the-variants.{Variable, IsFirstRow, IsLastRow, IsTransition}
+use Rattle.packed_var.specs.declared.leaf.LeafRead.{LeafRead}
+use Rattle.packed_var.specs.declared.leaf.LeafRead.the-variants as read
+use Rattle.packed_var.specs.declared.Refusal.{Refusal}
+use Rattle.packed_var.specs.declared.Packed.{Packed}
+use Rattle.packed_var.specs.declared.Packed.the-variants as packed′
+use Rattle.packed_var.specs.declared.Unpacked.{Unpacked}
+use Rattle.packed_var.specs.declared.Unpacked.the-variants as unpacked′
+use Rattle.packed_var.specs.declared.SuhkelvaPacked.{SuhkelvaPacked}
+use Rattle.packed_var.specs.declared.SuhkelvaRecord.{SuhkelvaRecord}
+use Rattle.packed_var.specs.Variable.{entryAt, entryRotated}
+use Rattle.packed_var.specs.Packed.{entryRecord, leafRecord, leafChecked, leafAnswer, refusalOf, packedAnswer, unpackedAnswer, packedFields, recordFields}
+
+-- an entry with an offset, turned to a sum s that is known
+pub turned : (make : ℕ → Entry) (e : Entry) (k : ℕ) {s t u : Sum} → t ≡ s → t ≡ u → entryRotated e k ≡ entryAt make u → entryAt make s ≡ entryRotated e k
+turned make e k p q h = ap (entryAt make) (sym p ∙ q) ∙ sym h
+
+-- ---- the words of a leaf
+-- where the tests of a, b, c and d stop
+abbrev pub fourTests : (s t u v : Bool) → Scan
+fourTests s t u v = cond s (cond t (cond u (cond v (reading 5 []) (stopped 5 4)) (stopped 5 3)) (stopped 5 2)) (stopped 5 1)
+
+pub kind-wrong : (k a b c d : ℕ) → leb 1 k && leb k 4 ≡ false → refused 5 0 ≡ leafChecked (recordOf k a b c d)
+unfolding leafChecked scanWords leafTests recordWords judged
+kind-wrong k a b c d h = rw h
+
+pub variable-tests : (a b c d : ℕ) {s t u v w : Bool} → leb a 3 ≡ s → eqb a 1 ≡ t → eqb b 0 ≡ u → leb a 1 ≡ v → eqb c 0 ≡ w
+    → judged (fourTests s (t || u) (v || w) true) (recordOf 1 a b c d) ≡ leafChecked (recordOf 1 a b c d)
+unfolding leafChecked scanWords leafTests recordWords row table fits
+variable-tests a b c d p q r x y = sym (λ i. judged (fourTests (p i) (q i || r i) (x i || y i) true) (recordOf 1 a b c d))
+
+unused-words : (k a b c d : ℕ) → 2 ≤ k → k ≤ 4 → leafChecked (recordOf k a b c d) ≡ judged (fourTests (eqb a 0) (eqb b 0) (eqb c 0) (eqb d 0)) (recordOf k a b c d)
+unfolding leafChecked scanWords leafTests recordWords row table fits
+unused-words zero a b c d l h = absurd (omega arith)
+unused-words (suc zero) a b c d l h = absurd (omega arith)
+unused-words (suc (suc zero)) a b c d l h = refl
+unused-words (suc (suc (suc zero))) a b c d l h = refl
+unused-words (suc (suc (suc (suc zero)))) a b c d l h = refl
+unused-words (suc (suc (suc (suc (suc k))))) a b c d l h = absurd (omega arith)
+
+pub mark-tests : (k a b c d : ℕ) → 2 ≤ k → k ≤ 4 → {s t u v : Bool} → eqb a 0 ≡ s → eqb b 0 ≡ t → eqb c 0 ≡ u → eqb d 0 ≡ v
+    → judged (fourTests s t u v) (recordOf k a b c d) ≡ leafChecked (recordOf k a b c d)
+mark-tests k a b c d l h p q r x = sym (unused-words k a b c d l h ∙ (λ i. judged (fourTests (p i) (q i) (r i) (x i)) (recordOf k a b c d)))
+
+-- the words of a leaf pass
+entry-checked : (e : Entry) (d : ℕ) → leafChecked (entryRecord e d) ≡ good (entryRecord e d)
+unfolding leafChecked scanWords leafTests recordWords row table fits judged
+entry-checked (Preprocessed o) d = refl
+entry-checked (Main p o) d = refl
+entry-checked Public d = refl
+entry-checked Challenge d = refl
+
+leaf-checked : (l : Leaf) → leafChecked (leafRecord l) ≡ good (leafRecord l)
+unfolding leafChecked scanWords leafTests recordWords row table fits judged
+leaf-checked (Variable v) = entry-checked (v .entry) (v .index)
+leaf-checked IsFirstRow = refl
+leaf-checked IsLastRow = refl
+leaf-checked IsTransition = refl
+
+pub leaf-said : (l : Leaf) {w : LeafRead} {r : sheet.Record} → w ≡ read.Said l → leafRecord l ≡ r → leafAnswer w ≡ leafChecked r
+leaf-said l p e = ap leafAnswer p ∙ sym (leaf-checked l) ∙ ap leafChecked e
+
+-- ---- packing
+abbrev pub fourFaults : (s t u v : Bool) → ℕ → Answer ℕ
+fourFaults s t u v n = cond s (refused 8 0) (cond t (refused 9 0) (cond u (refused 10 0) (cond v (refused 11 0) (good n))))
+
+abbrev faultOf : (s t u v : Bool) → ℕ
+faultOf s t u v = cond s 8 (cond t 9 (cond u 10 (cond v 11 0)))
+
+fault-first : (s t u v : Bool) (n : ℕ) → cond (eqb (faultOf s t u v) 0) (good n) (refused (faultOf s t u v) 0) ≡ fourFaults s t u v n
+fault-first true t u v n = refl
+fault-first false true u v n = refl
+fault-first false false true v n = refl
+fault-first false false false true n = refl
+fault-first false false false false n = refl
+
+pub variable-faults : (a b c d : ℕ) {s t u v : Bool} → ltb 65535 d ≡ s → eqb a 2 ≡ t → ltb 255 b ≡ u → ltb 15 c ≡ v
+    → fourFaults s t u v (a + 16 * b + 4096 * c + 65536 * d) ≡ packRecord (recordOf 1 a b c d)
+unfolding packRecord packFault packed
+variable-faults a b c d {s} {t} {u} {v} p q r x =
+    sym (fault-first s t u v _)
+    ∙ sym (λ i. cond (eqb (faultOf (p i) (q i) (r i) (x i)) 0) (good (a + 16 * b + 4096 * c + 65536 * d)) (refused (faultOf (p i) (q i) (r i) (x i)) 0))
+
+pub column-wrong : (e : Entry) (d : ℕ) → 65535 < d → refused 8 0 ≡ packRecord (entryRecord e d)
+column-wrong (Preprocessed o) d h = variable-faults 0 0 o d (lt-ltb 65535 d h) refl refl refl
+column-wrong (Main p o) d h = variable-faults 1 p o d (lt-ltb 65535 d h) refl refl refl
+column-wrong Public d h = variable-faults 3 0 0 d (lt-ltb 65535 d h) refl refl refl
+column-wrong Challenge d h = variable-faults 2 0 0 d (lt-ltb 65535 d h) refl refl refl
+
+pub entry-packs : (d : ℕ) {e f : Entry} {x : Answer ℕ} → e ≡ f → x ≡ packRecord (entryRecord f d) → x ≡ packRecord (entryRecord e d)
+entry-packs d p h = h ∙ ap (λ (e : Entry). packRecord (entryRecord e d)) (sym p)
+
+-- by the leaf that was read
+module _ (r : sheet.Record) {w : LeafRead} (answer : leafAnswer w ≡ leafChecked r) where
+  pub pack-refused : {f g : Refusal} → w ≡ read.Refused f → g ≡ refusalOf w → packedAnswer (packed′.Refused g) ≡ pack r
+  unfolding pack andThen leafChecked
+  pack-refused p q =
+      ap (λ (x : Refusal). refused (x .number) (x .place)) (q ∙ ap refusalOf p)
+      ∙ ap (λ (x : Answer sheet.Record). andThen x packRecord) (sym (ap leafAnswer p) ∙ answer)
+
+  pub pack-said : {l m : Leaf} → w ≡ read.Said l → l ≡ m → packRecord (leafRecord m) ≡ pack r
+  unfolding pack andThen leafChecked
+  pack-said p q = ap (λ (x : Leaf). packRecord (leafRecord x)) (sym q) ∙ ap (λ (x : Answer sheet.Record). andThen x packRecord) (sym (ap leafAnswer p) ∙ answer)
+
+-- ---- unpacking
+pub unpack-by : (n : ℕ) (w : sheet.Record) {p q : Packed} {t : Bool} → w ≡ unpacked n → packedAnswer p ≡ pack w → p ≡ q → handsOut (packedAnswer q) n ≡ t
+    → cond t (good w) (refused 5 0) ≡ unpack n
+unfolding unpack
+unpack-by n w e a h k = rw (← k, ← h, a, e)
+
+-- ---- the fields that go to C
+abbrev pub packedC : Packed → SuhkelvaPacked
+packedC (packed′.Var v) = record { number = 0; place = 0; packed = v .0 }
+packedC (packed′.Refused r) = record { number = r .number; place = r .place; packed = 0 }
+
+abbrev pub recordC : Unpacked → SuhkelvaRecord
+recordC (unpacked′.Words w) = record { number = 0; place = 0; kind = w .kind; a = w .a; b = w .b; c = w .c; d = w .d }
+recordC (unpacked′.Refused r) = record { number = r .number; place = r .place; kind = 0; a = 0; b = 0; c = 0; d = 0 }
+
+packed-fields : (p : Packed) → packedC p ≡ packedFields (outcome [] [] (andThen (packedAnswer p) (λ n. result [] (n ∷ []))) .reply)
+unfolding packedFields outcome andThen result
+packed-fields (packed′.Var v) = refl
+packed-fields (packed′.Refused r) = refl
+
+record-fields : (u : Unpacked) → recordC u ≡ recordFields (outcome [] [] (andThen (unpackedAnswer u) (λ r. result [] (recordWords r))) .reply)
+unfolding recordFields outcome andThen result recordWords
+record-fields (unpacked′.Words w) = refl
+record-fields (unpacked′.Refused r) = refl
+
+pub pack-fields : (r : sheet.Record) {p q : Packed} → packedAnswer p ≡ pack r → p ≡ q → packedC q ≡ packedFields (packCall r .reply)
+unfolding packCall
+pack-fields r {p} e h = ap packedC (sym h) ∙ packed-fields p ∙ ap (λ (x : Answer ℕ). packedFields (outcome [] [] (andThen x (λ n. result [] (n ∷ []))) .reply)) e
+
+pub unpack-fields : (n : ℕ) {u v : Unpacked} → unpackedAnswer u ≡ unpack n → u ≡ v → recordC v ≡ recordFields (unpackCall n .reply)
+unfolding unpackCall
+unpack-fields n {u} e h = ap recordC (sym h) ∙ record-fields u ∙ ap (λ (x : Answer sheet.Record). recordFields (outcome [] [] (andThen x (λ r. result [] (recordWords r))) .reply)) e

@@ -1,0 +1,137 @@
+use borrow.Author.Needs.{needs}
+use mathlib.Core.Path.{refl, ap, _∙_}
+use borrow.Author.Tests.{lt-ltb, le-ltb}
+use Rattle.semantics.specs.Answer.{good}
+use Rattle.packed_var.specs.Packed.{packedAnswer}
+use Rattle.packed_var.proofs.Laws.{variable-faults, column-wrong, entry-packs}
+use Rattle.packed_var.proofs.PackedVar.from_symbolic_var.Statement.{statement}
+use Rattle.packed_var.proofs.PackedVar.from_symbolic_var.Tie as tie
+
+refused-requires : tie.Need-refused-requires
+refused-requires c κs = search needs
+
+returns : tie.Need-returns
+returns c =
+    let args = c .before .before .before .args in
+    ap packedAnswer (c .refused .ensures) ∙ column-wrong (args .var .entry) (args .var .index) (c .before .if1 .taken)
+
+cast-column : tie.Need-cast-column
+cast-column c = search needs
+
+enum-known-entry : tie.Need-enum-known-entry
+enum-known-entry c = search needs
+
+refused-requires-2 : tie.Need-refused-requires-2
+refused-requires-2 c κs = search needs
+
+returns-2 : tie.Need-returns-2
+returns-2 c =
+    let entry = c .before .before .before .entry in
+    let args = c .before .before .before .before .before .before .before .before .args in
+    entry-packs (args .var .index) (entry .given .1)
+    (ap packedAnswer (c .refused2 .ensures) ∙ variable-faults 1 (entry .given .0 .0) (entry .given .0 .1 .0) (args .var .index) (le-ltb 65535 (args .var .index) (c .before .before .before .before .before .before .if1 .left)) refl (lt-ltb 255 (entry .given .0 .0) (c .before .if2 .taken)) refl)
+
+refused-requires-3 : tie.Need-refused-requires-3
+refused-requires-3 c κs = search needs
+
+returns-3 : tie.Need-returns-3
+returns-3 c =
+    let entry = c .before .before .before .before .entry in
+    let args = c .before .before .before .before .before .before .before .before .before .args in
+    entry-packs (args .var .index) (entry .given .1)
+    (ap packedAnswer (c .refused3 .ensures) ∙ variable-faults 1 (entry .given .0 .0) (entry .given .0 .1 .0) (args .var .index) (le-ltb 65535 (args .var .index) (c .before .before .before .before .before .before .before .if1 .left)) refl (le-ltb 255 (entry .given .0 .0) (c .before .before .if2 .left)) (lt-ltb 15 (entry .given .0 .1 .0) (c .before .if3 .taken)))
+
+cast-new : tie.Need-cast-new
+cast-new c = search needs
+
+cast-new-2 : tie.Need-cast-new-2
+cast-new-2 c = search needs
+
+new-requires : tie.Need-new-requires
+new-requires c κs = search needs
+
+enum-known-entry-2 : tie.Need-enum-known-entry-2
+enum-known-entry-2 c = search needs
+
+refused-requires-4 : tie.Need-refused-requires-4
+refused-requires-4 c κs = search needs
+
+returns-4 : tie.Need-returns-4
+returns-4 c =
+    let entry2 = c .before .before .before .entry2 in
+    let args = c .before .before .before .before .before .before .before .before .args in
+    entry-packs (args .var .index) (entry2 .given .1)
+    (ap packedAnswer (c .refused4 .ensures) ∙ variable-faults 0 0 (entry2 .given .0 .0) (args .var .index) (le-ltb 65535 (args .var .index) (c .before .before .before .before .before .before .if1 .left)) refl refl (lt-ltb 15 (entry2 .given .0 .0) (c .before .if4 .taken)))
+
+cast-new-3 : tie.Need-cast-new-3
+cast-new-3 c = search needs
+
+new-requires-2 : tie.Need-new-requires-2
+new-requires-2 c κs = search needs
+
+enum-told : tie.Need-enum-told
+enum-told c = search needs
+
+new-requires-3 : tie.Need-new-requires-3
+new-requires-3 c κs = search needs
+
+enum-told-2 : tie.Need-enum-told-2
+enum-told-2 c = search needs
+
+refused-requires-5 : tie.Need-refused-requires-5
+refused-requires-5 c κs = search needs
+
+returns-5 : tie.Need-returns-5
+returns-5 c =
+    let entry = c .before .before .before .before .entry in
+    let args = c .before .before .before .before .before .before .before .before .before .args in
+    entry-packs (args .var .index) (entry .given .1)
+    (ap good (c .new .ensures) ∙ variable-faults 1 (entry .given .0 .0) (entry .given .0 .1 .0) (args .var .index) (le-ltb 65535 (args .var .index) (c .before .before .before .before .before .before .before .if1 .left)) refl (le-ltb 255 (entry .given .0 .0) (c .before .before .if2 .left)) (le-ltb 15 (entry .given .0 .1 .0) (c .before .if3 .left)))
+
+returns-6 : tie.Need-returns-6
+returns-6 c =
+    let entry2 = c .before .before .before .entry2 in
+    let args = c .before .before .before .before .before .before .before .before .args in
+    entry-packs (args .var .index) (entry2 .given .1)
+    (ap good (c .new2 .ensures) ∙ variable-faults 0 0 (entry2 .given .0 .0) (args .var .index) (le-ltb 65535 (args .var .index) (c .before .before .before .before .before .before .if1 .left)) refl refl (le-ltb 15 (entry2 .given .0 .0) (c .before .if4 .left)))
+
+returns-7 : tie.Need-returns-7
+returns-7 c =
+    let args = c .before .before .before .before .before .before .args in
+    entry-packs (args .var .index) (c .before .enum-told .given .1)
+    (ap good (c .new3 .ensures) ∙ variable-faults 3 0 0 (args .var .index) (le-ltb 65535 (args .var .index) (c .before .before .before .before .if1 .left)) refl refl refl)
+
+returns-8 : tie.Need-returns-8
+returns-8 c =
+    let args = c .before .before .before .before .before .before .args in
+    entry-packs (args .var .index) (c .before .enum-told2 .given .1)
+    (ap packedAnswer (c .refused5 .ensures) ∙ variable-faults 2 0 0 (args .var .index) (le-ltb 65535 (args .var .index) (c .before .before .before .before .if1 .left)) refl refl refl)
+
+pub from-symbolic-var-spec : {M : Type 1} → statement M
+from-symbolic-var-spec =
+    tie.close
+    (tie.spec
+    refused-requires
+    returns
+    cast-column
+    enum-known-entry
+    refused-requires-2
+    returns-2
+    refused-requires-3
+    returns-3
+    cast-new
+    cast-new-2
+    new-requires
+    enum-known-entry-2
+    refused-requires-4
+    returns-4
+    cast-new-3
+    new-requires-2
+    enum-told
+    new-requires-3
+    enum-told-2
+    refused-requires-5
+    returns-5
+    returns-6
+    returns-7
+    returns-8)

@@ -1,0 +1,2 @@
+pub mod Variable
+pub mod Packed
