@@ -64,7 +64,7 @@ module _ (p : ℕ) (ws : List ℕ) (s : Sheet) (h : check p ws ≡ good s) where
       ap (λ (u : List ℕ). getD u (4 + 5 * length (s .records) + j) 0)
       (words-are ∙ sym (append-assoc (headWords s) (flatMap recordWords (s .records)) _))
       ∙ ap (λ (n : ℕ). getD ((headWords s ++ flatMap recordWords (s .records)) ++ (s .constraints ++ (flatMap interactionWords (s .interactions) ++ replicate spare 0))) (n + j) 0)
-        (sym before-constraints)
+      (sym before-constraints)
       ∙ getD-append-add (headWords s ++ flatMap recordWords (s .records)) _ j 0
       ∙ List·getD-append (s .constraints) _ 0 j l
 
@@ -75,7 +75,7 @@ module _ (p : ℕ) (ws : List ℕ) (s : Sheet) (h : check p ws ≡ good s) where
       (words-are ∙ sym (append-assoc (headWords s) (flatMap recordWords (s .records)) _)
       ∙ sym (append-assoc (headWords s ++ flatMap recordWords (s .records)) (s .constraints) _))
       ∙ drop-at ((headWords s ++ flatMap recordWords (s .records)) ++ s .constraints) _ (4 + 5 * length (s .records) + length (s .constraints))
-        (length-append (headWords s ++ flatMap recordWords (s .records)) (s .constraints) ∙ omega (arith, before-constraints))
+      (length-append (headWords s ++ flatMap recordWords (s .records)) (s .constraints) ∙ omega (arith, before-constraints))
 
   -- A checked slice is at least as long as its sheet.
   pub words-long : length (encode s) ≤ length ws

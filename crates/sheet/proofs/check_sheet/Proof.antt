@@ -42,7 +42,7 @@ refused-requires c κs = search needs
 
 -- src/lib.rt:37:9
 returns : tie.Need-returns
-returns c = refuses prime (c .before .before .before .before .before .args .s .now) (c .before .before .before .check-head .result) (c .before .enum-told .given .0 .0) _ (c .before .enum-told .given .1) (step-stops (afterHead prime (c .before .before .before .before .before .args .s .now)) (scanSheet prime (c .before .before .before .before .before .args .s .now)) (c .before .before .before .before .before .args .s .now) (c .before .before .before .check-head .result) _ (c .before .before .before .check-head .ensures .0) (from-head prime (c .before .before .before .before .before .args .s .now)) (stays₄ prime (c .before .before .before .before .before .args .s .now)) (c .before .enum-told .given .0 .0) (c .before .enum-told .given .1)) (c  .refused .ensures)
+returns c = refuses prime (c .before .before .before .before .before .args .s .now) (c .before .before .before .check-head .result) (c .before .enum-told .given .0 .0) _ (c .before .enum-told .given .1) (step-stops (afterHead prime (c .before .before .before .before .before .args .s .now)) (scanSheet prime (c .before .before .before .before .before .args .s .now)) (c .before .before .before .before .before .args .s .now) (c .before .before .before .check-head .result) _ (c .before .before .before .check-head .ensures .0) (from-head prime (c .before .before .before .before .before .args .s .now)) (stays₄ prime (c .before .before .before .before .before .args .s .now)) (c .before .enum-told .given .0 .0) (c .before .enum-told .given .1)) (c .refused .ensures)
 
 -- src/lib.rt:39:30
 shared-slice-read-wide : tie.Need-shared-slice-read-wide
@@ -86,7 +86,7 @@ refused-requires-2 c κs = search needs
 
 -- src/lib.rt:44:9
 returns-2 : tie.Need-returns-2
-returns-2 c = refuses prime (c .before .before .before .before .before .before .before .before .before .before .before .before .before .before .before .args .s .now) (c .before .before .before .check-records .result) (c .before .enum-told2 .given .0 .0) _ (c .before .enum-told2 .given .1) (step-stops (afterRecords prime (c .before .before .before .before .before .before .before .before .before .before .before .before .before .before .before .args .s .now)) (scanSheet prime (c .before .before .before .before .before .before .before .before .before .before .before .before .before .before .before .args .s .now)) (c .before .before .before .before .before .before .before .before .before .before .before .before .before .before .before .args .s .now) (c .before .before .before .check-records .result) _ (c .before .before .before .check-records .ensures .0 ∙ ap (λ (k : ℕ). scanParts 5 (recordTests prime) k 0 (reading (c .before .before .before .before .before .before .before .before .before .before .before .head .given .0 .0) (drop (c .before .before .before .before .before .before .before .before .before .before .before .head .given .0 .0) (c .before .before .before .before .before .before .before .before .before .before .before .before .before .before .before .args .s .now)))) (c .before .before .before .before .before .before .before .before .wide .ensures)) (step-goes (afterHead prime (c .before .before .before .before .before .before .before .before .before .before .before .before .before .before .before .args .s .now)) (scanSheet prime (c .before .before .before .before .before .before .before .before .before .before .before .before .before .before .before .args .s .now)) (c .before .before .before .before .before .before .before .before .before .before .before .before .before .before .before .args .s .now) (c .before .before .before .before .before .before .before .before .before .before .before .before .before .check-head .result) _ (c .before .before .before .before .before .before .before .before .before .before .before .before .before .check-head .ensures .0) (from-head prime (c .before .before .before .before .before .before .before .before .before .before .before .before .before .before .before .args .s .now)) (c .before .before .before .before .before .before .before .before .before .before .before .head .given .0 .0) (c .before .before .before .before .before .before .before .before .before .before .before .head .given .1)) (stays₃ prime (c .before .before .before .before .before .before .before .before .before .before .before .before .before .before .before .args .s .now)) (c .before .enum-told2 .given .0 .0) (c .before .enum-told2 .given .1)) (c  .refused2 .ensures)
+returns-2 c = refuses prime (c .before .before .before .before .before .before .before .before .before .before .before .before .before .before .before .args .s .now) (c .before .before .before .check-records .result) (c .before .enum-told2 .given .0 .0) _ (c .before .enum-told2 .given .1) (step-stops (afterRecords prime (c .before .before .before .before .before .before .before .before .before .before .before .before .before .before .before .args .s .now)) (scanSheet prime (c .before .before .before .before .before .before .before .before .before .before .before .before .before .before .before .args .s .now)) (c .before .before .before .before .before .before .before .before .before .before .before .before .before .before .before .args .s .now) (c .before .before .before .check-records .result) _ (c .before .before .before .check-records .ensures .0 ∙ ap (λ (k : ℕ). scanParts 5 (recordTests prime) k 0 (reading (c .before .before .before .before .before .before .before .before .before .before .before .head .given .0 .0) (drop (c .before .before .before .before .before .before .before .before .before .before .before .head .given .0 .0) (c .before .before .before .before .before .before .before .before .before .before .before .before .before .before .before .args .s .now)))) (c .before .before .before .before .before .before .before .before .wide .ensures)) (step-goes (afterHead prime (c .before .before .before .before .before .before .before .before .before .before .before .before .before .before .before .args .s .now)) (scanSheet prime (c .before .before .before .before .before .before .before .before .before .before .before .before .before .before .before .args .s .now)) (c .before .before .before .before .before .before .before .before .before .before .before .before .before .before .before .args .s .now) (c .before .before .before .before .before .before .before .before .before .before .before .before .before .check-head .result) _ (c .before .before .before .before .before .before .before .before .before .before .before .before .before .check-head .ensures .0) (from-head prime (c .before .before .before .before .before .before .before .before .before .before .before .before .before .before .before .args .s .now)) (c .before .before .before .before .before .before .before .before .before .before .before .head .given .0 .0) (c .before .before .before .before .before .before .before .before .before .before .before .head .given .1)) (stays₃ prime (c .before .before .before .before .before .before .before .before .before .before .before .before .before .before .before .args .s .now)) (c .before .enum-told2 .given .0 .0) (c .before .enum-told2 .given .1)) (c .refused2 .ensures)
 
 -- src/lib.rt:46:9
 check-names-requires : tie.Need-check-names-requires
@@ -106,7 +106,7 @@ refused-requires-3 c κs = search needs
 
 -- src/lib.rt:48:9
 returns-3 : tie.Need-returns-3
-returns-3 c = refuses prime (c .before .before .before .before .before .before .before .before .before .before .before .before .before .before .before .before .before .before .before .args .s .now) (c .before .before .before .check-names .result) (c .before .enum-told3 .given .0 .0) _ (c .before .enum-told3 .given .1) (step-stops (afterConstraints prime (c .before .before .before .before .before .before .before .before .before .before .before .before .before .before .before .before .before .before .before .args .s .now)) (scanSheet prime (c .before .before .before .before .before .before .before .before .before .before .before .before .before .before .before .before .before .before .before .args .s .now)) (c .before .before .before .before .before .before .before .before .before .before .before .before .before .before .before .before .before .before .before .args .s .now) (c .before .before .before .check-names .result) _ (c .before .before .before .check-names .ensures .0 ∙ λ i. scanWords 6 (replicate ((c .before .before .before .before .before .before .before .before .before .before .wide2 .ensures) i) (names ((c .before .before .before .before .before .before .before .before .before .before .before .before .wide .ensures) i))) (reading (c .before .before .before .before .before .all-records .given .0 .0) (drop (c .before .before .before .before .before .all-records .given .0 .0) (c .before .before .before .before .before .before .before .before .before .before .before .before .before .before .before .before .before .before .before .args .s .now)))) (step-goes (afterRecords prime (c .before .before .before .before .before .before .before .before .before .before .before .before .before .before .before .before .before .before .before .args .s .now)) (scanSheet prime (c .before .before .before .before .before .before .before .before .before .before .before .before .before .before .before .before .before .before .before .args .s .now)) (c .before .before .before .before .before .before .before .before .before .before .before .before .before .before .before .before .before .before .before .args .s .now) (c .before .before .before .before .before .before .before .check-records .result) _ (c .before .before .before .before .before .before .before .check-records .ensures .0 ∙ ap (λ (k : ℕ). scanParts 5 (recordTests prime) k 0 (reading (c .before .before .before .before .before .before .before .before .before .before .before .before .before .before .before .head .given .0 .0) (drop (c .before .before .before .before .before .before .before .before .before .before .before .before .before .before .before .head .given .0 .0) (c .before .before .before .before .before .before .before .before .before .before .before .before .before .before .before .before .before .before .before .args .s .now)))) (c .before .before .before .before .before .before .before .before .before .before .before .before .wide .ensures)) (step-goes (afterHead prime (c .before .before .before .before .before .before .before .before .before .before .before .before .before .before .before .before .before .before .before .args .s .now)) (scanSheet prime (c .before .before .before .before .before .before .before .before .before .before .before .before .before .before .before .before .before .before .before .args .s .now)) (c .before .before .before .before .before .before .before .before .before .before .before .before .before .before .before .before .before .before .before .args .s .now) (c .before .before .before .before .before .before .before .before .before .before .before .before .before .before .before .before .before .check-head .result) _ (c .before .before .before .before .before .before .before .before .before .before .before .before .before .before .before .before .before .check-head .ensures .0) (from-head prime (c .before .before .before .before .before .before .before .before .before .before .before .before .before .before .before .before .before .before .before .args .s .now)) (c .before .before .before .before .before .before .before .before .before .before .before .before .before .before .before .head .given .0 .0) (c .before .before .before .before .before .before .before .before .before .before .before .before .before .before .before .head .given .1)) (c .before .before .before .before .before .all-records .given .0 .0) (c .before .before .before .before .before .all-records .given .1)) (stays₂ prime (c .before .before .before .before .before .before .before .before .before .before .before .before .before .before .before .before .before .before .before .args .s .now)) (c .before .enum-told3 .given .0 .0) (c .before .enum-told3 .given .1)) (c  .refused3 .ensures)
+returns-3 c = refuses prime (c .before .before .before .before .before .before .before .before .before .before .before .before .before .before .before .before .before .before .before .args .s .now) (c .before .before .before .check-names .result) (c .before .enum-told3 .given .0 .0) _ (c .before .enum-told3 .given .1) (step-stops (afterConstraints prime (c .before .before .before .before .before .before .before .before .before .before .before .before .before .before .before .before .before .before .before .args .s .now)) (scanSheet prime (c .before .before .before .before .before .before .before .before .before .before .before .before .before .before .before .before .before .before .before .args .s .now)) (c .before .before .before .before .before .before .before .before .before .before .before .before .before .before .before .before .before .before .before .args .s .now) (c .before .before .before .check-names .result) _ (c .before .before .before .check-names .ensures .0 ∙ λ i. scanWords 6 (replicate ((c .before .before .before .before .before .before .before .before .before .before .wide2 .ensures) i) (names ((c .before .before .before .before .before .before .before .before .before .before .before .before .wide .ensures) i))) (reading (c .before .before .before .before .before .all-records .given .0 .0) (drop (c .before .before .before .before .before .all-records .given .0 .0) (c .before .before .before .before .before .before .before .before .before .before .before .before .before .before .before .before .before .before .before .args .s .now)))) (step-goes (afterRecords prime (c .before .before .before .before .before .before .before .before .before .before .before .before .before .before .before .before .before .before .before .args .s .now)) (scanSheet prime (c .before .before .before .before .before .before .before .before .before .before .before .before .before .before .before .before .before .before .before .args .s .now)) (c .before .before .before .before .before .before .before .before .before .before .before .before .before .before .before .before .before .before .before .args .s .now) (c .before .before .before .before .before .before .before .check-records .result) _ (c .before .before .before .before .before .before .before .check-records .ensures .0 ∙ ap (λ (k : ℕ). scanParts 5 (recordTests prime) k 0 (reading (c .before .before .before .before .before .before .before .before .before .before .before .before .before .before .before .head .given .0 .0) (drop (c .before .before .before .before .before .before .before .before .before .before .before .before .before .before .before .head .given .0 .0) (c .before .before .before .before .before .before .before .before .before .before .before .before .before .before .before .before .before .before .before .args .s .now)))) (c .before .before .before .before .before .before .before .before .before .before .before .before .wide .ensures)) (step-goes (afterHead prime (c .before .before .before .before .before .before .before .before .before .before .before .before .before .before .before .before .before .before .before .args .s .now)) (scanSheet prime (c .before .before .before .before .before .before .before .before .before .before .before .before .before .before .before .before .before .before .before .args .s .now)) (c .before .before .before .before .before .before .before .before .before .before .before .before .before .before .before .before .before .before .before .args .s .now) (c .before .before .before .before .before .before .before .before .before .before .before .before .before .before .before .before .before .check-head .result) _ (c .before .before .before .before .before .before .before .before .before .before .before .before .before .before .before .before .before .check-head .ensures .0) (from-head prime (c .before .before .before .before .before .before .before .before .before .before .before .before .before .before .before .before .before .before .before .args .s .now)) (c .before .before .before .before .before .before .before .before .before .before .before .before .before .before .before .head .given .0 .0) (c .before .before .before .before .before .before .before .before .before .before .before .before .before .before .before .head .given .1)) (c .before .before .before .before .before .all-records .given .0 .0) (c .before .before .before .before .before .all-records .given .1)) (stays₂ prime (c .before .before .before .before .before .before .before .before .before .before .before .before .before .before .before .before .before .before .before .args .s .now)) (c .before .enum-told3 .given .0 .0) (c .before .enum-told3 .given .1)) (c .refused3 .ensures)
 
 -- src/lib.rt:50:9
 check-interactions-requires : tie.Need-check-interactions-requires
@@ -126,7 +126,7 @@ refused-requires-4 c κs = search needs
 
 -- src/lib.rt:52:9
 returns-4 : tie.Need-returns-4
-returns-4 c = refuses prime (c .before .before .before .before .before .before .before .before .before .before .before .before .before .before .before .before .before .before .before .before .before .before .before .args .s .now) (c .before .before .before .check-interactions .result) (c .before .enum-told4 .given .0 .0) _ (c .before .enum-told4 .given .1) (step-stops (afterInteractions prime (c .before .before .before .before .before .before .before .before .before .before .before .before .before .before .before .before .before .before .before .before .before .before .before .args .s .now)) (scanSheet prime (c .before .before .before .before .before .before .before .before .before .before .before .before .before .before .before .before .before .before .before .before .before .before .before .args .s .now)) (c .before .before .before .before .before .before .before .before .before .before .before .before .before .before .before .before .before .before .before .before .before .before .before .args .s .now) (c .before .before .before .check-interactions .result) _ (c .before .before .before .check-interactions .ensures .0 ∙ λ i. scanParts 6 (λ own. interactionTests ((c .before .before .before .before .before .before .before .before .before .before .before .before .before .before .before .before .wide .ensures) i)) ((c .before .before .before .before .before .before .before .before .before .before .before .before .wide3 .ensures) i) 0 (reading (c .before .before .before .before .before .all-constraints .given .0 .0) (drop (c .before .before .before .before .before .all-constraints .given .0 .0) (c .before .before .before .before .before .before .before .before .before .before .before .before .before .before .before .before .before .before .before .before .before .before .before .args .s .now)))) (step-goes (afterConstraints prime (c .before .before .before .before .before .before .before .before .before .before .before .before .before .before .before .before .before .before .before .before .before .before .before .args .s .now)) (scanSheet prime (c .before .before .before .before .before .before .before .before .before .before .before .before .before .before .before .before .before .before .before .before .before .before .before .args .s .now)) (c .before .before .before .before .before .before .before .before .before .before .before .before .before .before .before .before .before .before .before .before .before .before .before .args .s .now) (c .before .before .before .before .before .before .before .check-names .result) _ (c .before .before .before .before .before .before .before .check-names .ensures .0 ∙ λ i. scanWords 6 (replicate ((c .before .before .before .before .before .before .before .before .before .before .before .before .before .before .wide2 .ensures) i) (names ((c .before .before .before .before .before .before .before .before .before .before .before .before .before .before .before .before .wide .ensures) i))) (reading (c .before .before .before .before .before .before .before .before .before .all-records .given .0 .0) (drop (c .before .before .before .before .before .before .before .before .before .all-records .given .0 .0) (c .before .before .before .before .before .before .before .before .before .before .before .before .before .before .before .before .before .before .before .before .before .before .before .args .s .now)))) (step-goes (afterRecords prime (c .before .before .before .before .before .before .before .before .before .before .before .before .before .before .before .before .before .before .before .before .before .before .before .args .s .now)) (scanSheet prime (c .before .before .before .before .before .before .before .before .before .before .before .before .before .before .before .before .before .before .before .before .before .before .before .args .s .now)) (c .before .before .before .before .before .before .before .before .before .before .before .before .before .before .before .before .before .before .before .before .before .before .before .args .s .now) (c .before .before .before .before .before .before .before .before .before .before .before .check-records .result) _ (c .before .before .before .before .before .before .before .before .before .before .before .check-records .ensures .0 ∙ ap (λ (k : ℕ). scanParts 5 (recordTests prime) k 0 (reading (c .before .before .before .before .before .before .before .before .before .before .before .before .before .before .before .before .before .before .before .head .given .0 .0) (drop (c .before .before .before .before .before .before .before .before .before .before .before .before .before .before .before .before .before .before .before .head .given .0 .0) (c .before .before .before .before .before .before .before .before .before .before .before .before .before .before .before .before .before .before .before .before .before .before .before .args .s .now)))) (c .before .before .before .before .before .before .before .before .before .before .before .before .before .before .before .before .wide .ensures)) (step-goes (afterHead prime (c .before .before .before .before .before .before .before .before .before .before .before .before .before .before .before .before .before .before .before .before .before .before .before .args .s .now)) (scanSheet prime (c .before .before .before .before .before .before .before .before .before .before .before .before .before .before .before .before .before .before .before .before .before .before .before .args .s .now)) (c .before .before .before .before .before .before .before .before .before .before .before .before .before .before .before .before .before .before .before .before .before .before .before .args .s .now) (c .before .before .before .before .before .before .before .before .before .before .before .before .before .before .before .before .before .before .before .before .before .check-head .result) _ (c .before .before .before .before .before .before .before .before .before .before .before .before .before .before .before .before .before .before .before .before .before .check-head .ensures .0) (from-head prime (c .before .before .before .before .before .before .before .before .before .before .before .before .before .before .before .before .before .before .before .before .before .before .before .args .s .now)) (c .before .before .before .before .before .before .before .before .before .before .before .before .before .before .before .before .before .before .before .head .given .0 .0) (c .before .before .before .before .before .before .before .before .before .before .before .before .before .before .before .before .before .before .before .head .given .1)) (c .before .before .before .before .before .before .before .before .before .all-records .given .0 .0) (c .before .before .before .before .before .before .before .before .before .all-records .given .1)) (c .before .before .before .before .before .all-constraints .given .0 .0) (c .before .before .before .before .before .all-constraints .given .1)) (stays₁ prime (c .before .before .before .before .before .before .before .before .before .before .before .before .before .before .before .before .before .before .before .before .before .before .before .args .s .now)) (c .before .enum-told4 .given .0 .0) (c .before .enum-told4 .given .1)) (c  .refused4 .ensures)
+returns-4 c = refuses prime (c .before .before .before .before .before .before .before .before .before .before .before .before .before .before .before .before .before .before .before .before .before .before .before .args .s .now) (c .before .before .before .check-interactions .result) (c .before .enum-told4 .given .0 .0) _ (c .before .enum-told4 .given .1) (step-stops (afterInteractions prime (c .before .before .before .before .before .before .before .before .before .before .before .before .before .before .before .before .before .before .before .before .before .before .before .args .s .now)) (scanSheet prime (c .before .before .before .before .before .before .before .before .before .before .before .before .before .before .before .before .before .before .before .before .before .before .before .args .s .now)) (c .before .before .before .before .before .before .before .before .before .before .before .before .before .before .before .before .before .before .before .before .before .before .before .args .s .now) (c .before .before .before .check-interactions .result) _ (c .before .before .before .check-interactions .ensures .0 ∙ λ i. scanParts 6 (λ own. interactionTests ((c .before .before .before .before .before .before .before .before .before .before .before .before .before .before .before .before .wide .ensures) i)) ((c .before .before .before .before .before .before .before .before .before .before .before .before .wide3 .ensures) i) 0 (reading (c .before .before .before .before .before .all-constraints .given .0 .0) (drop (c .before .before .before .before .before .all-constraints .given .0 .0) (c .before .before .before .before .before .before .before .before .before .before .before .before .before .before .before .before .before .before .before .before .before .before .before .args .s .now)))) (step-goes (afterConstraints prime (c .before .before .before .before .before .before .before .before .before .before .before .before .before .before .before .before .before .before .before .before .before .before .before .args .s .now)) (scanSheet prime (c .before .before .before .before .before .before .before .before .before .before .before .before .before .before .before .before .before .before .before .before .before .before .before .args .s .now)) (c .before .before .before .before .before .before .before .before .before .before .before .before .before .before .before .before .before .before .before .before .before .before .before .args .s .now) (c .before .before .before .before .before .before .before .check-names .result) _ (c .before .before .before .before .before .before .before .check-names .ensures .0 ∙ λ i. scanWords 6 (replicate ((c .before .before .before .before .before .before .before .before .before .before .before .before .before .before .wide2 .ensures) i) (names ((c .before .before .before .before .before .before .before .before .before .before .before .before .before .before .before .before .wide .ensures) i))) (reading (c .before .before .before .before .before .before .before .before .before .all-records .given .0 .0) (drop (c .before .before .before .before .before .before .before .before .before .all-records .given .0 .0) (c .before .before .before .before .before .before .before .before .before .before .before .before .before .before .before .before .before .before .before .before .before .before .before .args .s .now)))) (step-goes (afterRecords prime (c .before .before .before .before .before .before .before .before .before .before .before .before .before .before .before .before .before .before .before .before .before .before .before .args .s .now)) (scanSheet prime (c .before .before .before .before .before .before .before .before .before .before .before .before .before .before .before .before .before .before .before .before .before .before .before .args .s .now)) (c .before .before .before .before .before .before .before .before .before .before .before .before .before .before .before .before .before .before .before .before .before .before .before .args .s .now) (c .before .before .before .before .before .before .before .before .before .before .before .check-records .result) _ (c .before .before .before .before .before .before .before .before .before .before .before .check-records .ensures .0 ∙ ap (λ (k : ℕ). scanParts 5 (recordTests prime) k 0 (reading (c .before .before .before .before .before .before .before .before .before .before .before .before .before .before .before .before .before .before .before .head .given .0 .0) (drop (c .before .before .before .before .before .before .before .before .before .before .before .before .before .before .before .before .before .before .before .head .given .0 .0) (c .before .before .before .before .before .before .before .before .before .before .before .before .before .before .before .before .before .before .before .before .before .before .before .args .s .now)))) (c .before .before .before .before .before .before .before .before .before .before .before .before .before .before .before .before .wide .ensures)) (step-goes (afterHead prime (c .before .before .before .before .before .before .before .before .before .before .before .before .before .before .before .before .before .before .before .before .before .before .before .args .s .now)) (scanSheet prime (c .before .before .before .before .before .before .before .before .before .before .before .before .before .before .before .before .before .before .before .before .before .before .before .args .s .now)) (c .before .before .before .before .before .before .before .before .before .before .before .before .before .before .before .before .before .before .before .before .before .before .before .args .s .now) (c .before .before .before .before .before .before .before .before .before .before .before .before .before .before .before .before .before .before .before .before .before .check-head .result) _ (c .before .before .before .before .before .before .before .before .before .before .before .before .before .before .before .before .before .before .before .before .before .check-head .ensures .0) (from-head prime (c .before .before .before .before .before .before .before .before .before .before .before .before .before .before .before .before .before .before .before .before .before .before .before .args .s .now)) (c .before .before .before .before .before .before .before .before .before .before .before .before .before .before .before .before .before .before .before .head .given .0 .0) (c .before .before .before .before .before .before .before .before .before .before .before .before .before .before .before .before .before .before .before .head .given .1)) (c .before .before .before .before .before .before .before .before .before .all-records .given .0 .0) (c .before .before .before .before .before .before .before .before .before .all-records .given .1)) (c .before .before .before .before .before .all-constraints .given .0 .0) (c .before .before .before .before .before .all-constraints .given .1)) (stays₁ prime (c .before .before .before .before .before .before .before .before .before .before .before .before .before .before .before .before .before .before .before .before .before .before .before .args .s .now)) (c .before .enum-told4 .given .0 .0) (c .before .enum-told4 .given .1)) (c .refused4 .ensures)
 
 -- src/lib.rt:54:9
 check-spare-requires : tie.Need-check-spare-requires
@@ -146,7 +146,7 @@ refused-requires-5 c κs = search needs
 
 -- src/lib.rt:56:9
 returns-5 : tie.Need-returns-5
-returns-5 c = refuses prime (c .before .before .before .before .before .before .before .before .before .before .before .before .before .before .before .before .before .before .before .before .before .before .before .before .before .before .before .args .s .now) (c .before .before .before .check-spare .result) (c .before .enum-told5 .given .0 .0) _ (c .before .enum-told5 .given .1) (c .before .before .before .check-spare .ensures ∙ (step-goes (afterInteractions prime (c .before .before .before .before .before .before .before .before .before .before .before .before .before .before .before .before .before .before .before .before .before .before .before .before .before .before .before .args .s .now)) (scanSheet prime (c .before .before .before .before .before .before .before .before .before .before .before .before .before .before .before .before .before .before .before .before .before .before .before .before .before .before .before .args .s .now)) (c .before .before .before .before .before .before .before .before .before .before .before .before .before .before .before .before .before .before .before .before .before .before .before .before .before .before .before .args .s .now) (c .before .before .before .before .before .before .before .check-interactions .result) _ (c .before .before .before .before .before .before .before .check-interactions .ensures .0 ∙ λ i. scanParts 6 (λ own. interactionTests ((c .before .before .before .before .before .before .before .before .before .before .before .before .before .before .before .before .before .before .before .before .wide .ensures) i)) ((c .before .before .before .before .before .before .before .before .before .before .before .before .before .before .before .before .wide3 .ensures) i) 0 (reading (c .before .before .before .before .before .before .before .before .before .all-constraints .given .0 .0) (drop (c .before .before .before .before .before .before .before .before .before .all-constraints .given .0 .0) (c .before .before .before .before .before .before .before .before .before .before .before .before .before .before .before .before .before .before .before .before .before .before .before .before .before .before .before .args .s .now)))) (step-goes (afterConstraints prime (c .before .before .before .before .before .before .before .before .before .before .before .before .before .before .before .before .before .before .before .before .before .before .before .before .before .before .before .args .s .now)) (scanSheet prime (c .before .before .before .before .before .before .before .before .before .before .before .before .before .before .before .before .before .before .before .before .before .before .before .before .before .before .before .args .s .now)) (c .before .before .before .before .before .before .before .before .before .before .before .before .before .before .before .before .before .before .before .before .before .before .before .before .before .before .before .args .s .now) (c .before .before .before .before .before .before .before .before .before .before .before .check-names .result) _ (c .before .before .before .before .before .before .before .before .before .before .before .check-names .ensures .0 ∙ λ i. scanWords 6 (replicate ((c .before .before .before .before .before .before .before .before .before .before .before .before .before .before .before .before .before .before .wide2 .ensures) i) (names ((c .before .before .before .before .before .before .before .before .before .before .before .before .before .before .before .before .before .before .before .before .wide .ensures) i))) (reading (c .before .before .before .before .before .before .before .before .before .before .before .before .before .all-records .given .0 .0) (drop (c .before .before .before .before .before .before .before .before .before .before .before .before .before .all-records .given .0 .0) (c .before .before .before .before .before .before .before .before .before .before .before .before .before .before .before .before .before .before .before .before .before .before .before .before .before .before .before .args .s .now)))) (step-goes (afterRecords prime (c .before .before .before .before .before .before .before .before .before .before .before .before .before .before .before .before .before .before .before .before .before .before .before .before .before .before .before .args .s .now)) (scanSheet prime (c .before .before .before .before .before .before .before .before .before .before .before .before .before .before .before .before .before .before .before .before .before .before .before .before .before .before .before .args .s .now)) (c .before .before .before .before .before .before .before .before .before .before .before .before .before .before .before .before .before .before .before .before .before .before .before .before .before .before .before .args .s .now) (c .before .before .before .before .before .before .before .before .before .before .before .before .before .before .before .check-records .result) _ (c .before .before .before .before .before .before .before .before .before .before .before .before .before .before .before .check-records .ensures .0 ∙ ap (λ (k : ℕ). scanParts 5 (recordTests prime) k 0 (reading (c .before .before .before .before .before .before .before .before .before .before .before .before .before .before .before .before .before .before .before .before .before .before .before .head .given .0 .0) (drop (c .before .before .before .before .before .before .before .before .before .before .before .before .before .before .before .before .before .before .before .before .before .before .before .head .given .0 .0) (c .before .before .before .before .before .before .before .before .before .before .before .before .before .before .before .before .before .before .before .before .before .before .before .before .before .before .before .args .s .now)))) (c .before .before .before .before .before .before .before .before .before .before .before .before .before .before .before .before .before .before .before .before .wide .ensures)) (step-goes (afterHead prime (c .before .before .before .before .before .before .before .before .before .before .before .before .before .before .before .before .before .before .before .before .before .before .before .before .before .before .before .args .s .now)) (scanSheet prime (c .before .before .before .before .before .before .before .before .before .before .before .before .before .before .before .before .before .before .before .before .before .before .before .before .before .before .before .args .s .now)) (c .before .before .before .before .before .before .before .before .before .before .before .before .before .before .before .before .before .before .before .before .before .before .before .before .before .before .before .args .s .now) (c .before .before .before .before .before .before .before .before .before .before .before .before .before .before .before .before .before .before .before .before .before .before .before .before .before .check-head .result) _ (c .before .before .before .before .before .before .before .before .before .before .before .before .before .before .before .before .before .before .before .before .before .before .before .before .before .check-head .ensures .0) (from-head prime (c .before .before .before .before .before .before .before .before .before .before .before .before .before .before .before .before .before .before .before .before .before .before .before .before .before .before .before .args .s .now)) (c .before .before .before .before .before .before .before .before .before .before .before .before .before .before .before .before .before .before .before .before .before .before .before .head .given .0 .0) (c .before .before .before .before .before .before .before .before .before .before .before .before .before .before .before .before .before .before .before .before .before .before .before .head .given .1)) (c .before .before .before .before .before .before .before .before .before .before .before .before .before .all-records .given .0 .0) (c .before .before .before .before .before .before .before .before .before .before .before .before .before .all-records .given .1)) (c .before .before .before .before .before .before .before .before .before .all-constraints .given .0 .0) (c .before .before .before .before .before .before .before .before .before .all-constraints .given .1)) (c .before .before .before .before .before .all-interactions .given .0 .0) (c .before .before .before .before .before .all-interactions .given .1))) (c  .refused5 .ensures)
+returns-5 c = refuses prime (c .before .before .before .before .before .before .before .before .before .before .before .before .before .before .before .before .before .before .before .before .before .before .before .before .before .before .before .args .s .now) (c .before .before .before .check-spare .result) (c .before .enum-told5 .given .0 .0) _ (c .before .enum-told5 .given .1) (c .before .before .before .check-spare .ensures ∙ (step-goes (afterInteractions prime (c .before .before .before .before .before .before .before .before .before .before .before .before .before .before .before .before .before .before .before .before .before .before .before .before .before .before .before .args .s .now)) (scanSheet prime (c .before .before .before .before .before .before .before .before .before .before .before .before .before .before .before .before .before .before .before .before .before .before .before .before .before .before .before .args .s .now)) (c .before .before .before .before .before .before .before .before .before .before .before .before .before .before .before .before .before .before .before .before .before .before .before .before .before .before .before .args .s .now) (c .before .before .before .before .before .before .before .check-interactions .result) _ (c .before .before .before .before .before .before .before .check-interactions .ensures .0 ∙ λ i. scanParts 6 (λ own. interactionTests ((c .before .before .before .before .before .before .before .before .before .before .before .before .before .before .before .before .before .before .before .before .wide .ensures) i)) ((c .before .before .before .before .before .before .before .before .before .before .before .before .before .before .before .before .wide3 .ensures) i) 0 (reading (c .before .before .before .before .before .before .before .before .before .all-constraints .given .0 .0) (drop (c .before .before .before .before .before .before .before .before .before .all-constraints .given .0 .0) (c .before .before .before .before .before .before .before .before .before .before .before .before .before .before .before .before .before .before .before .before .before .before .before .before .before .before .before .args .s .now)))) (step-goes (afterConstraints prime (c .before .before .before .before .before .before .before .before .before .before .before .before .before .before .before .before .before .before .before .before .before .before .before .before .before .before .before .args .s .now)) (scanSheet prime (c .before .before .before .before .before .before .before .before .before .before .before .before .before .before .before .before .before .before .before .before .before .before .before .before .before .before .before .args .s .now)) (c .before .before .before .before .before .before .before .before .before .before .before .before .before .before .before .before .before .before .before .before .before .before .before .before .before .before .before .args .s .now) (c .before .before .before .before .before .before .before .before .before .before .before .check-names .result) _ (c .before .before .before .before .before .before .before .before .before .before .before .check-names .ensures .0 ∙ λ i. scanWords 6 (replicate ((c .before .before .before .before .before .before .before .before .before .before .before .before .before .before .before .before .before .before .wide2 .ensures) i) (names ((c .before .before .before .before .before .before .before .before .before .before .before .before .before .before .before .before .before .before .before .before .wide .ensures) i))) (reading (c .before .before .before .before .before .before .before .before .before .before .before .before .before .all-records .given .0 .0) (drop (c .before .before .before .before .before .before .before .before .before .before .before .before .before .all-records .given .0 .0) (c .before .before .before .before .before .before .before .before .before .before .before .before .before .before .before .before .before .before .before .before .before .before .before .before .before .before .before .args .s .now)))) (step-goes (afterRecords prime (c .before .before .before .before .before .before .before .before .before .before .before .before .before .before .before .before .before .before .before .before .before .before .before .before .before .before .before .args .s .now)) (scanSheet prime (c .before .before .before .before .before .before .before .before .before .before .before .before .before .before .before .before .before .before .before .before .before .before .before .before .before .before .before .args .s .now)) (c .before .before .before .before .before .before .before .before .before .before .before .before .before .before .before .before .before .before .before .before .before .before .before .before .before .before .before .args .s .now) (c .before .before .before .before .before .before .before .before .before .before .before .before .before .before .before .check-records .result) _ (c .before .before .before .before .before .before .before .before .before .before .before .before .before .before .before .check-records .ensures .0 ∙ ap (λ (k : ℕ). scanParts 5 (recordTests prime) k 0 (reading (c .before .before .before .before .before .before .before .before .before .before .before .before .before .before .before .before .before .before .before .before .before .before .before .head .given .0 .0) (drop (c .before .before .before .before .before .before .before .before .before .before .before .before .before .before .before .before .before .before .before .before .before .before .before .head .given .0 .0) (c .before .before .before .before .before .before .before .before .before .before .before .before .before .before .before .before .before .before .before .before .before .before .before .before .before .before .before .args .s .now)))) (c .before .before .before .before .before .before .before .before .before .before .before .before .before .before .before .before .before .before .before .before .wide .ensures)) (step-goes (afterHead prime (c .before .before .before .before .before .before .before .before .before .before .before .before .before .before .before .before .before .before .before .before .before .before .before .before .before .before .before .args .s .now)) (scanSheet prime (c .before .before .before .before .before .before .before .before .before .before .before .before .before .before .before .before .before .before .before .before .before .before .before .before .before .before .before .args .s .now)) (c .before .before .before .before .before .before .before .before .before .before .before .before .before .before .before .before .before .before .before .before .before .before .before .before .before .before .before .args .s .now) (c .before .before .before .before .before .before .before .before .before .before .before .before .before .before .before .before .before .before .before .before .before .before .before .before .before .check-head .result) _ (c .before .before .before .before .before .before .before .before .before .before .before .before .before .before .before .before .before .before .before .before .before .before .before .before .before .check-head .ensures .0) (from-head prime (c .before .before .before .before .before .before .before .before .before .before .before .before .before .before .before .before .before .before .before .before .before .before .before .before .before .before .before .args .s .now)) (c .before .before .before .before .before .before .before .before .before .before .before .before .before .before .before .before .before .before .before .before .before .before .before .head .given .0 .0) (c .before .before .before .before .before .before .before .before .before .before .before .before .before .before .before .before .before .before .before .before .before .before .before .head .given .1)) (c .before .before .before .before .before .before .before .before .before .before .before .before .before .all-records .given .0 .0) (c .before .before .before .before .before .before .before .before .before .before .before .before .before .all-records .given .1)) (c .before .before .before .before .before .before .before .before .before .all-constraints .given .0 .0) (c .before .before .before .before .before .before .before .before .before .all-constraints .given .1)) (c .before .before .before .before .before .all-interactions .given .0 .0) (c .before .before .before .before .before .all-interactions .given .1))) (c .refused5 .ensures)
 
 -- src/lib.rt:32:1
 returns-6 : tie.Need-returns-6

@@ -1,0 +1,12 @@
+// The builder: port of dag.rs over a sheet, scratch and an output that are lent.
+mod nodes;
+mod rules;
+
+// A record as five words.
+pub struct Record {
+    pub kind: u32,
+    pub a: u32,
+    pub b: u32,
+    pub c: u32,
+    pub d: u32,
+}
