@@ -1,0 +1,1 @@
+-- What one step of the walk changes.
