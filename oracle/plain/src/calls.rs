@@ -2,13 +2,14 @@
 //! 15; then the walk (8 to 13, 16); then 17."
 
 use crate::block::{self, BLOCK_BYTES, BLOCK_WORDS};
-use crate::expand::{Limits, Walk, LIMITS};
+use crate::expand::{Walk, LIMITS};
 use crate::graph;
 use crate::group::{
     constraint_roots, constraint_term, count_roots, field_roots, groups, interaction_term, layout,
+    Root,
 };
 use crate::packing;
-use crate::reply::{needs, outcome, refuse, says, writes, Accepted, Answer, Outcome};
+use crate::reply::{needs, outcome, refuse, says, writes, Accepted, Outcome};
 use crate::sheet::{Record, Sheet};
 
 /// "Work is 4,096 words."
@@ -126,6 +127,26 @@ pub enum Family {
     Interactions,
 }
 
+impl Family {
+    /// The roots in the order of the walk, a part for each three output slices. The interaction call "walks the counts of all
+    /// interactions, then all fields".
+    pub fn roots(self, sheet: &Sheet) -> Vec<Vec<Root>> {
+        match self {
+            Family::Constraints => vec![constraint_roots(sheet)],
+            Family::Interactions => vec![count_roots(sheet), field_roots(sheet)],
+        }
+    }
+
+    /// The finished lists of roots that are expanded, in the order of the output slices.
+    pub fn lists(self, walk: &Walk, roots: &[Vec<Root>]) -> Vec<Vec<u32>> {
+        let lists = |part: &Vec<Root>| match self {
+            Family::Constraints => layout(&groups(walk, part), constraint_term),
+            Family::Interactions => layout(&groups(walk, part), interaction_term),
+        };
+        roots.iter().flat_map(lists).collect()
+    }
+}
+
 /// Both calls: the sheet's refusals, 14, the walk, 17.
 fn expand(
     family: Family,
@@ -139,7 +160,10 @@ fn expand(
         let sheet = Sheet::decode(words)?;
         needs(14, WORK, work)?;
         needs(14, 2 * sheet.records.len(), pool)?;
-        let (_, outputs) = finished_lists(family, &sheet, pool, LIMITS)?;
+        let roots = family.roots(&sheet);
+        let mut walk = Walk::new(&sheet.records, pool, LIMITS);
+        walk.expand_all(&roots)?;
+        let outputs = family.lists(&walk, &roots);
         if let Some(short) = (0..lent.len()).find(|&k| outputs[k].len() > lent[k]) {
             return refuse(17, short + 1);
         }
@@ -147,31 +171,4 @@ fn expand(
         Ok(Accepted { outputs, numbers })
     };
     outcome(&[work, pool], lent, answer())
-}
-
-/// The walk of an expansion and its finished lists, in the order of the output slices. The interaction call "walks the counts
-/// of all interactions, then all fields".
-pub fn finished_lists(
-    family: Family,
-    sheet: &Sheet,
-    pool: usize,
-    limits: Limits,
-) -> Answer<(Walk<'_>, Vec<Vec<u32>>)> {
-    let mut walk = Walk::new(&sheet.records, pool, limits);
-    match family {
-        Family::Constraints => {
-            let roots = constraint_roots(sheet);
-            walk.expand_all(&roots)?;
-            let lists = layout(&groups(&walk, &roots), constraint_term);
-            Ok((walk, lists.to_vec()))
-        }
-        Family::Interactions => {
-            let (counts, fields) = (count_roots(sheet), field_roots(sheet));
-            walk.expand_all(&counts)?;
-            walk.expand_all(&fields)?;
-            let numerators = layout(&groups(&walk, &counts), interaction_term);
-            let denominators = layout(&groups(&walk, &fields), interaction_term);
-            Ok((walk, [numerators, denominators].concat()))
-        }
-    }
 }

@@ -34,7 +34,7 @@ pub struct Walk<'a> {
     limits: Limits,
     pool: usize,
     pub used: usize,
-    pub lists: Vec<Option<Vec<Monomial>>>,
+    lists: Vec<Option<Vec<Monomial>>>,
 }
 
 impl<'a> Walk<'a> {
@@ -63,14 +63,20 @@ impl<'a> Walk<'a> {
         self.store(number, list)
     }
 
-    pub fn expand_all(&mut self, roots: &[Root]) -> Answer<()> {
-        roots.iter().try_for_each(|root| self.expand(root.record))
+    /// All roots, from the first to the last.
+    pub fn expand_all(&mut self, roots: &[Vec<Root>]) -> Answer<()> {
+        let mut roots = roots.iter().flatten();
+        roots.try_for_each(|root| self.expand(root.record))
     }
 
+    /// The list of a record that is expanded.
     pub fn list_of(&self, record: u32) -> &[Monomial] {
-        self.lists[record as usize]
-            .as_ref()
-            .expect("expanded before")
+        let list = &self.lists[record as usize];
+        list.as_ref().expect("a record that was reached")
+    }
+
+    pub fn reached(&self, record: u32) -> bool {
+        self.lists[record as usize].is_some()
     }
 
     /// The list of a record whose children are expanded; 8 to 13, "At one record the lower number wins."

@@ -100,7 +100,9 @@ impl<T> Outcome<T> {
         &self.slices[scratch + k][..self.reply.counts[k] as usize]
     }
 
-    pub fn accepted(&self) -> bool {
-        self.reply.number == 0
+    /// The refusal, unless the call was accepted.
+    pub fn refusal(&self) -> Option<Refusal> {
+        let Reply { number, place, .. } = self.reply;
+        (number != 0).then_some(Refusal { number, place })
     }
 }
