@@ -5,6 +5,7 @@ use plain::{calls, Outcome, Record};
 pub trait Implementation {
     fn name(&self) -> &str;
 
+    #[allow(dead_code)] // nothing in the Rust to compare it with
     fn block_check(&self, bytes: &[u8], number: u32) -> Outcome;
     fn reader(&self, bytes: &[u8], out: usize) -> Outcome;
     fn writer(&self, words: &[u32], out: usize) -> Outcome<u8>;

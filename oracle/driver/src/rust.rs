@@ -16,7 +16,7 @@ use openvm_stark_backend::air_builders::symbolic::{
 };
 use openvm_stark_backend::interaction::Interaction as RustInteraction;
 use p3_field::BabyBear;
-use plain::group::{interaction_term, layout, Group, Lists, Term};
+use plain::group::Lists;
 use plain::sheet::{
     ADD, CHALLENGE, CONSTANT, IS_FIRST_ROW, IS_LAST_ROW, IS_TRANSITION, MAIN, MUL, NEG,
     PREPROCESSED, PUBLIC, SUB, VARIABLE,
@@ -187,13 +187,6 @@ pub fn expression_dag(sheet: &Sheet) -> SymbolicExpressionDag<BabyBear> {
     SymbolicExpressionDag {
         nodes: sheet.records.iter().map(node).collect(),
         constraint_idx: sheet.constraints.iter().map(|&c| c as usize).collect(),
-    }
-}
-
-pub fn constraints_dag(sheet: &Sheet) -> SymbolicConstraintsDag<BabyBear> {
-    SymbolicConstraintsDag {
-        constraints: expression_dag(sheet),
-        interactions: interactions(sheet, |record| record as usize),
     }
 }
 
@@ -371,21 +364,26 @@ fn in_order(
     variables: &[PackedVar],
     terms: &[InteractionMonomialTerm<BabyBear>],
 ) -> Lists {
-    let group = |h: &MonomialHeader| {
+    let part = |h: &MonomialHeader| {
         let variables = &variables[h.var_offset as usize..][..usize::from(h.num_vars)];
         let terms = &terms[h.term_offset as usize..][..usize::from(h.num_terms)];
-        let term = |t: &InteractionMonomialTerm<BabyBear>| Term {
-            index: u32::from(t.interaction_idx),
-            field: u32::from(t.field_idx),
-            coefficient: t.coefficient.value(),
-        };
-        let packed = |v: &PackedVar| plain::packing::PackedVar(v.0);
-        Group {
-            vars: variables.iter().map(packed).collect(),
-            terms: terms.iter().map(term).collect(),
-        }
+        (variables.len(), variables, terms)
     };
-    let mut groups: Vec<Group> = headers.iter().map(group).collect();
-    groups.sort_by(|a, b| (a.vars.len(), &a.vars).cmp(&(b.vars.len(), &b.vars)));
-    layout(&groups, interaction_term)
+    let mut parts: Vec<_> = headers.iter().map(part).collect();
+    parts.sort_by_key(|&(length, variables, _)| (length, variables));
+
+    let mut lists: Lists = Default::default();
+    let (mut variable_offset, mut term_offset) = (0, 0);
+    for (_, variables, terms) in parts {
+        let (vars, count) = (variables.len() as u32, terms.len() as u32);
+        lists[0].extend([variable_offset, term_offset, vars, count]);
+        lists[1].extend(variables.iter().map(|v| v.0));
+        for t in terms {
+            let (interaction, field) = (u32::from(t.interaction_idx), u32::from(t.field_idx));
+            lists[2].extend([t.coefficient.value(), interaction, field]);
+        }
+        variable_offset += vars;
+        term_offset += count;
+    }
+    lists
 }

@@ -1,22 +1,23 @@
 //! A small sheet that still shows what a large one shows.
 
+use std::time::{Duration, Instant};
+
 use plain::sheet::{children, CONSTANT, MAIN, VARIABLE};
 use plain::Sheet;
 
-/// Tries smaller sheets as long as one still `shows` it, and gives up after so many tries.
-pub fn shrink(sheet: &Sheet, tries: usize, shows: impl Fn(&Sheet) -> bool) -> Sheet {
+/// Tries smaller sheets as long as one still `shows` it, and gives up after some time.
+pub fn shrink(sheet: &Sheet, time: Duration, shows: impl Fn(&Sheet) -> bool) -> Sheet {
     let mut best = sheet.clone();
-    let mut left = tries;
+    let start = Instant::now();
     loop {
         let smaller = candidates(&best).into_iter().find_map(|make| {
-            if left == 0 {
+            if start.elapsed() > time {
                 return None;
             }
             let candidate = swept(&make(&best));
             if weight(&candidate) >= weight(&best) {
                 return None;
             }
-            left -= 1;
             shows(&candidate).then_some(candidate)
         });
         match smaller {

@@ -14,6 +14,7 @@ pub mod group;
 pub mod packing;
 pub mod reply;
 pub mod sheet;
+pub mod sheetlist;
 
 pub use reply::{Answer, Outcome, Refusal, Reply};
 pub use sheet::{Interaction, Record, Sheet};
