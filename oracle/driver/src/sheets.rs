@@ -9,8 +9,10 @@ use plain::{Interaction, Record, Sheet};
 
 use crate::rng::Rng;
 
+type Shape = (&'static str, usize, fn(&mut Rng) -> Sheet);
+
 /// The shapes and how often each is drawn.
-pub const SHAPES: [(&str, usize, fn(&mut Rng) -> Sheet); 11] = [
+pub const SHAPES: [Shape; 11] = [
     ("tiny", 24, tiny),
     ("folding", 18, folding),
     ("shared subexpressions", 10, shared),
@@ -82,7 +84,7 @@ fn some_degrees(rng: &mut Rng) -> Degrees {
 
 fn value(rng: &mut Rng, special: usize) -> u32 {
     if rng.percent(special) {
-        return rng.pick(&[0, 0, 0, 1, 1, 1, P - 1, P - 1, 2, P - 2, (P + 1) / 2]);
+        return rng.pick(&[0, 0, 0, 1, 1, 1, P - 1, P - 1, 2, P - 2, P / 2 + 1]);
     }
     rng.word() % P
 }
@@ -504,7 +506,9 @@ fn long_chain(rng: &mut Rng) -> Sheet {
 fn full(rng: &mut Rng) -> Sheet {
     let style = Style {
         bounded: rng.percent(70),
-        columns: 200,
+        columns: rng.pick(&[200, 30_000]),
+        copies: rng.pick(&[0, 5]),
+        special: rng.pick(&[5, 60]),
         reach: rng.pick(&[50, 500, usize::MAX]),
         degrees: some_degrees(rng),
         kinds: [12, 1, 1, 1, 4, 6, 6, 3, 4],

@@ -25,7 +25,7 @@ pub fn block_good(block: &[u8], number: u32) -> bool {
 
 /// "1: byte length 0, not a multiple of 512, or above 363,520 (710 blocks). Place 0."
 pub fn check_length(bytes: usize) -> Answer<()> {
-    if bytes == 0 || bytes % BLOCK_BYTES != 0 || bytes > MOST_BYTES {
+    if bytes == 0 || !bytes.is_multiple_of(BLOCK_BYTES) || bytes > MOST_BYTES {
         return refuse(1, 0);
     }
     Ok(())
