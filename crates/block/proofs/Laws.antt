@@ -50,7 +50,8 @@ pub summed : (number sum : ℕ) (ws : List ℕ) → sum ≡ number + total ws �
 unfolding checkWord
 summed number sum ws e = ap (λ (x : ℕ). x % 4294967296) (omega arith)
 
-pub good-at : (bs : List ℕ) (at number : ℕ) {x y : ℕ} → x ≡ wordAt (drop (at + 508) bs) → y ≡ checkWord number (wordsOf 127 (drop at bs)) → eqb x y ≡ blockGood number (drop at bs)
+pub good-at : (bs : List ℕ) (at number : ℕ) {x y : ℕ} → x ≡ wordAt (drop (at + 508) bs) → y ≡ checkWord number (wordsOf 127 (drop at bs))
+    → eqb x y ≡ blockGood number (drop at bs)
 unfolding blockGood
 good-at bs at number p q = (λ i. eqb (p i) (q i)) ∙ ap (λ (l : List ℕ). eqb (wordAt l) (checkWord number (wordsOf 127 (drop at bs)))) (sym (drop-drop 508 at bs))
 
@@ -77,6 +78,7 @@ checked-fields Yes = refl
 checked-fields No = refl
 checked-fields (Refused r) = refl
 
-pub check-fields : (bytes : List ℕ) (number : ℕ) {k j : BlockChecked} → checkedAnswer k ≡ blockCheck number bytes → k ≡ j → blockC j ≡ blockFields (blockCheckCall bytes number .reply)
+pub check-fields : (bytes : List ℕ) (number : ℕ) {k j : BlockChecked} → checkedAnswer k ≡ blockCheck number bytes → k ≡ j
+    → blockC j ≡ blockFields (blockCheckCall bytes number .reply)
 unfolding blockCheckCall
 check-fields bytes number {k} e h = ap blockC (sym h) ∙ checked-fields k ∙ ap replyFields e

@@ -151,4 +151,5 @@ pack-fields r {p} e h = ap packedC (sym h) ∙ packed-fields p ∙ ap (λ (x : A
 
 pub unpack-fields : (n : ℕ) {u v : Unpacked} → unpackedAnswer u ≡ unpack n → u ≡ v → recordC v ≡ recordFields (unpackCall n .reply)
 unfolding unpackCall
-unpack-fields n {u} e h = ap recordC (sym h) ∙ record-fields u ∙ ap (λ (x : Answer sheet.Record). recordFields (outcome [] [] (andThen x (λ r. result [] (recordWords r))) .reply)) e
+unpack-fields n {u} e h =
+    ap recordC (sym h) ∙ record-fields u ∙ ap (λ (x : Answer sheet.Record). recordFields (outcome [] [] (andThen x (λ r. result [] (recordWords r))) .reply)) e

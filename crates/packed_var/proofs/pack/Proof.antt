@@ -46,19 +46,31 @@ is-transition-requires : tie.Need-is-transition-requires
 is-transition-requires c κs = search needs
 
 returns-2 : tie.Need-returns-2
-returns-2 c = c .from-symbolic-var .ensures ∙ pack-said _ (c .before .before .before .before .before .before .before .leaf-of .ensures) (c .before .before .before .before .before .read .given .1) (c .before .before .said .given .1)
+returns-2 c =
+    c .from-symbolic-var .ensures
+    ∙ pack-said _ (c .before .before .before .before .before .before .before .leaf-of .ensures)
+    (c .before .before .before .before .before .read .given .1) (c .before .before .said .given .1)
 
 returns-3 : tie.Need-returns-3
 unfolding packRecord packFault packed
-returns-3 c = ap good (c .is-first .ensures) ∙ pack-said _ (c .before .before .before .before .before .before .leaf-of .ensures) (c .before .before .before .before .read .given .1) (c .before .enum-told2 .given .1)
+returns-3 c =
+    ap good (c .is-first .ensures)
+    ∙ pack-said _ (c .before .before .before .before .before .before .leaf-of .ensures) (c .before .before .before .before .read .given .1)
+    (c .before .enum-told2 .given .1)
 
 returns-4 : tie.Need-returns-4
 unfolding packRecord packFault packed
-returns-4 c = ap good (c .is-last .ensures) ∙ pack-said _ (c .before .before .before .before .before .before .leaf-of .ensures) (c .before .before .before .before .read .given .1) (c .before .enum-told3 .given .1)
+returns-4 c =
+    ap good (c .is-last .ensures)
+    ∙ pack-said _ (c .before .before .before .before .before .before .leaf-of .ensures) (c .before .before .before .before .read .given .1)
+    (c .before .enum-told3 .given .1)
 
 returns-5 : tie.Need-returns-5
 unfolding packRecord packFault packed
-returns-5 c = ap good (c .is-transition .ensures) ∙ pack-said _ (c .before .before .before .before .before .before .leaf-of .ensures) (c .before .before .before .before .read .given .1) (c .before .enum-told4 .given .1)
+returns-5 c =
+    ap good (c .is-transition .ensures)
+    ∙ pack-said _ (c .before .before .before .before .before .before .leaf-of .ensures) (c .before .before .before .before .read .given .1)
+    (c .before .enum-told4 .given .1)
 
 pub pack-spec : {M : Type 1} → statement M
 pack-spec =

@@ -24,11 +24,17 @@ returns c = unpack-by _ _ (c .before .before .before .words-of .ensures) (c .bef
 
 returns-2 : tie.Need-returns-2
 unfolding handsOut
-returns-2 c = unpack-by _ _ (c .before .before .before .before .before .before .before .words-of .ensures) (c .before .before .before .before .before .before .pack .ensures) (c .before .before .before .before .again .given .1) (ne-eqb _ _ (c .if1 .taken))
+returns-2 c =
+    unpack-by _ _ (c .before .before .before .before .before .before .before .words-of .ensures)
+    (c .before .before .before .before .before .before .pack .ensures) (c .before .before .before .before .again .given .1)
+    (ne-eqb _ _ (c .if1 .taken))
 
 returns-3 : tie.Need-returns-3
 unfolding handsOut
-returns-3 c = unpack-by _ _ (c .before .before .before .before .before .before .before .words-of .ensures) (c .before .before .before .before .before .before .pack .ensures) (c .before .before .before .before .again .given .1) (eq-eqb _ _ (c .if1 .left))
+returns-3 c =
+    unpack-by _ _ (c .before .before .before .before .before .before .before .words-of .ensures)
+    (c .before .before .before .before .before .before .pack .ensures) (c .before .before .before .before .again .given .1)
+    (eq-eqb _ _ (c .if1 .left))
 
 pub unpack-spec : {M : Type 1} → statement M
 unpack-spec =

@@ -43,8 +43,7 @@ loop-less c = search needs
 loop-again : tie.Need-loop-again Inv-loop μ-loop
 loop-again c =
     let args = c .before .before .before .before .args in
-    let loop = c .before .before .loop in
-    let more = rest-more 127 (args .bytes .now) (args .at) (loop .n) (search needs) (c .word-at .ensures) in
+    let more = rest-more 127 (args .bytes .now) (args .at) (c .before .before .loop .n) (search needs) (c .word-at .ensures) in
     (search needs, search needs, omega (arith, more))
 
 cast-result : tie.Need-cast-result Inv-loop μ-loop

@@ -12,8 +12,7 @@ refused-requires c κs = search needs
 
 returns : tie.Need-returns
 returns c =
-    let args = c .before .before .before .args in
-    ap packedAnswer (c .refused .ensures) ∙ column-wrong (args .var .entry) (args .var .index) (c .before .if1 .taken)
+    ap packedAnswer (c .refused .ensures) ∙ column-wrong (c .before .before .before .args .var .entry) _ (c .before .if1 .taken)
 
 cast-column : tie.Need-cast-column
 cast-column c = search needs
@@ -26,20 +25,19 @@ refused-requires-2 c κs = search needs
 
 returns-2 : tie.Need-returns-2
 returns-2 c =
-    let entry = c .before .before .before .entry in
-    let args = c .before .before .before .before .before .before .before .before .args in
-    entry-packs (args .var .index) (entry .given .1)
-    (ap packedAnswer (c .refused2 .ensures) ∙ variable-faults 1 (entry .given .0 .0) (entry .given .0 .1 .0) (args .var .index) (le-ltb 65535 (args .var .index) (c .before .before .before .before .before .before .if1 .left)) refl (lt-ltb 255 (entry .given .0 .0) (c .before .if2 .taken)) refl)
+    entry-packs _ (c .before .before .before .entry .given .1)
+    (ap packedAnswer (c .refused2 .ensures) ∙ variable-faults _ _ _ _ (le-ltb _ _ (c .before .before .before .before .before .before .if1 .left))
+    refl (lt-ltb _ _ (c .before .if2 .taken)) refl)
 
 refused-requires-3 : tie.Need-refused-requires-3
 refused-requires-3 c κs = search needs
 
 returns-3 : tie.Need-returns-3
 returns-3 c =
-    let entry = c .before .before .before .before .entry in
-    let args = c .before .before .before .before .before .before .before .before .before .args in
-    entry-packs (args .var .index) (entry .given .1)
-    (ap packedAnswer (c .refused3 .ensures) ∙ variable-faults 1 (entry .given .0 .0) (entry .given .0 .1 .0) (args .var .index) (le-ltb 65535 (args .var .index) (c .before .before .before .before .before .before .before .if1 .left)) refl (le-ltb 255 (entry .given .0 .0) (c .before .before .if2 .left)) (lt-ltb 15 (entry .given .0 .1 .0) (c .before .if3 .taken)))
+    entry-packs _ (c .before .before .before .before .entry .given .1)
+    (ap packedAnswer (c .refused3 .ensures)
+    ∙ variable-faults _ _ _ _ (le-ltb _ _ (c .before .before .before .before .before .before .before .if1 .left))
+    refl (le-ltb _ _ (c .before .before .if2 .left)) (lt-ltb _ _ (c .before .if3 .taken)))
 
 cast-new : tie.Need-cast-new
 cast-new c = search needs
@@ -58,10 +56,9 @@ refused-requires-4 c κs = search needs
 
 returns-4 : tie.Need-returns-4
 returns-4 c =
-    let entry2 = c .before .before .before .entry2 in
-    let args = c .before .before .before .before .before .before .before .before .args in
-    entry-packs (args .var .index) (entry2 .given .1)
-    (ap packedAnswer (c .refused4 .ensures) ∙ variable-faults 0 0 (entry2 .given .0 .0) (args .var .index) (le-ltb 65535 (args .var .index) (c .before .before .before .before .before .before .if1 .left)) refl refl (lt-ltb 15 (entry2 .given .0 .0) (c .before .if4 .taken)))
+    entry-packs _ (c .before .before .before .entry2 .given .1)
+    (ap packedAnswer (c .refused4 .ensures) ∙ variable-faults _ _ _ _ (le-ltb _ _ (c .before .before .before .before .before .before .if1 .left))
+    refl refl (lt-ltb _ _ (c .before .if4 .taken)))
 
 cast-new-3 : tie.Need-cast-new-3
 cast-new-3 c = search needs
@@ -83,29 +80,25 @@ refused-requires-5 c κs = search needs
 
 returns-5 : tie.Need-returns-5
 returns-5 c =
-    let entry = c .before .before .before .before .entry in
-    let args = c .before .before .before .before .before .before .before .before .before .args in
-    entry-packs (args .var .index) (entry .given .1)
-    (ap good (c .new .ensures) ∙ variable-faults 1 (entry .given .0 .0) (entry .given .0 .1 .0) (args .var .index) (le-ltb 65535 (args .var .index) (c .before .before .before .before .before .before .before .if1 .left)) refl (le-ltb 255 (entry .given .0 .0) (c .before .before .if2 .left)) (le-ltb 15 (entry .given .0 .1 .0) (c .before .if3 .left)))
+    entry-packs _ (c .before .before .before .before .entry .given .1)
+    (ap good (c .new .ensures) ∙ variable-faults _ _ _ _ (le-ltb _ _ (c .before .before .before .before .before .before .before .if1 .left))
+    refl (le-ltb _ _ (c .before .before .if2 .left)) (le-ltb _ _ (c .before .if3 .left)))
 
 returns-6 : tie.Need-returns-6
 returns-6 c =
-    let entry2 = c .before .before .before .entry2 in
-    let args = c .before .before .before .before .before .before .before .before .args in
-    entry-packs (args .var .index) (entry2 .given .1)
-    (ap good (c .new2 .ensures) ∙ variable-faults 0 0 (entry2 .given .0 .0) (args .var .index) (le-ltb 65535 (args .var .index) (c .before .before .before .before .before .before .if1 .left)) refl refl (le-ltb 15 (entry2 .given .0 .0) (c .before .if4 .left)))
+    entry-packs _ (c .before .before .before .entry2 .given .1)
+    (ap good (c .new2 .ensures) ∙ variable-faults _ _ _ _ (le-ltb _ _ (c .before .before .before .before .before .before .if1 .left))
+    refl refl (le-ltb _ _ (c .before .if4 .left)))
 
 returns-7 : tie.Need-returns-7
 returns-7 c =
-    let args = c .before .before .before .before .before .before .args in
-    entry-packs (args .var .index) (c .before .enum-told .given .1)
-    (ap good (c .new3 .ensures) ∙ variable-faults 3 0 0 (args .var .index) (le-ltb 65535 (args .var .index) (c .before .before .before .before .if1 .left)) refl refl refl)
+    entry-packs _ (c .before .enum-told .given .1)
+    (ap good (c .new3 .ensures) ∙ variable-faults _ _ _ _ (le-ltb _ _ (c .before .before .before .before .if1 .left)) refl refl refl)
 
 returns-8 : tie.Need-returns-8
 returns-8 c =
-    let args = c .before .before .before .before .before .before .args in
-    entry-packs (args .var .index) (c .before .enum-told2 .given .1)
-    (ap packedAnswer (c .refused5 .ensures) ∙ variable-faults 2 0 0 (args .var .index) (le-ltb 65535 (args .var .index) (c .before .before .before .before .if1 .left)) refl refl refl)
+    entry-packs _ (c .before .enum-told2 .given .1)
+    (ap packedAnswer (c .refused5 .ensures) ∙ variable-faults _ _ _ _ (le-ltb _ _ (c .before .before .before .before .if1 .left)) refl refl refl)
 
 pub from-symbolic-var-spec : {M : Type 1} → statement M
 from-symbolic-var-spec =

@@ -15,10 +15,9 @@ wrong-requires c κs = search needs
 returns : tie.Need-returns
 unfolding judged
 returns c =
-    let args = c .before .before .args in
     let pre = c .before .before .pre in
     ap leafAnswer (c .wrong .ensures)
-    ∙ mark-tests (args .kind) (args .a) (args .b) (args .c) (args .d) (pre .0) (pre .1) (ne-eqb (args .a) 0 (c .before .if1 .taken)) refl refl refl
+    ∙ mark-tests _ _ _ _ _ (pre .0) (pre .1) (ne-eqb _ _ (c .before .if1 .taken)) refl refl refl
 
 wrong-requires-2 : tie.Need-wrong-requires-2
 wrong-requires-2 c κs = search needs
@@ -26,11 +25,10 @@ wrong-requires-2 c κs = search needs
 returns-2 : tie.Need-returns-2
 unfolding judged
 returns-2 c =
-    let args = c .before .before .before .args in
     let pre = c .before .before .before .pre in
     ap leafAnswer (c .wrong2 .ensures)
-    ∙ mark-tests (args .kind) (args .a) (args .b) (args .c) (args .d) (pre .0) (pre .1) (eq-eqb (args .a) 0 (c .before .before .if1 .left))
-    (ne-eqb (args .b) 0 (c .before .if2 .taken)) refl refl
+    ∙ mark-tests _ _ _ _ _ (pre .0) (pre .1) (eq-eqb _ _ (c .before .before .if1 .left))
+    (ne-eqb _ _ (c .before .if2 .taken)) refl refl
 
 wrong-requires-3 : tie.Need-wrong-requires-3
 wrong-requires-3 c κs = search needs
@@ -38,12 +36,11 @@ wrong-requires-3 c κs = search needs
 returns-3 : tie.Need-returns-3
 unfolding judged
 returns-3 c =
-    let args = c .before .before .before .before .args in
     let pre = c .before .before .before .before .pre in
     ap leafAnswer (c .wrong3 .ensures)
-    ∙ mark-tests (args .kind) (args .a) (args .b) (args .c) (args .d) (pre .0) (pre .1)
-    (eq-eqb (args .a) 0 (c .before .before .before .if1 .left)) (eq-eqb (args .b) 0 (c .before .before .if2 .left))
-    (ne-eqb (args .c) 0 (c .before .if3 .taken)) refl
+    ∙ mark-tests _ _ _ _ _ (pre .0) (pre .1)
+    (eq-eqb _ _ (c .before .before .before .if1 .left)) (eq-eqb _ _ (c .before .before .if2 .left))
+    (ne-eqb _ _ (c .before .if3 .taken)) refl
 
 wrong-requires-4 : tie.Need-wrong-requires-4
 wrong-requires-4 c κs = search needs
@@ -51,28 +48,30 @@ wrong-requires-4 c κs = search needs
 returns-4 : tie.Need-returns-4
 unfolding judged
 returns-4 c =
-    let args = c .before .before .before .before .before .args in
     let pre = c .before .before .before .before .before .pre in
     ap leafAnswer (c .wrong4 .ensures)
-    ∙ mark-tests (args .kind) (args .a) (args .b) (args .c) (args .d) (pre .0) (pre .1)
-    (eq-eqb (args .a) 0 (c .before .before .before .before .if1 .left)) (eq-eqb (args .b) 0 (c .before .before .before .if2 .left))
-    (eq-eqb (args .c) 0 (c .before .before .if3 .left)) (ne-eqb (args .d) 0 (c .before .if4 .taken))
+    ∙ mark-tests _ _ _ _ _ (pre .0) (pre .1)
+    (eq-eqb _ _ (c .before .before .before .before .if1 .left)) (eq-eqb _ _ (c .before .before .before .if2 .left))
+    (eq-eqb _ _ (c .before .before .if3 .left)) (ne-eqb _ _ (c .before .if4 .taken))
 
 returns-5 : tie.Need-returns-5
 returns-5 c =
     leaf-said IsFirstRow refl
-    (λ i. recordOf (sym (c .if5 .taken) i) (sym (c .before .before .before .before .if1 .left) i) (sym (c .before .before .before .if2 .left) i) (sym (c .before .before .if3 .left) i) (sym (c .before .if4 .left) i))
+    (λ i. recordOf (sym (c .if5 .taken) i) (sym (c .before .before .before .before .if1 .left) i) (sym (c .before .before .before .if2 .left) i)
+    (sym (c .before .before .if3 .left) i) (sym (c .before .if4 .left) i))
 
 returns-6 : tie.Need-returns-6
 returns-6 c =
     leaf-said IsLastRow refl
-    (λ i. recordOf (sym (c .if6 .taken) i) (sym (c .before .before .before .before .before .if1 .left) i) (sym (c .before .before .before .before .if2 .left) i) (sym (c .before .before .before .if3 .left) i) (sym (c .before .before .if4 .left) i))
+    (λ i. recordOf (sym (c .if6 .taken) i) (sym (c .before .before .before .before .before .if1 .left) i)
+    (sym (c .before .before .before .before .if2 .left) i) (sym (c .before .before .before .if3 .left) i) (sym (c .before .before .if4 .left) i))
 
 returns-7 : tie.Need-returns-7
 returns-7 c =
     let e : 4 ≡ c .before .before .before .before .before .before .args .kind = search needs in
     leaf-said IsTransition refl
-    (λ i. recordOf (e i) (sym (c .before .before .before .before .before .if1 .left) i) (sym (c .before .before .before .before .if2 .left) i) (sym (c .before .before .before .if3 .left) i) (sym (c .before .before .if4 .left) i))
+    (λ i. recordOf (e i) (sym (c .before .before .before .before .before .if1 .left) i) (sym (c .before .before .before .before .if2 .left) i)
+    (sym (c .before .before .before .if3 .left) i) (sym (c .before .before .if4 .left) i))
 
 pub mark-spec : {M : Type 1} → statement M
 mark-spec =

@@ -3,9 +3,6 @@ use mathlib.Core.Path.{_≡_, refl, sym, ap, _∙_}
 use borrow.Author.Tests.{le-leb, lt-leb, eq-eqb, ne-eqb}
 use Rattle.semantics.specs.Sheet.{recordOf}
 use Rattle.semantics.specs.Check.{judged}
-use Rattle.packed_var.specs.declared.symbolic_variable.Entry.the-variants.{Preprocessed, Main, Public, Challenge}
-use Rattle.packed_var.specs.declared.leaf.Leaf.the-variants.{Variable}
-use Rattle.packed_var.specs.Variable.{variableOf}
 use Rattle.packed_var.specs.Packed.{leafAnswer}
 use Rattle.packed_var.proofs.Laws.{variable-tests, leaf-said}
 use Rattle.packed_var.proofs.leaf.variable.Statement.{statement}
@@ -17,9 +14,8 @@ wrong-requires c κs = search needs
 returns : tie.Need-returns
 unfolding judged
 returns c =
-    let args = c .before .before .args in
     ap leafAnswer (c .wrong .ensures)
-    ∙ variable-tests (args .a) (args .b) (args .c) (args .d) (lt-leb (args .a) 3 (c .before .if1 .taken)) refl refl refl refl
+    ∙ variable-tests _ _ _ _ (lt-leb _ _ (c .before .if1 .taken)) refl refl refl refl
 
 variable-of-requires : tie.Need-variable-of-requires
 variable-of-requires c κs = search needs
@@ -27,7 +23,7 @@ variable-of-requires c κs = search needs
 returns-2 : tie.Need-returns-2
 returns-2 c =
     let args = c .before .before .before .args in
-    leaf-said (Variable (variableOf (Main (args .b) (args .c)) (args .d))) (c .variable-of .ensures)
+    leaf-said _ (c .variable-of .ensures)
     (λ i. recordOf 1 (sym (c .before .if2 .taken) i) (args .b) (args .c) (args .d))
 
 wrong-requires-2 : tie.Need-wrong-requires-2
@@ -36,10 +32,9 @@ wrong-requires-2 c κs = search needs
 returns-3 : tie.Need-returns-3
 unfolding judged
 returns-3 c =
-    let args = c .before .before .before .before .args in
     ap leafAnswer (c .wrong2 .ensures)
-    ∙ variable-tests (args .a) (args .b) (args .c) (args .d) (le-leb (args .a) 3 (c .before .before .before .if1 .left))
-    (ne-eqb (args .a) 1 (c .before .before .if2 .left)) (ne-eqb (args .b) 0 (c .before .if3 .taken)) refl refl
+    ∙ variable-tests _ _ _ _ (le-leb _ _ (c .before .before .before .if1 .left))
+    (ne-eqb _ _ (c .before .before .if2 .left)) (ne-eqb _ _ (c .before .if3 .taken)) refl refl
 
 variable-of-requires-2 : tie.Need-variable-of-requires-2
 variable-of-requires-2 c κs = search needs
@@ -47,7 +42,7 @@ variable-of-requires-2 c κs = search needs
 returns-4 : tie.Need-returns-4
 returns-4 c =
     let args = c .before .before .before .before .before .args in
-    leaf-said (Variable (variableOf (Preprocessed (args .c)) (args .d))) (c .variable-of2 .ensures)
+    leaf-said _ (c .variable-of2 .ensures)
     (λ i. recordOf 1 (sym (c .before .if4 .taken) i) (sym (c .before .before .if3 .left) i) (args .c) (args .d))
 
 wrong-requires-3 : tie.Need-wrong-requires-3
@@ -56,20 +51,19 @@ wrong-requires-3 c κs = search needs
 returns-5 : tie.Need-returns-5
 unfolding judged
 returns-5 c =
-    let args = c .before .before .before .before .before .before .args in
     ap leafAnswer (c .wrong3 .ensures)
-    ∙ variable-tests (args .a) (args .b) (args .c) (args .d) (le-leb (args .a) 3 (c .before .before .before .before .before .if1 .left))
-    (ne-eqb (args .a) 1 (c .before .before .before .before .if2 .left)) (eq-eqb (args .b) 0 (c .before .before .before .if3 .left))
-    (lt-leb (args .a) 1 (search needs)) (ne-eqb (args .c) 0 (c .before .if5 .taken))
+    ∙ variable-tests _ _ _ _ (le-leb _ _ (c .before .before .before .before .before .if1 .left))
+    (ne-eqb _ _ (c .before .before .before .before .if2 .left)) (eq-eqb _ _ (c .before .before .before .if3 .left))
+    (lt-leb (c .before .before .before .before .before .before .args .a) 1 (search needs)) (ne-eqb _ _ (c .before .if5 .taken))
 
 variable-of-requires-3 : tie.Need-variable-of-requires-3
 variable-of-requires-3 c κs = search needs
 
 returns-6 : tie.Need-returns-6
 returns-6 c =
-    let args = c .before .before .before .before .before .before .before .args in
-    leaf-said (Variable (variableOf Challenge (args .d))) (c .variable-of3 .ensures)
-    (λ i. recordOf 1 (sym (c .before .if6 .taken) i) (sym (c .before .before .before .before .if3 .left) i) (sym (c .before .before .if5 .left) i) (args .d))
+    leaf-said _ (c .variable-of3 .ensures)
+    (λ i. recordOf 1 (sym (c .before .if6 .taken) i) (sym (c .before .before .before .before .if3 .left) i) (sym (c .before .before .if5 .left) i)
+    (c .before .before .before .before .before .before .before .args .d))
 
 variable-of-requires-4 : tie.Need-variable-of-requires-4
 variable-of-requires-4 c κs = search needs
@@ -78,7 +72,7 @@ returns-7 : tie.Need-returns-7
 returns-7 c =
     let args = c .before .before .before .before .before .before .before .args in
     let e : (args .a) ≡ 3 = search needs in
-    leaf-said (Variable (variableOf Public (args .d))) (c .variable-of4 .ensures)
+    leaf-said _ (c .variable-of4 .ensures)
     (λ i. recordOf 1 (sym (e) i) (sym (c .before .before .before .before .if3 .left) i) (sym (c .before .before .if5 .left) i) (args .d))
 
 pub variable-spec : {M : Type 1} → statement M

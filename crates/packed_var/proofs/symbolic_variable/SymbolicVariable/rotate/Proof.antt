@@ -1,9 +1,7 @@
 use borrow.Author.Needs.{needs}
 use mathlib.Core.Path.{sym, ap, _∙_}
 use Rattle.packed_var.specs.Variable.{variableAt}
-use Rattle.packed_var.proofs.symbolic_variable.SymbolicVariable.rotate.Statement.{
-  statement,
-}
+use Rattle.packed_var.proofs.symbolic_variable.SymbolicVariable.rotate.Statement.{statement}
 use Rattle.packed_var.proofs.symbolic_variable.SymbolicVariable.rotate.Tie as tie
 
 rotate-requires : tie.Need-rotate-requires
