@@ -1,2 +1,4 @@
 pub mod Marks
 pub mod Steps
+pub mod Visits
+pub mod Flags

@@ -1,9 +1,10 @@
 -- What scratch and output hold while the graph is built, as a function of the records added so far.
 use mathlib.Core.Path.{_≡_}
 use mathlib.Core.Bool.{cond}
-use mathlib.Core.List.{List, [], _∷_, _++_, flatMap}
-use Prim.Native.Nat.{ℕ, zero, suc, _+_, _*_, _≤_, _<_}
-use lib.ListN.{length}
+use mathlib.Core.List.{List, [], _∷_, _++_, map, flatMap}
+use Prim.Native.Nat.{ℕ, zero, suc, pred, _+_, _*_, _≤_, _<_}
+use lib.Dec.{leb}
+use lib.ListN.{length, getD, take, drop}
 use Rattle.semantics.specs.Arithmetic.{prime}
 use Rattle.semantics.specs.Answer.{good}
 use Rattle.semantics.specs.Sheet.{Record, recordWords}
@@ -53,3 +54,32 @@ pub record Ready (ws : List ℕ) (r : ℕ) (scratch out : List ℕ) (n : ℕ) : 
   pub done : List ℕ
   pub order : Order ws done
   pub holds : Holds ws done scratch out n
+
+-- The nodes of the constraints are flagged in scratch by 65,536 while they are put into ascending order.
+unfoldable pub flagged : (ℕ → ℕ) → List ℕ → ℕ → ℕ
+flagged f nums i = f i + cond (member i nums) 65536 0
+
+unfoldable pub flagWord : ℕ → ℕ
+flagWord w = cond (leb 65536 w) w (w + 65536)
+
+-- The members of a list among k, k + 1, .., n of them.
+unfoldable pub ascending : (k n : ℕ) → List ℕ → List ℕ
+ascending k zero nums = []
+ascending k (suc n) nums = cond (member k nums) (k ∷ ascending (suc k) n nums) (ascending (suc k) n nums)
+
+-- The words from `at` on that name records, and the nodes of these, from marks that count from 1.
+abbrev pub part : (at count : ℕ) → List ℕ → List ℕ
+part at count ws = take count (drop at ws)
+
+abbrev pub nodeNumbers : (ℕ → ℕ) → List ℕ → List ℕ
+nodeNumbers f xs = map (λ (x : ℕ). pred (f x)) xs
+
+abbrev pub marksOf : List ℕ → ℕ → ℕ
+marksOf scratch i = getD scratch i 0
+
+-- What turning names into node numbers asks: marks below the flag, names of records that have a mark.
+pub record Named (ws : List ℕ) (at count : ℕ) (scratch : List ℕ) : Type 0 where
+  pub small : (i : ℕ) → i < length scratch → marksOf scratch i < 65536
+  pub inside : at + count ≤ length ws
+  pub named : (j : ℕ) → j < count
+      → (getD ws (at + j) 0 < length scratch) × (0 < marksOf scratch (getD ws (at + j) 0)) × (marksOf scratch (getD ws (at + j) 0) ≤ length scratch)

@@ -1,5 +1,6 @@
 // The builder: port of dag.rs over a sheet, scratch and an output that are lent.
 mod nodes;
+mod finish;
 mod rules;
 
 // A record as five words.
