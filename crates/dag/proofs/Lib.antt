@@ -2,3 +2,4 @@ pub mod Marks
 pub mod Steps
 pub mod Visits
 pub mod Flags
+pub mod Sweeps

@@ -1,9 +1,9 @@
 -- What scratch and output hold while the graph is built, as a function of the records added so far.
 use mathlib.Core.Path.{_≡_}
-use mathlib.Core.Bool.{cond}
+use mathlib.Core.Bool.{Bool, true, false, cond}
 use mathlib.Core.List.{List, [], _∷_, _++_, map, flatMap}
-use Prim.Native.Nat.{ℕ, zero, suc, pred, _+_, _*_, _≤_, _<_}
-use lib.Dec.{leb}
+use Prim.Native.Nat.{ℕ, zero, suc, pred, _+_, _*_, _-_, _≤_, _<_}
+use lib.Dec.{leb, ltb}
 use lib.ListN.{length, getD, take, drop}
 use Rattle.semantics.specs.Arithmetic.{prime}
 use Rattle.semantics.specs.Answer.{good}
@@ -83,3 +83,28 @@ pub record Named (ws : List ℕ) (at count : ℕ) (scratch : List ℕ) : Type 0 
   pub inside : at + count ≤ length ws
   pub named : (j : ℕ) → j < count
       → (getD ws (at + j) 0 < length scratch) × (0 < marksOf scratch (getD ws (at + j) 0)) × (marksOf scratch (getD ws (at + j) 0) ≤ length scratch)
+
+-- Some words put at a place.
+abbrev pub put : List ℕ → ℕ → List ℕ → List ℕ
+put out at xs = take at out ++ (xs ++ drop (at + length xs) out)
+
+-- A word without its flag, and scratch with the flags of the first entries taken off.
+unfoldable pub plainWord : ℕ → ℕ
+plainWord w = cond (leb 65536 w) (w - 65536) w
+
+unfoldable pub plainBelow : (n : ℕ) → List ℕ → ℕ → ℕ
+plainBelow n scratch i = cond (ltb i n) (plainWord (marksOf scratch i)) (marksOf scratch i)
+
+-- A number, where it is wanted.
+abbrev pub chosen : Bool → ℕ → List ℕ
+chosen true x = x ∷ []
+chosen false x = []
+
+abbrev pub Wanted : Bool → ℕ → List ℕ → Type 0
+Wanted true at out = at < length out
+Wanted false at out = Unit {0}
+
+-- The flagged entries among k, k + 1, .., n of them.
+unfoldable pub flaggedAmong : (k n : ℕ) → List ℕ → List ℕ
+flaggedAmong k zero scratch = []
+flaggedAmong k (suc n) scratch = chosen (leb 65536 (marksOf scratch k)) k ++ flaggedAmong (suc k) n scratch

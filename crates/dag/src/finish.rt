@@ -2,9 +2,9 @@
 ghost use mathlib.Core.Path.{_≡_};
 ghost use mathlib.Core.List.{List, _++_};
 ghost use Prim.Native.Nat.{ℕ, pred, _+_, _%_, _≤_, _<_};
+ghost use lib.Dec.{leb};
 ghost use lib.ListN.{length, getD, set};
-ghost use Rattle.semantics.specs.Call.{padded};
-ghost use Rattle.dag.specs.Memory.{tabulate, flagWord, flagged, ascending, part, nodeNumbers, marksOf, Named};
+ghost use Rattle.dag.specs.Memory.{tabulate, flagWord, plainWord, plainBelow, flagged, flaggedAmong, chosen, Wanted, put, part, nodeNumbers, marksOf, Named};
 
 // Above every mark: a mark is a node's number counted from 1.
 const FLAG: u32 = 65536;
@@ -46,4 +46,45 @@ fn flag_nodes(sheet: &[u32], at: usize, count: usize, scratch: &mut [u32])
         flag_node(scratch, node);
         j += 1;
     }
+}
+
+// Takes the flag off a node, and says whether it had one.
+fn unflag_node(scratch: &mut [u32], node: usize) -> bool
+    requires { ⌜ node < length (now scratch) ⌝ }
+    ensures { λ r. ⌜ (r ≡ leb 65536 (getD (now (scratch .entry)) node 0)) × (now (scratch .exit) ≡ set (now (scratch .entry)) node (plainWord (getD (now (scratch .entry)) node 0))) ⌝ }
+{
+    let word = scratch[node];
+    if word < FLAG {
+        return false;
+    }
+    scratch[node] = word - FLAG;
+    true
+}
+
+// Writes a node's number at `at` where it is wanted, and hands back where the output goes on.
+fn put_node(out: &mut [u32], at: usize, node: usize, wanted: bool) -> usize
+    requires { ⌜ (node < 4294967296) × Wanted wanted at (now out) ⌝ }
+    ensures { λ r. ⌜ (now (out .exit) ≡ put (now (out .entry)) at (chosen wanted node)) × (r ≡ at + length (chosen wanted node)) ⌝ }
+{
+    if !wanted {
+        return at;
+    }
+    out[at] = node as u32;
+    at + 1
+}
+
+// Writes the flagged nodes in ascending order from `at` on, takes their flags off, and hands back where the output goes on.
+fn write_flagged(scratch: &mut [u32], nodes: usize, out: &mut [u32], at: usize) -> usize
+    requires { ⌜ (nodes ≤ length (now scratch)) × (nodes < 4294967296) × (at + length (flaggedAmong 0 nodes (now scratch)) ≤ length (now out)) ⌝ }
+    ensures { λ r. ⌜ (now (scratch .exit) ≡ tabulate 0 (length (now (scratch .entry))) (plainBelow nodes (now (scratch .entry)))) × (now (out .exit) ≡ put (now (out .entry)) at (flaggedAmong 0 nodes (now (scratch .entry)))) × (r ≡ at + length (flaggedAmong 0 nodes (now (scratch .entry)))) ⌝ }
+{
+    let mut next = at;
+    let mut node = 0;
+    while node < nodes {
+        let had = unflag_node(scratch, node);
+        let after = put_node(out, next, node, had);
+        next = after;
+        node += 1;
+    }
+    next
 }
