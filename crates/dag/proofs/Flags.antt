@@ -16,6 +16,7 @@ use Rattle.semantics.proofs.Basics.{by-test, not-both}
 use Rattle.semantics.proofs.Members.{Mem, mem-here, mem-there, mem-cases, mem-either, mem-left, mem-right, not-in, Below}
 use Rattle.dag.specs.Memory.{tabulate, flagWord, flagged, ascending, part, nodeNumbers, marksOf, Named}
 use Rattle.dag.proofs.Marks.{tabulate-length, tabulate-from, tabulate-same, tabulate-set}
+use Rattle.dag.proofs.Parts.{part-more}
 
 -- A member of a list with one more.
 member-snoc : (i x : ℕ) (xs : List ℕ) (t : Bool) → eqb i x ≡ t → member i (xs ++ (x ∷ [])) ≡ cond (member i xs) true t
@@ -151,12 +152,6 @@ module _ (ws : List ℕ) (at count : ℕ) (s₀ : List ℕ) (h : Named ws at cou
     pub next-node : pred (f (getD ws (at + j) 0)) < length s₀
     next-node = omega (arith, h .named j l .1, h .named j l .2)
 
-    part-more : part at (j + 1) ws ≡ part at j ws ++ (getD ws (at + j) 0 ∷ [])
-    part-more =
-        ap (λ (k : ℕ). take k (drop at ws)) (add-one j)
-        ∙ take-suc (drop at ws) j 0 (omega (arith, length-drop at ws, h .inside))
-        ∙ ap (λ (x : ℕ). take j (drop at ws) ++ (x ∷ [])) (getD-drop at ws j 0)
-
     pub flagging-more : (node : ℕ) → node ≡ pred (f (getD ws (at + j) 0)) → (s′ : List ℕ) → s′ ≡ set s node (flagWord (getD s node 0)) → Flagging s′ (j + 1)
     flagging-more node q s′ g =
         let nums : List ℕ = nodeNumbers f (part at j ws) in
@@ -165,4 +160,4 @@ module _ (ws : List ℕ) (at count : ℕ) (s₀ : List ℕ) (h : Named ws at cou
         ∙ ap (λ (u : List ℕ). set u k (flagWord (getD u k 0))) e
         ∙ flag-more (length s₀) f (h .small) nums k next-node
         ∙ ap (λ (xs : List ℕ). tabulate 0 (length s₀) (flagged f xs)) (sym (map-append (λ (x : ℕ). pred (f x)) (part at j ws) (getD ws (at + j) 0 ∷ [])))
-        ∙ ap (λ (xs : List ℕ). tabulate 0 (length s₀) (flagged f (nodeNumbers f xs))) (sym part-more)
+        ∙ ap (λ (xs : List ℕ). tabulate 0 (length s₀) (flagged f (nodeNumbers f xs))) (sym (part-more ws at j (omega (arith, h .inside))))

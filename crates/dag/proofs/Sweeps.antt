@@ -171,3 +171,12 @@ module _ (s₀ out₀ : List ℕ) (at nodes : ℕ) (fits : nodes ≤ length s₀
       where
         sum : (xs ys : List ℕ) → at + length xs + length ys ≡ at + length (xs ++ ys)
         sum xs ys = simp length-append (omega arith)
+
+-- What is put behind what was put, where the place is known by an equation.
+module _ (out out′ : List ℕ) (to : ℕ) (xs : List ℕ) (e : out′ ≡ put out to xs) (k : ℕ) (q : k ≡ to + length xs) where
+  pub put-next : (ys : List ℕ) → to + length xs + length ys ≤ length out → put out′ k ys ≡ put out to (xs ++ ys)
+  put-next ys h = (λ i. put (e i) (q i) ys) ∙ put-put out to xs ys h
+
+  pub set-next : (v : ℕ) → to + length xs < length out → set out′ k v ≡ put out to (xs ++ (v ∷ []))
+  set-next v h =
+      put-one out′ k v (omega (arith, ap length e ∙ put-length out to xs (omega arith))) ∙ put-next (v ∷ []) (omega arith)

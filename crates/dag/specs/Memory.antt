@@ -108,3 +108,27 @@ Wanted false at out = Unit {0}
 unfoldable pub flaggedAmong : (k n : ℕ) → List ℕ → List ℕ
 flaggedAmong k zero scratch = []
 flaggedAmong k (suc n) scratch = chosen (leb 65536 (marksOf scratch k)) k ++ flaggedAmong (suc k) n scratch
+
+-- The words of an interaction that stands at `at`, its names turned into nodes, and of as many as said.
+abbrev pub messageLength : List ℕ → ℕ → ℕ
+messageLength ws at = getD ws (at + 3) 0
+
+unfoldable pub renamedWords : (ws : List ℕ) (scratch : List ℕ) (at : ℕ) → List ℕ
+renamedWords ws scratch at =
+    (getD ws at 0 ∷ getD ws (at + 1) 0 ∷ [])
+    ++ (nodeNumbers (marksOf scratch) (part (at + 2) 1 ws)
+    ++ ((messageLength ws at ∷ []) ++ nodeNumbers (marksOf scratch) (part (at + 4) (messageLength ws at) ws)))
+
+unfoldable pub renamedAll : (ws : List ℕ) (scratch : List ℕ) (at n : ℕ) → List ℕ
+renamedAll ws scratch at zero = []
+renamedAll ws scratch at (suc n) = renamedWords ws scratch at ++ renamedAll ws scratch (at + (4 + messageLength ws at)) n
+
+-- What turning their names into nodes asks.
+pub record NamedInteraction (ws : List ℕ) (at : ℕ) (scratch : List ℕ) : Type 0 where
+  pub inside : at + (4 + messageLength ws at) ≤ length ws
+  pub count : Named ws (at + 2) 1 scratch
+  pub message : Named ws (at + 4) (messageLength ws at) scratch
+
+abbrev pub NamedInteractions : (ws : List ℕ) (scratch : List ℕ) (at n : ℕ) → Type 0
+NamedInteractions ws scratch at zero = Unit {0}
+NamedInteractions ws scratch at (suc n) = NamedInteraction ws at scratch × NamedInteractions ws scratch (at + (4 + messageLength ws at)) n

@@ -4,7 +4,7 @@ ghost use mathlib.Core.List.{List, _++_};
 ghost use Prim.Native.Nat.{ℕ, pred, _+_, _%_, _≤_, _<_};
 ghost use lib.Dec.{leb};
 ghost use lib.ListN.{length, getD, set};
-ghost use Rattle.dag.specs.Memory.{tabulate, flagWord, plainWord, plainBelow, flagged, flaggedAmong, chosen, Wanted, put, part, nodeNumbers, marksOf, Named};
+ghost use Rattle.dag.specs.Memory.{tabulate, flagWord, plainWord, plainBelow, flagged, flaggedAmong, chosen, Wanted, put, part, nodeNumbers, marksOf, Named, NamedInteraction, NamedInteractions, messageLength, renamedWords, renamedAll};
 
 // Above every mark: a mark is a node's number counted from 1.
 const FLAG: u32 = 65536;
@@ -87,4 +87,31 @@ fn write_flagged(scratch: &mut [u32], nodes: usize, out: &mut [u32], at: usize) 
         node += 1;
     }
     next
+}
+
+// Writes the nodes of the records named from `at` on.
+fn write_names(sheet: &[u32], at: usize, count: usize, scratch: &[u32], out: &mut [u32], to: usize)
+    requires { ⌜ Named (now sheet) at count (now scratch) × (to + count ≤ length (now out)) ⌝ }
+    ensures { λ _. ⌜ now (out .exit) ≡ put (now (out .entry)) to (nodeNumbers (marksOf (now (scratch .entry))) (part at count (now (sheet .entry)))) ⌝ }
+{
+    let mut j = 0;
+    while j < count {
+        let node = node_number(scratch, wide(sheet[at + j]));
+        out[to + j] = node as u32;
+        j += 1;
+    }
+}
+
+// Writes an interaction with its names turned into nodes, and hands back where the output goes on.
+fn write_interaction(sheet: &[u32], at: usize, scratch: &[u32], out: &mut [u32], to: usize) -> usize
+    requires { ⌜ NamedInteraction (now sheet) at (now scratch) × (to + (4 + messageLength (now sheet) at) ≤ length (now out)) ⌝ }
+    ensures { λ r. ⌜ (now (out .exit) ≡ put (now (out .entry)) to (renamedWords (now (sheet .entry)) (now (scratch .entry)) at)) × (r ≡ to + (4 + messageLength (now (sheet .entry)) at)) ⌝ }
+{
+    let count = wide(sheet[at + 3]);
+    out[to] = sheet[at];
+    out[to + 1] = sheet[at + 1];
+    write_names(sheet, at + 2, 1, scratch, out, to + 2);
+    out[to + 3] = sheet[at + 3];
+    write_names(sheet, at + 4, count, scratch, out, to + 4);
+    to + 4 + count
 }
