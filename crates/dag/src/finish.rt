@@ -115,3 +115,21 @@ fn write_interaction(sheet: &[u32], at: usize, scratch: &[u32], out: &mut [u32],
     write_names(sheet, at + 4, count, scratch, out, to + 4);
     to + 4 + count
 }
+
+// Writes the interactions that stand from `at` on, and hands back where the output goes on.
+fn write_interactions(sheet: &[u32], at: usize, count: usize, scratch: &[u32], out: &mut [u32], to: usize) -> usize
+    requires { ⌜ NamedInteractions (now sheet) (now scratch) at count × (to + length (renamedAll (now sheet) (now scratch) at count) ≤ length (now out)) ⌝ }
+    ensures { λ r. ⌜ (now (out .exit) ≡ put (now (out .entry)) to (renamedAll (now (sheet .entry)) (now (scratch .entry)) at count)) × (r ≡ to + length (renamedAll (now (sheet .entry)) (now (scratch .entry)) at count)) ⌝ }
+{
+    let mut from = at;
+    let mut next = to;
+    let mut i = 0;
+    while i < count {
+        let message = wide(sheet[from + 3]);
+        let after = write_interaction(sheet, from, scratch, out, next);
+        next = after;
+        from = from + 4 + message;
+        i += 1;
+    }
+    next
+}

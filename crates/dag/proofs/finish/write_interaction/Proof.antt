@@ -129,7 +129,7 @@ add-result-2 c = search needs
 
 -- src/finish.rt:106:1
 same-length : tie.Need-same-length
-same-length c = ap length (interaction-put (c .before .before .before .before .before .before .before .before .before .before .before .before .before .before .before .before .args .sheet .now) (c .before .before .before .before .before .before .before .before .before .before .before .before .before .before .before .before .args .at) (c .before .before .before .before .before .before .before .before .before .before .before .before .before .before .before .before .args .scratch .now) (c .before .before .before .before .before .before .before .before .before .before .before .before .before .before .before .before .pre .0) (c .before .before .before .before .before .before .before .before .before .before .before .before .before .before .before .before .args .out .now) (c .before .before .before .before .before .before .before .before .before .before .before .before .before .before .before .before .args .to) (c .before .before .before .before .before .before .before .before .before .before .before .before .before .before .before .before .pre .1) _ _ (c .before .before .before .before .before .before .before .write-names .last .1 .1 .1 .1 .0) _ _ refl refl (c .before .before .before .before .before .before .before .write-names .ensures) refl (c .before .before .write-names2 .ensures ∙ ap (λ (n : ℕ). put (set (c .before .before .before .before .before .before .before .write-names .last .1 .1 .1 .1 .0) ((c .before .before .before .before .before .before .before .before .before .before .before .before .before .before .before .before .args .to) + 3) (getD (c .before .before .before .before .before .before .before .before .before .before .before .before .before .before .before .before .args .sheet .now) ((c .before .before .before .before .before .before .before .before .before .before .before .before .before .before .before .before .args .at) + 3) 0)) ((c .before .before .before .before .before .before .before .before .before .before .before .before .before .before .before .before .args .to) + 4) (nodeNumbers (marksOf (c .before .before .before .before .before .before .before .before .before .before .before .before .before .before .before .before .args .scratch .now)) (part ((c .before .before .before .before .before .before .before .before .before .before .before .before .before .before .before .before .args .at) + 4) n (c .before .before .before .before .before .before .before .before .before .before .before .before .before .before .before .before .args .sheet .now)))) (c .before .before .before .before .before .before .before .before .before .before .before .wide .ensures))) ∙ put-length (c .before .before .before .before .before .before .before .before .before .before .before .before .before .before .before .before .args .out .now) (c .before .before .before .before .before .before .before .before .before .before .before .before .before .before .before .before .args .to) (renamedWords (c .before .before .before .before .before .before .before .before .before .before .before .before .before .before .before .before .args .sheet .now) (c .before .before .before .before .before .before .before .before .before .before .before .before .before .before .before .before .args .scratch .now) (c .before .before .before .before .before .before .before .before .before .before .before .before .before .before .before .before .args .at)) (omega (arith, c .before .before .before .before .before .before .before .before .before .before .before .before .before .before .before .before .pre .1, renamed-length (c .before .before .before .before .before .before .before .before .before .before .before .before .before .before .before .before .args .sheet .now) (c .before .before .before .before .before .before .before .before .before .before .before .before .before .before .before .before .args .at) (c .before .before .before .before .before .before .before .before .before .before .before .before .before .before .before .before .args .scratch .now) (c .before .before .before .before .before .before .before .before .before .before .before .before .before .before .before .before .pre .0) (c .before .before .before .before .before .before .before .before .before .before .before .before .before .before .before .before .args .out .now) (c .before .before .before .before .before .before .before .before .before .before .before .before .before .before .before .before .args .to) (c .before .before .before .before .before .before .before .before .before .before .before .before .before .before .before .before .pre .1)))
+same-length c = ap length (interaction-put (c .before .before .before .before .before .before .before .before .before .before .before .before .before .before .before .before .args .sheet .now) (c .before .before .before .before .before .before .before .before .before .before .before .before .before .before .before .before .args .at) (c .before .before .before .before .before .before .before .before .before .before .before .before .before .before .before .before .args .scratch .now) (c .before .before .before .before .before .before .before .before .before .before .before .before .before .before .before .before .pre .0) (c .before .before .before .before .before .before .before .before .before .before .before .before .before .before .before .before .args .out .now) (c .before .before .before .before .before .before .before .before .before .before .before .before .before .before .before .before .args .to) (c .before .before .before .before .before .before .before .before .before .before .before .before .before .before .before .before .pre .1) _ _ (c .before .before .before .before .before .before .before .write-names .last .1 .1 .1 .1 .0) _ _ refl refl (c .before .before .before .before .before .before .before .write-names .ensures) refl (c .before .before .write-names2 .ensures ∙ ap (λ (n : ℕ). put (set (c .before .before .before .before .before .before .before .write-names .last .1 .1 .1 .1 .0) ((c .before .before .before .before .before .before .before .before .before .before .before .before .before .before .before .before .args .to) + 3) (getD (c .before .before .before .before .before .before .before .before .before .before .before .before .before .before .before .before .args .sheet .now) ((c .before .before .before .before .before .before .before .before .before .before .before .before .before .before .before .before .args .at) + 3) 0)) ((c .before .before .before .before .before .before .before .before .before .before .before .before .before .before .before .before .args .to) + 4) (nodeNumbers (marksOf (c .before .before .before .before .before .before .before .before .before .before .before .before .before .before .before .before .args .scratch .now)) (part ((c .before .before .before .before .before .before .before .before .before .before .before .before .before .before .before .before .args .at) + 4) n (c .before .before .before .before .before .before .before .before .before .before .before .before .before .before .before .before .args .sheet .now)))) (c .before .before .before .before .before .before .before .before .before .before .before .wide .ensures))) ∙ put-length (c .before .before .before .before .before .before .before .before .before .before .before .before .before .before .before .before .args .out .now) (c .before .before .before .before .before .before .before .before .before .before .before .before .before .before .before .before .args .to) (renamedWords (c .before .before .before .before .before .before .before .before .before .before .before .before .before .before .before .before .args .sheet .now) (c .before .before .before .before .before .before .before .before .before .before .before .before .before .before .before .before .args .scratch .now) (c .before .before .before .before .before .before .before .before .before .before .before .before .before .before .before .before .args .at)) (omega (arith, c .before .before .before .before .before .before .before .before .before .before .before .before .before .before .before .before .pre .1, renamed-length (c .before .before .before .before .before .before .before .before .before .before .before .before .before .before .before .before .args .sheet .now) (c .before .before .before .before .before .before .before .before .before .before .before .before .before .before .before .before .args .at) (c .before .before .before .before .before .before .before .before .before .before .before .before .before .before .before .before .args .scratch .now) (c .before .before .before .before .before .before .before .before .before .before .before .before .before .before .before .before .pre .0)))
 
 -- src/finish.rt:106:1
 returns : tie.Need-returns
