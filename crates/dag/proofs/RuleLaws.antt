@@ -119,11 +119,11 @@ module _ {X : Type 0} {b t : Bool} (x y : X) (e : b ≡ t) where
   pub passed : {z : X} → b ≡ false → z ≡ y → z ≡ cond t x y
   passed h k = k ∙ sym (cond-false t x y (sym e ∙ h))
 
--- The second of two tests decides where the first holds.
+-- Tests in a row: one that fails decides, and behind one that holds the rest does.
 pub and-fails : (s t : Bool) → s ≡ false → false ≡ s && t
 and-fails true t e = absurd (true≢false e)
 and-fails false t e = refl
 
-pub and-rest : (s t : Bool) → s ≡ true → t ≡ s && t
-and-rest true t e = refl
-and-rest false t e = absurd (true≢false (sym e))
+pub and-goes : (s t : Bool) {u : Bool} → s ≡ true → u ≡ t → u ≡ s && t
+and-goes true t e h = h
+and-goes false t e h = absurd (true≢false (sym e))
