@@ -1,3 +1,5 @@
+pub mod RuleLaws
+pub mod NodeLaws
 pub mod Marks
 pub mod Steps
 pub mod Visits

@@ -1,10 +1,10 @@
 // The rules of `add_expr` on built children, in the order of the Rust.
 ghost use mathlib.Core.Path.{_≡_};
-ghost use Prim.Native.Nat.{_<_};
+ghost use mathlib.Core.Bool.{_&&_};
+ghost use lib.Dec.{eqb};
 ghost use Rattle.semantics.specs.Arithmetic.{prime};
 ghost use Rattle.semantics.specs.Sheet.{recordOf};
-ghost use Rattle.semantics.specs.Value.{nodeOf};
-ghost use Rattle.semantics.specs.Graph.{addRule, subRule, negRule, mulRule};
+ghost use Rattle.semantics.specs.Graph.{isConst, make, addRule, subRule, negRule, mulRule};
 ghost use Rattle.dag.specs.Picks.{pickOf, viewOf};
 use crate::Record;
 
@@ -19,4 +19,98 @@ pub struct Child {
 pub enum Pick {
     Present(u32),
     Make(Record),
+}
+
+// A node to look for or append, which has no word d.
+fn make_node(kind: u32, a: u32, b: u32, degree: u32) -> Pick
+    ensures { λ x. ⌜ pickOf x ≡ make (recordOf kind a b degree 0) ⌝ }
+{
+    Pick::Make(Record {
+        kind: kind,
+        a: a,
+        b: b,
+        c: degree,
+        d: 0,
+    })
+}
+
+fn both_constant(l: Child, r: Child) -> bool
+    ensures { λ x. ⌜ x ≡ eqb (l .kind) 5 && eqb (r .kind) 5 ⌝ }
+{
+    if l.kind != 5 {
+        return false;
+    }
+    r.kind == 5
+}
+
+fn is_const(c: Child, value: u32) -> bool
+    ensures { λ x. ⌜ x ≡ isConst value (viewOf c) ⌝ }
+{
+    if c.kind != 5 {
+        return false;
+    }
+    c.a == value
+}
+
+pub fn add_rule(l: Child, r: Child, g: u32) -> Pick
+    ensures { λ x. ⌜ pickOf x ≡ addRule prime (l .number) (r .number) (viewOf l) (viewOf r) g ⌝ }
+{
+    if both_constant(l, r) {
+        return make_node(5, field::add(l.a, r.a), 0, 0);
+    }
+    if is_const(l, 0) {
+        return Pick::Present(r.number);
+    }
+    if is_const(r, 0) {
+        return Pick::Present(l.number);
+    }
+    if r.kind == 8 {
+        return make_node(7, l.number, r.a, g);
+    }
+    make_node(6, l.number, r.number, g)
+}
+
+pub fn sub_rule(l: Child, r: Child, g: u32) -> Pick
+    ensures { λ x. ⌜ pickOf x ≡ subRule prime (l .number) (r .number) (viewOf l) (viewOf r) g ⌝ }
+{
+    if both_constant(l, r) {
+        return make_node(5, field::sub(l.a, r.a), 0, 0);
+    }
+    if is_const(r, 0) {
+        return Pick::Present(l.number);
+    }
+    if r.kind == 8 {
+        return make_node(6, l.number, r.a, g);
+    }
+    make_node(7, l.number, r.number, g)
+}
+
+pub fn neg_rule(x: Child, g: u32) -> Pick
+    ensures { λ y. ⌜ pickOf y ≡ negRule prime (x .number) (viewOf x) g ⌝ }
+{
+    if x.kind == 5 {
+        return make_node(5, field::neg(x.a), 0, 0);
+    }
+    make_node(8, x.number, 0, g)
+}
+
+pub fn mul_rule(l: Child, r: Child, g: u32) -> Pick
+    ensures { λ x. ⌜ pickOf x ≡ mulRule prime (l .number) (r .number) (viewOf l) (viewOf r) g ⌝ }
+{
+    if both_constant(l, r) {
+        return make_node(5, field::mul(l.a, r.a), 0, 0);
+    }
+    if is_const(l, 0) {
+        return Pick::Present(l.number);
+    }
+    if is_const(r, 1) {
+        return Pick::Present(l.number);
+    }
+    if is_const(r, 0) {
+        return Pick::Present(r.number);
+    }
+    if is_const(l, 1) {
+        return Pick::Present(r.number);
+    }
+    make_node(9, l.number, r.number, g)
 }

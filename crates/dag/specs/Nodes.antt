@@ -1,0 +1,24 @@
+-- The nodes in the output.
+use mathlib.Core.Path.{_≡_}
+use mathlib.Core.Bool.{false, true}
+use mathlib.Core.List.{List}
+use Prim.Native.Nat.{ℕ, _+_, _*_, _≤_, _<_}
+use lib.ListN.{getD}
+use Rattle.semantics.specs.Sheet.{Record, recordOf}
+use Rattle.semantics.specs.Value.{recordAt}
+use Rattle.semantics.specs.Graph.{equalRecords}
+
+-- The five words of node i.
+abbrev pub nodeIn : List ℕ → ℕ → Record
+nodeIn ws i = recordOf (getD ws (4 + 5 * i) 0) (getD ws (4 + 5 * i + 1) 0) (getD ws (4 + 5 * i + 2) 0) (getD ws (4 + 5 * i + 3) 0) (getD ws (4 + 5 * i + 4) 0)
+
+-- No node below `from` is equal to q.
+unfoldable pub NoneBefore : (from : ℕ) → Record → List Record → Type 0
+NoneBefore from q ns = (i : ℕ) → i < from → equalRecords q (recordAt ns i) ≡ false
+
+-- x is the first node from `from` on, of n, that is equal to q, or n.
+pub record FirstEqual (ws : List ℕ) (n from : ℕ) (q : Record) (x : ℕ) : Type 0 where
+  pub above : from ≤ x
+  pub inside : x ≤ n
+  pub skipped : (i : ℕ) → from ≤ i → i < x → equalRecords q (nodeIn ws i) ≡ false
+  pub found : x < n → equalRecords q (nodeIn ws x) ≡ true
