@@ -7,3 +7,4 @@ pub mod Parts
 pub mod Flags
 pub mod Sweeps
 pub mod Naming
+pub mod Picking

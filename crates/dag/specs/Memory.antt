@@ -10,7 +10,8 @@ use Rattle.semantics.specs.Answer.{good}
 use Rattle.semantics.specs.Sheet.{Record, recordWords}
 use Rattle.semantics.specs.Check.{readSheet, check}
 use Rattle.semantics.specs.Walk.{childrenAt, member, Distinct}
-use Rattle.semantics.specs.Graph.{Built, build}
+use Rattle.semantics.specs.Value.{nodeOf, recordAt}
+use Rattle.semantics.specs.Graph.{Built, Pick, pick, build}
 use Rattle.semantics.specs.Call.{zeros, padded}
 use Rattle.semantics.proofs.Members.{Below}
 use Rattle.semantics.proofs.Walks.{Closed}
@@ -132,3 +133,16 @@ pub record NamedInteraction (ws : List ℕ) (at : ℕ) (scratch : List ℕ) : Ty
 abbrev pub NamedInteractions : (ws : List ℕ) (scratch : List ℕ) (at n : ℕ) → Type 0
 NamedInteractions ws scratch at zero = Unit {0}
 NamedInteractions ws scratch at (suc n) = NamedInteraction ws at scratch × NamedInteractions ws scratch (at + (4 + messageLength ws at)) n
+
+-- The children of a record are added.
+abbrev pub There : (ws : List ℕ) (r : ℕ) (done : List ℕ) → Type 0
+There ws r done = (c : ℕ) → member c (childrenAt (recordsOf ws) r) ≡ true → member c done ≡ true
+
+-- What adding a record whose children are added asks.
+pub record Adding (ws : List ℕ) (r : ℕ) (scratch out : List ℕ) (n : ℕ) : Type 0 where
+  pub ready : Ready ws r scratch out n
+  pub new : member r (ready .done) ≡ false
+  pub there : There ws r (ready .done)
+
+abbrev pub pickOfRecord : (ws : List ℕ) (r : ℕ) (done : List ℕ) → Pick
+pickOfRecord ws r done = pick prime (builtOf ws done) (recordAt (recordsOf ws) r) (nodeOf (recordAt (recordsOf ws) r))

@@ -117,7 +117,14 @@ fn write_interaction(sheet: &[u32], at: usize, scratch: &[u32], out: &mut [u32],
 }
 
 // Writes the interactions that stand from `at` on, and hands back where the output goes on.
-fn write_interactions(sheet: &[u32], at: usize, count: usize, scratch: &[u32], out: &mut [u32], to: usize) -> usize
+fn write_interactions(
+    sheet: &[u32],
+    at: usize,
+    count: usize,
+    scratch: &[u32],
+    out: &mut [u32],
+    to: usize,
+) -> usize
     requires { ⌜ NamedInteractions (now sheet) (now scratch) at count × (to + length (renamedAll (now sheet) (now scratch) at count) ≤ length (now out)) ⌝ }
     ensures { λ r. ⌜ (now (out .exit) ≡ put (now (out .entry)) to (renamedAll (now (sheet .entry)) (now (scratch .entry)) at count)) × (r ≡ to + length (renamedAll (now (sheet .entry)) (now (scratch .entry)) at count)) ⌝ }
 {

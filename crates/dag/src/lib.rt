@@ -1,7 +1,8 @@
 // The builder: port of dag.rs over a sheet, scratch and an output that are lent.
-mod nodes;
 mod finish;
+mod nodes;
 mod rules;
+mod walk;
 
 // A record as five words.
 pub struct Record {

@@ -78,5 +78,9 @@ module _ (p : ℕ) (ws : List ℕ) (s : Sheet) (h : check p ws ≡ good s) where
       (length-append (headWords s ++ flatMap recordWords (s .records)) (s .constraints) ∙ omega (arith, before-constraints))
 
   -- A checked slice is at least as long as its sheet.
+  pub words-count : 4 + 5 * length (s .records) + length (s .constraints) + length (flatMap interactionWords (s .interactions)) ≤ length ws
+  unfolding headWords
+  words-count = let e = simp (length-append, records-length) at (ap length words-are) in omega arith
+
   pub words-long : length (encode s) ≤ length ws
   words-long = let e = ap length (check-sound p ws s h .1 .2) ∙ length-append (encode s) (replicate spare 0) in omega arith

@@ -47,7 +47,7 @@ wide-requires c κs = search needs
 
 -- src/finish.rt:45:13
 node-number-requires : tie.Need-node-number-requires Inv-loop μ-loop
-node-number-requires c κs = let n = c .before .before .before .before .before .before .before .pre .named (c .before .before .before .before .loop .j) (omega arith) in let w = c  .wide .ensures in let q = flagging-length (c .before .before .before .before .before .before .before .args .sheet .now) (c .before .before .before .before .before .before .before .args .at) (c .before .before .before .before .before .before .before .args .count) (c .before .before .before .before .before .before .before .args .scratch .now) (c .before .before .before .before .before .before .before .pre) (c .before .before .before .before .loop .scratch) (c .before .before .before .before .loop .j) (c .before .before .before .before .loop .inv .1) in (omega arith, subst (λ (x : ℕ). 0 < getD (c .before .before .before .before .loop .scratch) x 0 % 65536) (sym w) (omega (arith, next-mark (c .before .before .before .before .before .before .before .args .sheet .now) (c .before .before .before .before .before .before .before .args .at) (c .before .before .before .before .before .before .before .args .count) (c .before .before .before .before .before .before .before .args .scratch .now) (c .before .before .before .before .before .before .before .pre) (c .before .before .before .before .loop .scratch) (c .before .before .before .before .loop .j) (c .before .before .before .before .loop .inv .1) (omega arith))))
+node-number-requires c κs = let n = c .before .before .before .before .before .before .before .pre .named (c .before .before .before .before .loop .j) (omega arith) in let w = c .wide .ensures in let q = flagging-length (c .before .before .before .before .before .before .before .args .sheet .now) (c .before .before .before .before .before .before .before .args .at) (c .before .before .before .before .before .before .before .args .count) (c .before .before .before .before .before .before .before .args .scratch .now) (c .before .before .before .before .before .before .before .pre) (c .before .before .before .before .loop .scratch) (c .before .before .before .before .loop .j) (c .before .before .before .before .loop .inv .1) in (omega arith, subst (λ (x : ℕ). 0 < getD (c .before .before .before .before .loop .scratch) x 0 % 65536) (sym w) (omega (arith, next-mark (c .before .before .before .before .before .before .before .args .sheet .now) (c .before .before .before .before .before .before .before .args .at) (c .before .before .before .before .before .before .before .args .count) (c .before .before .before .before .before .before .before .args .scratch .now) (c .before .before .before .before .before .before .before .pre) (c .before .before .before .before .loop .scratch) (c .before .before .before .before .loop .j) (c .before .before .before .before .loop .inv .1) (omega arith))))
 
 -- src/finish.rt:46:9
 flag-node-requires : tie.Need-flag-node-requires Inv-loop μ-loop

@@ -47,11 +47,11 @@ wide-requires c κs = search needs
 
 -- src/finish.rt:99:13
 node-number-requires : tie.Need-node-number-requires Inv-loop μ-loop
-node-number-requires c κs = let n = c .before .before .before .before .before .before .before .pre .0 .named (c .before .before .before .loop .j) (omega arith) in let w = c  .wide .ensures in (omega arith, subst (λ (x : ℕ). 0 < getD (c .before .before .before .before .before .before .before .args .scratch .now) x 0 % 65536) (sym w) (omega (arith, plain-mark (c .before .before .before .before .before .before .before .args .sheet .now) (c .before .before .before .before .before .before .before .args .at) (c .before .before .before .before .before .before .before .args .count) (c .before .before .before .before .before .before .before .args .scratch .now) (c .before .before .before .before .before .before .before .pre .0) (c .before .before .before .loop .j) (omega arith))))
+node-number-requires c κs = let n = c .before .before .before .before .before .before .before .pre .0 .named (c .before .before .before .loop .j) (omega arith) in let w = c .wide .ensures in (omega arith, subst (λ (x : ℕ). 0 < getD (c .before .before .before .before .before .before .before .args .scratch .now) x 0 % 65536) (sym w) (omega (arith, plain-mark (c .before .before .before .before .before .before .before .args .sheet .now) (c .before .before .before .before .before .before .before .args .at) (c .before .before .before .before .before .before .before .args .count) (c .before .before .before .before .before .before .before .args .scratch .now) (c .before .before .before .before .before .before .before .pre .0) (c .before .before .before .loop .j) (omega arith))))
 
 -- src/finish.rt:100:23
 cast-out : tie.Need-cast-out Inv-loop μ-loop
-cast-out c = let h : c  .node-number .result < 4294967296 = omega (arith, (c  .node-number .ensures ∙ ap (λ (x : ℕ). pred (getD (c .before .before .before .before .before .before .before .before .args .scratch .now) x 0 % 65536)) (c .before .wide .ensures) ∙ ap pred (plain-mark (c .before .before .before .before .before .before .before .before .args .sheet .now) (c .before .before .before .before .before .before .before .before .args .at) (c .before .before .before .before .before .before .before .before .args .count) (c .before .before .before .before .before .before .before .before .args .scratch .now) (c .before .before .before .before .before .before .before .before .pre .0) (c .before .before .before .before .loop .j) (omega arith))), node-small (c .before .before .before .before .before .before .before .before .args .sheet .now) (c .before .before .before .before .before .before .before .before .args .at) (c .before .before .before .before .before .before .before .before .args .count) (c .before .before .before .before .before .before .before .before .args .scratch .now) (c .before .before .before .before .before .before .before .before .pre .0) (c .before .before .before .before .loop .j) (omega arith)) in search needs
+cast-out c = let h : c .node-number .result < 4294967296 = omega (arith, (c .node-number .ensures ∙ ap (λ (x : ℕ). pred (getD (c .before .before .before .before .before .before .before .before .args .scratch .now) x 0 % 65536)) (c .before .wide .ensures) ∙ ap pred (plain-mark (c .before .before .before .before .before .before .before .before .args .sheet .now) (c .before .before .before .before .before .before .before .before .args .at) (c .before .before .before .before .before .before .before .before .args .count) (c .before .before .before .before .before .before .before .before .args .scratch .now) (c .before .before .before .before .before .before .before .before .pre .0) (c .before .before .before .before .loop .j) (omega arith))), node-small (c .before .before .before .before .before .before .before .before .args .sheet .now) (c .before .before .before .before .before .before .before .before .args .at) (c .before .before .before .before .before .before .before .before .args .count) (c .before .before .before .before .before .before .before .before .args .scratch .now) (c .before .before .before .before .before .before .before .before .pre .0) (c .before .before .before .before .loop .j) (omega arith)) in search needs
 
 -- src/finish.rt:100:13
 add-out : tie.Need-add-out Inv-loop μ-loop
@@ -75,7 +75,7 @@ loop-less c = search needs
 
 -- src/finish.rt:98:5
 loop-again : tie.Need-loop-again Inv-loop μ-loop
-loop-again c = (omega arith, length-set (c .before .before .before .before .loop .out) _ _ ∙ c .before .before .before .before .loop .inv .1, naming-more (c .before .before .before .before .before .before .before .before .args .sheet .now) (c .before .before .before .before .before .before .before .before .args .at) (c .before .before .before .before .before .before .before .before .args .count) (c .before .before .before .before .before .before .before .before .args .scratch .now) (c .before .before .before .before .before .before .before .before .pre .0) (c .before .before .before .before .loop .j) (omega arith) (c .before .before .before .before .before .before .before .before .args .out .now) (c .before .before .before .before .loop .out) (c .before .before .before .before .before .before .before .before .args .to) _ (c .before .before .before .before .before .before .before .before .pre .1) (c .before .before .before .before .loop .inv .2) (c  .node-number .ensures ∙ ap (λ (x : ℕ). pred (getD (c .before .before .before .before .before .before .before .before .args .scratch .now) x 0 % 65536)) (c .before .wide .ensures) ∙ ap pred (plain-mark (c .before .before .before .before .before .before .before .before .args .sheet .now) (c .before .before .before .before .before .before .before .before .args .at) (c .before .before .before .before .before .before .before .before .args .count) (c .before .before .before .before .before .before .before .before .args .scratch .now) (c .before .before .before .before .before .before .before .before .pre .0) (c .before .before .before .before .loop .j) (omega arith))))
+loop-again c = (omega arith, length-set (c .before .before .before .before .loop .out) _ _ ∙ c .before .before .before .before .loop .inv .1, naming-more (c .before .before .before .before .before .before .before .before .args .sheet .now) (c .before .before .before .before .before .before .before .before .args .at) (c .before .before .before .before .before .before .before .before .args .count) (c .before .before .before .before .before .before .before .before .args .scratch .now) (c .before .before .before .before .before .before .before .before .pre .0) (c .before .before .before .before .loop .j) (omega arith) (c .before .before .before .before .before .before .before .before .args .out .now) (c .before .before .before .before .loop .out) (c .before .before .before .before .before .before .before .before .args .to) _ (c .before .before .before .before .before .before .before .before .pre .1) (c .before .before .before .before .loop .inv .2) (c .node-number .ensures ∙ ap (λ (x : ℕ). pred (getD (c .before .before .before .before .before .before .before .before .args .scratch .now) x 0 % 65536)) (c .before .wide .ensures) ∙ ap pred (plain-mark (c .before .before .before .before .before .before .before .before .args .sheet .now) (c .before .before .before .before .before .before .before .before .args .at) (c .before .before .before .before .before .before .before .before .args .count) (c .before .before .before .before .before .before .before .before .args .scratch .now) (c .before .before .before .before .before .before .before .before .pre .0) (c .before .before .before .before .loop .j) (omega arith))))
 
 -- src/finish.rt:93:1
 same-length : tie.Need-same-length Inv-loop μ-loop

@@ -1,0 +1,77 @@
+// The walk: each reached record is added once, after its children.
+ghost use mathlib.Core.Path.{_≡_};
+ghost use mathlib.Core.Bool.{false, cond};
+ghost use mathlib.Core.List.{List, _∷_};
+ghost use Prim.Native.Nat.{ℕ, suc, _+_, _-_, _*_, _≤_, _<_};
+ghost use lib.Dec.{eqb};
+ghost use lib.ListN.{length, getD};
+ghost use Rattle.semantics.specs.Arithmetic.{prime};
+ghost use Rattle.semantics.specs.Graph.{addRule, subRule, mulRule};
+ghost use Rattle.semantics.specs.Value.{recordAt};
+ghost use Rattle.semantics.specs.Walk.{member, visit, childrenAt};
+ghost use Rattle.dag.specs.Picks.{fiveWords, pickOf, viewOf};
+ghost use Rattle.dag.specs.Nodes.{nodeIn};
+ghost use Rattle.dag.specs.Memory.{Holds, Order, Ready, Adding, There, pickOfRecord, recordsOf};
+use crate::Record;
+use crate::nodes;
+use crate::rules;
+use crate::rules::Child;
+use crate::rules::Pick;
+
+fn wide(w: u32) -> usize
+    ensures { λ r. ⌜ r ≡ w ⌝ }
+{
+    w as usize
+}
+
+// The five words of record r.
+fn record_at(sheet: &[u32], r: usize) -> Record
+    requires { ⌜ 4 + 5 * r + 5 ≤ length (now sheet) ⌝ }
+    ensures { λ x. ⌜ fiveWords x ≡ nodeIn (now (sheet .entry)) r ⌝ }
+{
+    let at = 4 + 5 * r;
+    Record {
+        kind: sheet[at],
+        a: sheet[at + 1],
+        b: sheet[at + 2],
+        c: sheet[at + 3],
+        d: sheet[at + 4],
+    }
+}
+
+// What the rules look at in the node of a record that is added.
+fn built_child(scratch: &[u32], out: &[u32], c: usize) -> Child
+    requires { ⌜ (c < length (now scratch)) × (0 < getD (now scratch) c 0) × (4 + 5 * (getD (now scratch) c 0 - 1) + 5 ≤ length (now out)) ⌝ }
+    ensures { λ x. ⌜ (x .number ≡ getD (now (scratch .entry)) c 0 - 1) × (x .kind ≡ nodeIn (now (out .entry)) (getD (now (scratch .entry)) c 0 - 1) .kind) × (x .a ≡ nodeIn (now (out .entry)) (getD (now (scratch .entry)) c 0 - 1) .a) ⌝ }
+{
+    nodes::child(out, scratch[c] - 1)
+}
+
+// The rule for a record with two children.
+fn two_rule(kind: u32, l: Child, r: Child, g: u32) -> Pick
+    ensures { λ x. ⌜ pickOf x ≡ cond (eqb kind 6) (addRule prime (l .number) (r .number) (viewOf l) (viewOf r) g) (cond (eqb kind 7) (subRule prime (l .number) (r .number) (viewOf l) (viewOf r) g) (mulRule prime (l .number) (r .number) (viewOf l) (viewOf r) g)) ⌝ }
+{
+    if kind == 6 {
+        return rules::add_rule(l, r, g);
+    }
+    if kind == 7 {
+        return rules::sub_rule(l, r, g);
+    }
+    rules::mul_rule(l, r, g)
+}
+
+// The node of a record whose children are added.
+fn pick_node(sheet: &[u32], scratch: &[u32], out: &[u32], r: usize) -> Pick
+    requires { ⌜ ((n : ℕ) × Adding (now sheet) r (now scratch) (now out) n) ⌝ }
+    ensures { λ x. ⌜ ((done : List ℕ) → Order (now (sheet .entry)) done → There (now (sheet .entry)) r done → (n : ℕ) → Holds (now (sheet .entry)) done (now (scratch .entry)) (now (out .entry)) n → pickOf x ≡ pickOfRecord (now (sheet .entry)) r done) ⌝ }
+{
+    let q = record_at(sheet, r);
+    if q.kind < 6 {
+        return Pick::Make(q);
+    }
+    let l = built_child(scratch, out, wide(q.a));
+    if q.kind == 8 {
+        return rules::neg_rule(l, q.c);
+    }
+    two_rule(q.kind, l, built_child(scratch, out, wide(q.b)), q.c)
+}
