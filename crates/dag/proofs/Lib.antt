@@ -8,3 +8,4 @@ pub mod Flags
 pub mod Sweeps
 pub mod Naming
 pub mod Picking
+pub mod Adds

@@ -75,3 +75,21 @@ fn pick_node(sheet: &[u32], scratch: &[u32], out: &[u32], r: usize) -> Pick
     }
     two_rule(q.kind, l, built_child(scratch, out, wide(q.b)), q.c)
 }
+
+// Adds a record whose children are added, and hands back the number of nodes.
+fn add_record(sheet: &[u32], scratch: &mut [u32], out: &mut [u32], r: usize, n: usize) -> usize
+    requires { ⌜ Adding (now sheet) r (now scratch) (now out) n ⌝ }
+    ensures { λ u. ⌜ ((done : List ℕ) → Order (now (sheet .entry)) done → member r done ≡ false → There (now (sheet .entry)) r done → Holds (now (sheet .entry)) done (now (scratch .entry)) (now (out .entry)) n → Holds (now (sheet .entry)) (r ∷ done) (now (scratch .exit)) (now (out .exit)) u) ⌝ }
+{
+    match pick_node(sheet, scratch, out, r) {
+        Pick::Present(k) => {
+            scratch[r] = k + 1;
+            n
+        }
+        Pick::Make(q) => {
+            let node = nodes::intern_node(out, n, 0, q);
+            scratch[r] = node.index as u32 + 1;
+            node.count
+        }
+    }
+}
