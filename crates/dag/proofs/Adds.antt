@@ -122,3 +122,30 @@ module _ (ws : List ℕ) (checked : check prime ws ≡ good (readSheet ws)) wher
         ⊎-elim (λ (q : c ≡ x). visit-old ch (suc y) d y c (subst (λ (z : ℕ). Mem z d) (sym q) (visit-has ch (suc x) done x (omega arith))))
         (λ (i : Mem c (y ∷ [])). ⊎-elim (λ (q : c ≡ y). subst (λ (z : ℕ). Mem z (visit ch (suc y) d y)) (sym q) (visit-has ch (suc y) d y (omega arith)))
         (λ (j : Mem c []). not-in c j) (mem-cases c y [] i)) (mem-cases c x (y ∷ []) (subst (Mem c) e m))
+
+    -- What the calls ask: for a child, and for the record again when a child is visited.
+    pub ready-child : (scratch out : List ℕ) (n x : ℕ) → Mem x (ch r) → Ready ws r scratch out n → Ready ws x scratch out n
+    ready-child scratch out n x m p = record {
+      checked = p .checked;
+      inside = child-inside x m;
+      room = p .room;
+      done = p .done;
+      order = p .order;
+      holds = p .holds;
+    }
+
+    abbrev pub ready-after : (scratch out : List ℕ) (n x : ℕ) → Mem x (ch r) → Ready ws r scratch out n → (scratch′ out′ : List ℕ) (u : ℕ)
+        → length out′ ≡ length out
+        → ((done : List ℕ) → Order ws done → Holds ws done scratch out n → Holds ws (visit ch (suc x) done x) scratch′ out′ u)
+        → Ready ws r scratch′ out′ u
+    ready-after scratch out n x m p scratch′ out′ u k f = record {
+      checked = p .checked;
+      inside = p .inside;
+      room = subst (λ (j : ℕ). 4 + 5 * E ≤ j) (sym k) (p .room);
+      done = visit ch (suc x) (p .done) x;
+      order = order-next (p .done) x m (p .order);
+      holds = f (p .done) (p .order) (p .holds);
+    }
+
+    pub adding : (scratch out : List ℕ) (n : ℕ) (p : Ready ws r scratch out n) → member r (p .done) ≡ false → There ws r (p .done) → Adding ws r scratch out n
+    adding scratch out n p new there = record { ready = p; new = new; there = there }

@@ -93,3 +93,25 @@ fn add_record(sheet: &[u32], scratch: &mut [u32], out: &mut [u32], r: usize, n: 
         }
     }
 }
+
+// Adds record r with all that it reaches, children first, left before right; hands back the number of nodes.
+fn add_expr(sheet: &[u32], scratch: &mut [u32], out: &mut [u32], r: usize, n: usize) -> usize
+    requires { ⌜ Ready (now sheet) r (now scratch) (now out) n ⌝ }
+    ensures { λ u. ⌜ ((done : List ℕ) → Order (now (sheet .entry)) done → Holds (now (sheet .entry)) done (now (scratch .entry)) (now (out .entry)) n → Holds (now (sheet .entry)) (visit (childrenAt (recordsOf (now (sheet .entry)))) (suc r) done r) (now (scratch .exit)) (now (out .exit)) u) ⌝ }
+{
+    if scratch[r] != 0 {
+        return n;
+    }
+    let q = record_at(sheet, r);
+    if q.kind < 6 {
+        return add_record(sheet, scratch, out, r, n);
+    }
+    let left = wide(q.a);
+    let one = add_expr(sheet, scratch, out, left, n);
+    if q.kind == 8 {
+        return add_record(sheet, scratch, out, r, one);
+    }
+    let right = wide(q.b);
+    let two = add_expr(sheet, scratch, out, right, one);
+    add_record(sheet, scratch, out, r, two)
+}
