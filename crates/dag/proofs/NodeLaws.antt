@@ -1,28 +1,31 @@
 -- The nodes in the output, and the search for one.
 use mathlib.Core.Path.{_≡_, refl, sym, _∙_, ap, subst}
 use mathlib.Core.Logic.{⊎-elim}
-use mathlib.Core.Bool.{Bool, true, false, cond, true≢false, _&&_}
+use mathlib.Core.Bool.{Bool, true, false, _&&_}
 use mathlib.Core.List.{List, [], _∷_, _++_, flatMap, append-assoc, append-nil}
 use Prim.Native.Nat.{ℕ, zero, suc, _+_, _*_, _-_, _≤_, _<_}
-use native.Mathlib.Nat.{eq-or-lt-of-le}
+use native.Mathlib.Nat.{eq-or-lt-of-le, sub-zero}
 use native.Mathlib.Omega.{arith}
 use lib.Dec.{eqb, ltb}
-use lib.ListN.{length, getD, take, drop, replicate, set, length-append, length-replicate, replicate-append-replicate}
-use lib.Seq.{getD-append-add, take-at, drop-at, sets, sets-eq}
+use lib.ListN.{length, getD, drop, replicate, set, length-append, length-replicate}
+use lib.Seq.{getD-append-add, drop-append-add, take-at, sets, sets-eq}
 use borrow.Author.Tests.{ltb-true, ltb-false, lt-ltb, le-ltb}
 use Rattle.semantics.specs.Sheet.{Record, recordOf, recordWords, Each, GoodRecord}
 use Rattle.semantics.specs.Value.{nodeOf, noRecord, recordAt}
 use Rattle.semantics.specs.Walk.{children, childrenAt, member}
 use Rattle.semantics.specs.Graph.{equalRecords, find, intern}
 use Rattle.semantics.specs.Call.{zeros, padded}
-use Rattle.semantics.proofs.Basics.{cond-true, cond-false, not-both}
+use Rattle.semantics.proofs.Basics.{cond-true, cond-false}
 use Rattle.semantics.proofs.Encoding.{records-length}
 use Rattle.semantics.proofs.Records.{each-low}
 use Rattle.semantics.proofs.Access.{word-at}
 use Rattle.semantics.proofs.Orders.{low}
 use Rattle.semantics.proofs.Graphs.{equal-is}
+use Rattle.dag.specs.declared.rules.Child.{Child}
+use Rattle.dag.specs.Picks.{viewOf}
 use Rattle.dag.specs.Memory.{nodesOut}
 use Rattle.dag.specs.Nodes.{nodeIn, NoneBefore, FirstEqual}
+use Rattle.dag.proofs.RuleLaws.{seen}
 
 -- Equal in all five words, word by word.
 and-assoc : (s t u : Bool) → (s && t) && u ≡ s && (t && u)
@@ -38,11 +41,11 @@ record-wide : (r : Record) → length (recordWords r) ≡ 5
 unfolding recordWords
 record-wide r = refl
 
-module _ (ws : List ℕ) (ns : List Record) (e : ws ≡ nodesOut (length ws) ns) (i : ℕ) (h : i < length ns) where
+module _ (ws : List ℕ) (lent : ℕ) (ns : List Record) (e : ws ≡ nodesOut lent ns) (i : ℕ) (h : i < length ns) where
   node-word : (j k : ℕ) → 4 + (5 * i + j) ≡ k → j < 5 → getD ws k 0 ≡ getD (recordWords (recordAt ns i)) j 0
   unfolding nodesOut padded zeros recordAt
   node-word j k q l =
-      let rest : List ℕ = replicate (length ws - length (replicate 4 0 ++ flatMap recordWords ns)) 0 in
+      let rest : List ℕ = replicate (lent - length (replicate 4 0 ++ flatMap recordWords ns)) 0 in
       ap (λ (n : ℕ). getD ws n 0) (sym q)
       ∙ ap (λ (u : List ℕ). getD u (4 + (5 * i + j)) 0) e
       ∙ getD-append-add (replicate 4 0) (flatMap recordWords ns ++ rest) (5 * i + j) 0
@@ -57,6 +60,10 @@ module _ (ws : List ℕ) (ns : List Record) (e : ws ≡ nodesOut (length ws) ns)
       let c = node-word 3 (4 + 5 * i + 3) (omega arith) (omega arith) in
       let d = node-word 4 (4 + 5 * i + 4) (omega arith) (omega arith) in
       λ t. record { kind = k t; a = a t; b = b t; c = c t; d = d t }
+
+  -- A child that holds the node's kind and its word a is as good as the node to the rules.
+  pub child-sees : (x : Child) → x .kind ≡ nodeIn ws i .kind → x .a ≡ nodeIn ws i .a → viewOf x ≡ seen (recordAt ns i)
+  child-sees x k a = λ t. nodeOf (recordOf ((k ∙ ap (λ (m : Record). m .kind) node-in) t) ((a ∙ ap (λ (m : Record). m .a) node-in) t) 0 0 0)
 
 -- One more node.
 flat-snoc : (ns : List Record) (q : Record) → flatMap recordWords (ns ++ (q ∷ [])) ≡ flatMap recordWords ns ++ recordWords q
@@ -74,19 +81,21 @@ five-stores ws at k a b c d =
     let e₄ : at + 4 ≡ suc (suc (suc (suc at))) = omega arith in
     rw (e₁, e₂, e₃, e₄)
 
+drop-zeros : (j m : ℕ) → drop j (zeros m) ≡ zeros (m - j)
+unfolding zeros
+drop-zeros zero m = ap zeros (sym (sub-zero m))
+drop-zeros (suc j) zero = let e : 0 ≡ 0 - suc j = omega arith in ap zeros e
+drop-zeros (suc j) (suc m) = let e : m - j ≡ suc m - suc j = omega arith in drop-zeros j m ∙ ap zeros e
+
 -- Words written behind others take the place of zeros.
 pad-more : (ws vs : List ℕ) (lent n : ℕ) → length ws ≡ n → n + length vs ≤ lent → sets (padded ws lent) n vs ≡ padded (ws ++ vs) lent
 unfolding padded zeros
 pad-more ws vs lent n e h =
     let zs : List ℕ = replicate (lent - length ws) 0 in
-    let k : ℕ = lent - length (ws ++ vs) in
-    let m : length vs + k ≡ lent - length ws = omega (arith, length-append ws vs) in
-    let z : zs ≡ replicate (length vs) 0 ++ replicate k 0 =
-    sym (replicate-append-replicate (length vs) k 0 ∙ ap (λ (j : ℕ). replicate j 0) m) in
-    let d : drop (n + length vs) (ws ++ zs) ≡ replicate k 0 =
-    ap (λ (l : List ℕ). drop (n + length vs) (ws ++ l)) z
-    ∙ ap (drop (n + length vs)) (sym (append-assoc ws (replicate (length vs) 0) (replicate k 0)))
-    ∙ drop-at (ws ++ replicate (length vs) 0) (replicate k 0) (n + length vs) (length-append ws (replicate (length vs) 0) ∙ omega (arith, length-replicate {A = ℕ} (length vs) 0)) in
+    let m : lent - length ws - length vs ≡ lent - length (ws ++ vs) = omega (arith, length-append ws vs) in
+    let d : drop (n + length vs) (ws ++ zs) ≡ replicate (lent - length (ws ++ vs)) 0 =
+    ap (λ (j : ℕ). drop (j + length vs) (ws ++ zs)) (sym e) ∙ drop-append-add ws zs (length vs)
+    ∙ drop-zeros (length vs) (lent - length ws) ∙ ap (λ (j : ℕ). replicate j 0) m in
     sets-eq vs (ws ++ zs) n (simp (length-append, length-replicate) (omega arith)) ∙ λ i. (take-at ws zs n e i ++ vs) ++ d i
 
 pub nodes-more : (lent : ℕ) (ns : List Record) (q : Record) → 4 + 5 * (length ns + 1) ≤ lent
@@ -116,15 +125,14 @@ skips P from i f h k l m =
 module _ (ws : List ℕ) (ns : List Record) (e : ws ≡ nodesOut (length ws) ns) (n : ℕ) (z : n ≡ length ns) (from : ℕ) (q : Record) (none : NoneBefore from q ns)
     (x : ℕ) (f : FirstEqual ws n from q x) where
   found-is : x ≡ find q ns
-  unfolding NoneBefore
   found-is =
       find-is q ns x (omega (arith, f .inside)) (λ i h. go i h (ltb i from) refl)
-      (λ h. ap (equalRecords q) (sym (node-in ws ns e x h)) ∙ f .found (omega arith))
+      (λ h. ap (equalRecords q) (sym (node-in ws (length ws) ns e x h)) ∙ f .found (omega arith))
     where
       go : (i : ℕ) → i < x → (t : Bool) → ltb i from ≡ t → equalRecords q (recordAt ns i) ≡ false
       go i h true t = none i (ltb-true _ _ t)
       go i h false t =
-          ap (equalRecords q) (sym (node-in ws ns e i (omega (arith, f .inside)))) ∙ f .skipped i (ltb-false _ _ t) h
+          ap (equalRecords q) (sym (node-in ws (length ws) ns e i (omega (arith, f .inside)))) ∙ f .skipped i (ltb-false _ _ t) h
 
   -- It is there, and nothing changes.
   pub is-there : x < n → (x ≡ find q ns) × (ws ≡ nodesOut (length ws) (intern q ns)) × (n ≡ length (intern q ns))
@@ -146,7 +154,7 @@ module _ (ws : List ℕ) (ns : List Record) (e : ws ≡ nodesOut (length ws) ns)
 
 -- A node stands above its children, so that the search may begin above any of them.
 pub none-below : (p : ℕ) (ns : List Record) (q : Record) → Each (GoodRecord p) 0 ns → (from c : ℕ) → member c (children (nodeOf q)) ≡ true → from ≤ suc c → NoneBefore from q ns
-unfolding NoneBefore childrenAt
+unfolding childrenAt
 none-below p ns q ok from c m h i l = go (equalRecords q (recordAt ns i)) refl
   where
     go : (t : Bool) → equalRecords q (recordAt ns i) ≡ t → t ≡ false

@@ -7,7 +7,7 @@ use borrow.Author.Tests.{eqb-true}
 use Rattle.semantics.specs.Arithmetic.{addM, subM, mulM, negM}
 use Rattle.semantics.specs.Sheet.{Record, recordOf}
 use Rattle.semantics.specs.Value.{Leaf, Node, leaf, const, add, sub, neg, mul, leafOf, nodeOf}
-use Rattle.semantics.specs.Graph.{Pick, present, make, ifConstants, isConst, ifNeg, addRule, subRule, negRule, mulRule}
+use Rattle.semantics.specs.Graph.{present, make, ifConstants, isConst, ifNeg, addRule, subRule, negRule, mulRule}
 use Rattle.semantics.proofs.Basics.{by-test, cond-true, cond-false}
 
 -- A choice that treats all nodes alike but constants and Neg.

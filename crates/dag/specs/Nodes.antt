@@ -13,7 +13,7 @@ abbrev pub nodeIn : List ℕ → ℕ → Record
 nodeIn ws i = recordOf (getD ws (4 + 5 * i) 0) (getD ws (4 + 5 * i + 1) 0) (getD ws (4 + 5 * i + 2) 0) (getD ws (4 + 5 * i + 3) 0) (getD ws (4 + 5 * i + 4) 0)
 
 -- No node below `from` is equal to q.
-unfoldable pub NoneBefore : (from : ℕ) → Record → List Record → Type 0
+abbrev pub NoneBefore : (from : ℕ) → Record → List Record → Type 0
 NoneBefore from q ns = (i : ℕ) → i < from → equalRecords q (recordAt ns i) ≡ false
 
 -- x is the first node from `from` on, of n, that is equal to q, or n.
