@@ -40,7 +40,6 @@ module _ (b : Built) (r : ℕ) where
   num-made q = cond-true (eqb r r) (find q (b .nodes)) (b .num r) (eq-eqb r r refl)
 
 pub none-before : (q : Record) (ns : List Record) → NoneBefore 0 q ns
-unfolding NoneBefore
 none-before q ns i h = absurd (omega arith)
 
 module _ (ws : List ℕ) (checked : check prime ws ≡ good (readSheet ws)) where

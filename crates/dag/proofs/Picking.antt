@@ -154,7 +154,7 @@ module _ (ws : List ℕ) (checked : check prime ws ≡ good (readSheet ws)) (r :
           child-number = f .0 ∙ at-num
 
           node-is : nodeIn out (getD scratch c 0 - 1) ≡ recordAt (B .nodes) (B .num c)
-          node-is = ap (nodeIn out) at-num ∙ node-in out (B .nodes) (h .out-is) (B .num c) (steps.num-below ws checked done o c (there c m))
+          node-is = ap (nodeIn out) at-num ∙ node-in out (length out) (B .nodes) (h .out-is) (B .num c) (steps.num-below ws checked done o c (there c m))
 
           child-view : viewOf x ≡ seen (recordAt (B .nodes) (B .num c))
           child-view =

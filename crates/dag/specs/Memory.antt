@@ -146,3 +146,18 @@ pub record Adding (ws : List ℕ) (r : ℕ) (scratch out : List ℕ) (n : ℕ) :
 
 abbrev pub pickOfRecord : (ws : List ℕ) (r : ℕ) (done : List ℕ) → Pick
 pickOfRecord ws r done = pick prime (builtOf ws done) (recordAt (recordsOf ws) r) (nodeOf (recordAt (recordsOf ws) r))
+
+-- The records that interactions name, the fields of each before its count.
+unfoldable pub rootWords : (ws : List ℕ) (at n : ℕ) → List ℕ
+rootWords ws at zero = []
+rootWords ws at (suc n) = part (at + 4) (messageLength ws at) ws ++ (part (at + 2) 1 ws ++ rootWords ws (at + (4 + messageLength ws at)) n)
+
+-- The interactions from `at` on name records below a bound.
+pub record RootsInside (bound : ℕ) (ws : List ℕ) (at : ℕ) : Type 0 where
+  pub inside : at + (4 + messageLength ws at) ≤ length ws
+  pub count : getD ws (at + 2) 0 < bound
+  pub message : (j : ℕ) → j < messageLength ws at → getD ws (at + 4 + j) 0 < bound
+
+abbrev pub AllRootsInside : (bound : ℕ) (ws : List ℕ) (at n : ℕ) → Type 0
+AllRootsInside bound ws at zero = Unit {0}
+AllRootsInside bound ws at (suc n) = RootsInside bound ws at × AllRootsInside bound ws (at + (4 + messageLength ws at)) n
