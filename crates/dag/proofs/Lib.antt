@@ -9,3 +9,6 @@ pub mod Sweeps
 pub mod Naming
 pub mod Picking
 pub mod Adds
+pub mod Rooting
+pub mod Reading
+pub mod Closing

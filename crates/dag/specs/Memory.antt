@@ -9,7 +9,7 @@ use Rattle.semantics.specs.Arithmetic.{prime}
 use Rattle.semantics.specs.Answer.{good}
 use Rattle.semantics.specs.Sheet.{Record, recordWords}
 use Rattle.semantics.specs.Check.{readSheet, check}
-use Rattle.semantics.specs.Walk.{childrenAt, member, Distinct}
+use Rattle.semantics.specs.Walk.{childrenAt, member, foldLeft, visit, Distinct}
 use Rattle.semantics.specs.Value.{nodeOf, recordAt}
 use Rattle.semantics.specs.Graph.{Built, Pick, pick, build}
 use Rattle.semantics.specs.Call.{zeros, padded}
@@ -161,3 +161,22 @@ pub record RootsInside (bound : ℕ) (ws : List ℕ) (at : ℕ) : Type 0 where
 abbrev pub AllRootsInside : (bound : ℕ) (ws : List ℕ) (at n : ℕ) → Type 0
 AllRootsInside bound ws at zero = Unit {0}
 AllRootsInside bound ws at (suc n) = RootsInside bound ws at × AllRootsInside bound ws (at + (4 + messageLength ws at)) n
+
+-- What adding records asks when none is said: a checked sheet, and room for as many nodes as records.
+pub record Walking (ws scratch out : List ℕ) (n : ℕ) : Type 0 where
+  pub checked : check prime ws ≡ good (readSheet ws)
+  pub room : 4 + 5 * length (recordsOf ws) ≤ length out
+  pub done : List ℕ
+  pub order : Order ws done
+  pub holds : Holds ws done scratch out n
+
+-- Scratch and output go from the one to the other as these records are added.
+abbrev pub Walks : (ws roots : List ℕ) (scratch out : List ℕ) (n : ℕ) (scratch′ out′ : List ℕ) (n′ : ℕ) → Type 0
+Walks ws roots scratch out n scratch′ out′ n′ =
+    (done : List ℕ) → Order ws done → Holds ws done scratch out n
+    → Holds ws (foldLeft (visit (childrenAt (recordsOf ws)) (length (recordsOf ws))) done roots) scratch′ out′ n′
+
+-- The words from `at` on name records.
+pub record NamesInside (ws : List ℕ) (at count : ℕ) : Type 0 where
+  pub inside : at + count ≤ length ws
+  pub below : (j : ℕ) → j < count → getD ws (at + j) 0 < length (recordsOf ws)

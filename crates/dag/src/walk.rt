@@ -1,7 +1,7 @@
 // The walk: each reached record is added once, after its children.
 ghost use mathlib.Core.Path.{_≡_};
 ghost use mathlib.Core.Bool.{false, cond};
-ghost use mathlib.Core.List.{List, _∷_};
+ghost use mathlib.Core.List.{List, _∷_, _++_};
 ghost use Prim.Native.Nat.{ℕ, suc, _+_, _-_, _*_, _≤_, _<_};
 ghost use lib.Dec.{eqb};
 ghost use lib.ListN.{length, getD};
@@ -11,7 +11,7 @@ ghost use Rattle.semantics.specs.Value.{recordAt};
 ghost use Rattle.semantics.specs.Walk.{member, visit, childrenAt};
 ghost use Rattle.dag.specs.Picks.{fiveWords, pickOf, viewOf};
 ghost use Rattle.dag.specs.Nodes.{nodeIn};
-ghost use Rattle.dag.specs.Memory.{Holds, Order, Ready, Adding, There, pickOfRecord, recordsOf};
+ghost use Rattle.dag.specs.Memory.{Holds, Order, Ready, Adding, There, pickOfRecord, recordsOf, Walking, Walks, NamesInside, RootsInside, AllRootsInside, messageLength, part, rootWords};
 use crate::Record;
 use crate::nodes;
 use crate::rules;
@@ -114,4 +114,66 @@ fn add_expr(sheet: &[u32], scratch: &mut [u32], out: &mut [u32], r: usize, n: us
     let right = wide(q.b);
     let two = add_expr(sheet, scratch, out, right, one);
     add_record(sheet, scratch, out, r, two)
+}
+
+// Adds the records that the words from `at` on name.
+fn add_names(
+    sheet: &[u32],
+    at: usize,
+    count: usize,
+    scratch: &mut [u32],
+    out: &mut [u32],
+    n: usize,
+) -> usize
+    requires { ⌜ Walking (now sheet) (now scratch) (now out) n × NamesInside (now sheet) at count ⌝ }
+    ensures { λ u. ⌜ Walks (now (sheet .entry)) (part at count (now (sheet .entry))) (now (scratch .entry)) (now (out .entry)) n (now (scratch .exit)) (now (out .exit)) u ⌝ }
+{
+    let mut used = n;
+    let mut j: usize = 0;
+    while j < count {
+        let r = wide(sheet[at + j]);
+        used = add_expr(sheet, scratch, out, r, used);
+        j += 1;
+    }
+    used
+}
+
+// Adds the fields of an interaction, then its count.
+fn add_interaction(
+    sheet: &[u32],
+    at: usize,
+    scratch: &mut [u32],
+    out: &mut [u32],
+    n: usize,
+) -> usize
+    requires { ⌜ Walking (now sheet) (now scratch) (now out) n × RootsInside (length (recordsOf (now sheet))) (now sheet) at ⌝ }
+    ensures { λ u. ⌜ Walks (now (sheet .entry)) (part (at + 4) (messageLength (now (sheet .entry)) at) (now (sheet .entry)) ++ part (at + 2) 1 (now (sheet .entry))) (now (scratch .entry)) (now (out .entry)) n (now (scratch .exit)) (now (out .exit)) u ⌝ }
+{
+    let message = wide(sheet[at + 3]);
+    let fields = add_names(sheet, at + 4, message, scratch, out, n);
+    add_names(sheet, at + 2, 1, scratch, out, fields)
+}
+
+// Adds what the interactions from `at` on name.
+fn add_interactions(
+    sheet: &[u32],
+    at: usize,
+    count: usize,
+    scratch: &mut [u32],
+    out: &mut [u32],
+    n: usize,
+) -> usize
+    requires { ⌜ Walking (now sheet) (now scratch) (now out) n × AllRootsInside (length (recordsOf (now sheet))) (now sheet) at count ⌝ }
+    ensures { λ u. ⌜ Walks (now (sheet .entry)) (rootWords (now (sheet .entry)) at count) (now (scratch .entry)) (now (out .entry)) n (now (scratch .exit)) (now (out .exit)) u ⌝ }
+{
+    let mut used = n;
+    let mut from = at;
+    let mut i: usize = 0;
+    while i < count {
+        let message = wide(sheet[from + 3]);
+        used = add_interaction(sheet, from, scratch, out, used);
+        from = from + 4 + message;
+        i += 1;
+    }
+    used
 }
