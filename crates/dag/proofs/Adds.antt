@@ -52,7 +52,7 @@ module _ (ws : List ℕ) (checked : check prime ws ≡ good (readSheet ws)) wher
   pub few-records : E ≤ 4096
   few-records = head-limits (readSheet ws) (steps.inside ws checked .head) .0
 
-  num-small : (done : List ℕ) → Order ws done → (i : ℕ) → Mem i done → builtOf ws done .num i < E
+  pub num-small : (done : List ℕ) → Order ws done → (i : ℕ) → Mem i done → builtOf ws done .num i < E
   num-small done o i m =
       omega (arith, steps.num-below ws checked done o i m, steps.kept ws checked done o .few, distinct-length E done (o .distinct) (o .below))
 

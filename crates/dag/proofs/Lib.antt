@@ -12,3 +12,4 @@ pub mod Adds
 pub mod Rooting
 pub mod Reading
 pub mod Closing
+pub mod Graphing

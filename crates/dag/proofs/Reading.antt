@@ -42,7 +42,7 @@ module _ (ws : List ℕ) (h : check prime ws ≡ good (readSheet ws)) where
   interactions-stand = (replicate (spare prime ws (readSheet ws) h) 0, interactions-from prime ws (readSheet ws) h)
 
 -- Two functions that agree on a list.
-map-same : (f g : ℕ → ℕ) (xs : List ℕ) → ((c : ℕ) → Mem c xs → f c ≡ g c) → map f xs ≡ map g xs
+pub map-same : (f g : ℕ → ℕ) (xs : List ℕ) → ((c : ℕ) → Mem c xs → f c ≡ g c) → map f xs ≡ map g xs
 map-same f g [] h = refl
 map-same f g (x ∷ xs) h = λ i. h x (mem-here x xs) i ∷ map-same f g xs (λ c m. h c (mem-there c x xs m)) i
 

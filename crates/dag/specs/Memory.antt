@@ -7,11 +7,11 @@ use lib.Dec.{leb, ltb}
 use lib.ListN.{length, getD, take, drop}
 use Rattle.semantics.specs.Arithmetic.{prime}
 use Rattle.semantics.specs.Answer.{good}
-use Rattle.semantics.specs.Sheet.{Record, recordWords}
+use Rattle.semantics.specs.Sheet.{Record, recordWords, encode, lengthOf}
 use Rattle.semantics.specs.Check.{readSheet, check}
-use Rattle.semantics.specs.Walk.{childrenAt, member, foldLeft, visit, Distinct}
+use Rattle.semantics.specs.Walk.{childrenAt, member, foldLeft, visit, order, Distinct}
 use Rattle.semantics.specs.Value.{nodeOf, recordAt}
-use Rattle.semantics.specs.Graph.{Built, Pick, pick, build}
+use Rattle.semantics.specs.Graph.{Built, Pick, pick, build, graphRoots, graphOf}
 use Rattle.semantics.specs.Call.{zeros, padded}
 use Rattle.semantics.proofs.Members.{Below}
 use Rattle.semantics.proofs.Walks.{Closed}
@@ -180,3 +180,23 @@ Walks ws roots scratch out n scratch′ out′ n′ =
 pub record NamesInside (ws : List ℕ) (at count : ℕ) : Type 0 where
   pub inside : at + count ≤ length ws
   pub below : (j : ℕ) → j < count → getD ws (at + j) 0 < length (recordsOf ws)
+
+-- What building asks: a checked sheet, scratch of E zeros, and an output of zeros that has room for the sheet.
+pub record Starting (ws scratch out : List ℕ) : Type 0 where
+  pub checked : check prime ws ≡ good (readSheet ws)
+  pub room : lengthOf (readSheet ws) ≤ length out
+  pub scratch-is : scratch ≡ zeros (length (recordsOf ws))
+  pub out-is : out ≡ zeros (length out)
+
+-- All records that the sheet names are added.
+abbrev pub allAdded : List ℕ → List ℕ
+allAdded ws = order (recordsOf ws) (graphRoots (readSheet ws))
+
+pub record Finishing (ws scratch out : List ℕ) (n : ℕ) : Type 0 where
+  pub checked : check prime ws ≡ good (readSheet ws)
+  pub room : lengthOf (readSheet ws) ≤ length out
+  pub holds : Holds ws (allAdded ws) scratch out n
+
+-- The graph in the output.
+abbrev pub graphOut : (lent : ℕ) → List ℕ → List ℕ
+graphOut lent ws = padded (encode (graphOf prime (readSheet ws))) lent
