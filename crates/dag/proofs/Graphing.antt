@@ -25,7 +25,7 @@ use Rattle.dag.proofs.Adds.{few-records, num-small}
 use Rattle.dag.proofs.Reading.{roots, map-same, constraints-are, interactions-stand, renamed-are, named-are}
 use Rattle.dag.proofs.Closing.{plain-again, flagged-are, graph-words, graph-fits, sorted-short}
 
-encode-long : (g : Sheet) → length (encode g) ≡ 4 + (5 * length (g .records) + (length (g .constraints) + length (flatMap interactionWords (g .interactions))))
+pub encode-long : (g : Sheet) → length (encode g) ≡ 4 + (5 * length (g .records) + (length (g .constraints) + length (flatMap interactionWords (g .interactions))))
 unfolding encode headWords
 encode-long g = simp (length-append, records-length) (omega arith)
 

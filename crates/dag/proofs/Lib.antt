@@ -13,3 +13,4 @@ pub mod Rooting
 pub mod Reading
 pub mod Closing
 pub mod Graphing
+pub mod Starts

@@ -1,4 +1,5 @@
 // The builder: port of dag.rs over a sheet, scratch and an output that are lent.
+mod build;
 mod finish;
 mod nodes;
 mod rules;

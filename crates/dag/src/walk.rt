@@ -117,7 +117,7 @@ fn add_expr(sheet: &[u32], scratch: &mut [u32], out: &mut [u32], r: usize, n: us
 }
 
 // Adds the records that the words from `at` on name.
-fn add_names(
+pub fn add_names(
     sheet: &[u32],
     at: usize,
     count: usize,
@@ -155,7 +155,7 @@ fn add_interaction(
 }
 
 // Adds what the interactions from `at` on name.
-fn add_interactions(
+pub fn add_interactions(
     sheet: &[u32],
     at: usize,
     count: usize,
