@@ -2,8 +2,11 @@
 ghost use mathlib.Core.Path.{_≡_};
 ghost use Rattle.semantics.specs.Arithmetic.{prime};
 ghost use Rattle.semantics.specs.Check.{check};
+ghost use Rattle.semantics.specs.Call.{maxRotationCall, numConstraintsCall};
 ghost use Rattle.sheet.specs.Scans.{checkedOf};
+ghost use Rattle.sheet.specs.Replies.{countedOutcome};
 
+mod calls;
 mod scan;
 
 use scan::Scanned;
@@ -25,6 +28,12 @@ pub struct Head {
 
 pub enum Checked {
     Sheet(Head),
+    Refused(Refusal),
+}
+
+// The number that a call hands back.
+pub enum Counted {
+    Number(usize),
     Refused(Refusal),
 }
 
@@ -62,4 +71,26 @@ pub fn check_sheet(s: &[u32]) -> Checked
         start: start,
         words: words,
     })
+}
+
+// The largest offset over all variables, used or unused.
+pub fn max_rotation(s: &[u32]) -> Counted
+    ensures { λ r. ⌜ countedOutcome r ≡ maxRotationCall prime (now (s .entry)) ⌝ }
+{
+    let checked = check_sheet(s);
+    let Checked::Sheet(head) = checked else {
+        return Counted::Refused(calls::refusal_of(checked));
+    };
+    Counted::Number(calls::largest_offset(s, head.records))
+}
+
+// How many constraints the sheet has.
+pub fn num_constraints(s: &[u32]) -> Counted
+    ensures { λ r. ⌜ countedOutcome r ≡ numConstraintsCall prime (now (s .entry)) ⌝ }
+{
+    let checked = check_sheet(s);
+    let Checked::Sheet(head) = checked else {
+        return Counted::Refused(calls::refusal_of(checked));
+    };
+    Counted::Number(head.constraints)
 }

@@ -1,0 +1,53 @@
+-- What the answer of the check tells a caller, and the outcomes that follow.
+use mathlib.Core.Path.{_≡_, refl, sym, _∙_, ap}
+use mathlib.Core.List.{List, [], _∷_}
+use Prim.Native.Nat.{ℕ}
+use native.Mathlib.Omega.{arith}
+use Rattle.semantics.specs.Answer.{Answer, good, refused, andThen}
+use Rattle.semantics.specs.Sheet as semantics
+use Rattle.semantics.specs.Check.{check}
+use Rattle.semantics.specs.Call.{Result, outcome, paddedAll, result, onSheet}
+use Rattle.sheet.specs.declared.Refusal.{Refusal}
+use Rattle.sheet.specs.declared.Head.{Head}
+use Rattle.sheet.specs.declared.Checked.{Checked}
+use Rattle.sheet.specs.declared.Checked.the-variants.{Sheet, Refused}
+use Rattle.sheet.specs.declared.Counted.{Counted}
+use Rattle.sheet.specs.declared.Counted.the-variants as counted
+use Rattle.sheet.specs.Scans.{headOf, checkedOf}
+use Rattle.sheet.specs.Replies.{refusalOf, countedOutcome}
+
+-- A sheet was found, or the check refused.
+pub found : (a : Answer semantics.Sheet) {r : Checked} {h : Head} → r ≡ checkedOf a → r ≡ Sheet h → (t : semantics.Sheet) × (a ≡ good t) × (h ≡ headOf t)
+found (good t) e q = (t, refl, cc)
+found (refused n k) e q = absurd (let w : _≡_ {A = ℕ} 0 1 = cc in omega arith)
+
+pub not-found : (a : Answer semantics.Sheet) {r : Checked} {v : Refusal} → r ≡ checkedOf a → r ≡ Refused v → refused (v .number) (v .place) ≡ a
+not-found (good t) e q = absurd (let w : _≡_ {A = ℕ} 0 1 = cc in omega arith)
+not-found (refused n k) {r} {v} e q =
+    let w : v ≡ record { number = n; place = k } = cc in
+    λ i. refused (w i .number) (w i .place)
+
+-- The rest of a call goes on with the sheet, or is not reached.
+module _ (p : ℕ) (ws : List ℕ) (rest : semantics.Sheet → Answer Result) where
+  pub on-found : {t : semantics.Sheet} → check p ws ≡ good t → rest t ≡ onSheet p ws rest
+  unfolding onSheet andThen
+  on-found e = ap (λ (a : Answer semantics.Sheet). andThen a rest) (sym e)
+
+  pub on-refused : {r : Checked} {v : Refusal} → r ≡ checkedOf (check p ws) → r ≡ Refused v → refused (v .number) (v .place) ≡ onSheet p ws rest
+  unfolding onSheet andThen
+  on-refused e q = ap (λ (a : Answer semantics.Sheet). andThen a rest) (not-found (check p ws) e q)
+
+-- A call that hands back a number of the sheet.
+module _ (p : ℕ) (ws : List ℕ) (number : semantics.Sheet → ℕ) where
+  abbrev handsBack : semantics.Sheet → Answer Result
+  handsBack t = result [] (number t ∷ [])
+
+  pub counted-refused : {r : Checked} {v u : Refusal} → r ≡ checkedOf (check p ws) → r ≡ Refused v → u ≡ refusalOf r
+      → countedOutcome (counted.Refused u) ≡ outcome [] [] (onSheet p ws handsBack)
+  unfolding outcome
+  counted-refused e q f =
+      ap (λ (x : Refusal). countedOutcome (counted.Refused x)) (f ∙ ap refusalOf q) ∙ ap (outcome [] []) (on-refused p ws handsBack e q)
+
+  pub counted-found : {t : semantics.Sheet} {n : ℕ} → check p ws ≡ good t → n ≡ number t → countedOutcome (counted.Number n) ≡ outcome [] [] (onSheet p ws handsBack)
+  unfolding outcome paddedAll result
+  counted-found e f = ap (λ (m : ℕ). countedOutcome (counted.Number m)) f ∙ ap (outcome [] []) (on-found p ws handsBack e)
