@@ -1,14 +1,18 @@
 -- What the answers of the calls stand for (01, "What each call hands back").
 use mathlib.Core.List.{List, [], _∷_, foldr}
 use Prim.Native.Nat.{ℕ, max}
+use lib.ListN.{length, take}
+use Rattle.semantics.specs.Answer.{Answer, andThen}
 use Rattle.semantics.specs.Sheet.{Record}
 use Rattle.semantics.specs.Graph.{rotation}
-use Rattle.semantics.specs.Call.{Reply, Outcome}
+use Rattle.semantics.specs.Call.{Reply, Outcome, outcome, result, padded}
 use Rattle.sheet.specs.declared.Refusal.{Refusal}
 use Rattle.sheet.specs.declared.Checked.{Checked}
 use Rattle.sheet.specs.declared.Checked.the-variants as checked
 use Rattle.sheet.specs.declared.Counted.{Counted}
 use Rattle.sheet.specs.declared.Counted.the-variants as counted
+use Rattle.sheet.specs.declared.Written.{Written}
+use Rattle.sheet.specs.declared.Written.the-variants as written
 
 -- "A refusal is a number and a place"
 abbrev pub refusedReply : Refusal → Reply
@@ -21,6 +25,26 @@ countedReply (counted.Refused r) = refusedReply r
 
 abbrev pub countedOutcome : Counted → Outcome
 countedOutcome r = record { reply = countedReply r; slices = [] }
+
+-- "Acceptance is number 0 with the count of words (or bytes) written to each slice"
+abbrev pub writtenReply : Written → Reply
+writtenReply (written.Words n) = record { number = 0; place = 0; counts = n ∷ []; numbers = [] }
+writtenReply (written.Refused r) = refusedReply r
+
+abbrev pub writtenOutcome : Written → (out : List ℕ) → Outcome
+writtenOutcome r out = record { reply = writtenReply r; slices = out ∷ [] }
+
+-- How much was written; and the outcome, once the rest of the output is zeroed.
+abbrev pub countOf : Written → ℕ
+countOf (written.Words n) = n
+countOf (written.Refused r) = 0
+
+abbrev pub finished : Written → (out : List ℕ) → Outcome
+finished r out = writtenOutcome r (padded (take (countOf r) out) (length out))
+
+-- The outcome of a call that writes some words to its one output.
+abbrev pub wordsOutcome : (lent : ℕ) → Answer (List ℕ) → Outcome
+wordsOutcome lent a = outcome [] (lent ∷ []) (andThen a (λ (ws : List ℕ). result (ws ∷ []) []))
 
 -- The refusal of a sheet that was refused.
 abbrev pub refusalOf : Checked → Refusal

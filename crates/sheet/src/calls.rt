@@ -4,10 +4,13 @@ ghost use mathlib.Core.Bool.{cond};
 ghost use Prim.Native.Nat.{_+_, _*_, _≤_, max};
 ghost use lib.Dec.{eqb};
 ghost use lib.ListN.{length, drop};
+ghost use Rattle.semantics.specs.Arithmetic.{prime};
 ghost use Rattle.semantics.specs.Check.{readRecords};
-ghost use Rattle.sheet.specs.Replies.{refusalOf, largest};
+ghost use Rattle.semantics.specs.Call.{conversionCall};
+ghost use Rattle.sheet.specs.Replies.{refusalOf, countOf, largest, finished};
 use crate::Checked;
 use crate::Refusal;
+use crate::Written;
 use crate::scan;
 
 // The refusal of a sheet that was refused.
@@ -20,6 +23,16 @@ pub fn refusal_of(checked: Checked) -> Refusal
             number: 0,
             place: 0,
         },
+    }
+}
+
+// How much was written: nothing after a refusal.
+pub fn count_of(written: Written) -> usize
+    ensures { λ r. ⌜ r ≡ countOf written ⌝ }
+{
+    match written {
+        Written::Words(n) => n,
+        Written::Refused(_) => 0,
     }
 }
 
@@ -55,4 +68,23 @@ pub fn largest_offset(s: &[u32], records: usize) -> usize
         i += 1;
     }
     scan::wide(most)
+}
+
+// The words of a sheet go to the front of the output.
+pub fn copy_sheet(s: &[u32], out: &mut [u32]) -> Written
+    ensures { λ r. ⌜ finished r (now (out .exit)) ≡ conversionCall prime (now (s .entry)) (length (now (out .entry))) ⌝ }
+{
+    let checked = crate::check_sheet(s);
+    let Checked::Sheet(head) = checked else {
+        return Written::Refused(refusal_of(checked));
+    };
+    let words = head.words;
+    if out.len() < words {
+        return Written::Refused(Refusal {
+            number: 15,
+            place: words,
+        });
+    }
+    slices::copy_words(&s[..words], out);
+    Written::Words(words)
 }
