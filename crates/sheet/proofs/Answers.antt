@@ -78,7 +78,7 @@ checked-reply p ws e = ap checkedReply e ∙ go (check p ws)
     go : (a : Answer semantics.Sheet)
         → checkedReply (checkedOf a)
         ≡ outcome [] [] (andThen a (λ (s : semantics.Sheet). result [] (
-          length (s .records) ∷ length (s .constraints) ∷ length (s .interactions) ∷ semantics.lengthOf s
-          ∷ (4 + 5 * length (s .records) + length (s .constraints)) ∷ []))) .reply
+        length (s .records) ∷ length (s .constraints) ∷ length (s .interactions) ∷ semantics.lengthOf s
+        ∷ (4 + 5 * length (s .records) + length (s .constraints)) ∷ []))) .reply
     go (good s) = refl
     go (refused n k) = refl

@@ -108,18 +108,18 @@ pub fn num_constraints(s: &[u32]) -> Counted
 pub fn convert(s: &[u32], out: &mut [u32]) -> Written
     ensures { λ r. ⌜ writtenOutcome r (now (out .exit)) ≡ conversionCall prime (now (s .entry)) (length (now (out .entry))) ⌝ }
 {
-    let written = calls::copy_sheet(s, out);
-    slices::zero_from(out, calls::count_of(written));
-    written
+    let copied = calls::copy_sheet(s, out);
+    slices::zero_from(out, calls::count_of(copied));
+    copied
 }
 
 // The words of blocks.
 pub fn read_blocks(bytes: &[u8], out: &mut [u32]) -> Written
     ensures { λ r. ⌜ writtenOutcome r (now (out .exit)) ≡ readerCall (now (bytes .entry)) (length (now (out .entry))) ⌝ }
 {
-    let written = blocks::read_all(bytes, out);
-    slices::zero_from(out, calls::count_of(written));
-    written
+    let read = blocks::read_all(bytes, out);
+    slices::zero_from(out, calls::count_of(read));
+    read
 }
 
 // The sheet in blocks: its words, zero fill and the check words.

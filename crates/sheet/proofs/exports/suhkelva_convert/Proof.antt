@@ -17,9 +17,10 @@ same-length : tie.Need-same-length
 same-length c = search needs
 
 returns : tie.Need-returns
-returns c =
-    (c .written-fields .ensures ∙ ap (λ (o : Outcome). writtenFields (o .reply)) (c .before .before .before .convert .ensures),
-    ap (λ (o : Outcome). getD (o .slices) 0 []) (c .before .before .before .convert .ensures))
+returns c = (
+  c .written-fields .ensures ∙ ap (λ (o : Outcome). writtenFields (o .reply)) (c .before .before .before .convert .ensures),
+  ap (λ (o : Outcome). getD (o .slices) 0 []) (c .before .before .before .convert .ensures),
+)
 
 pub suhkelva-convert-spec : {M : Type 1} → statement M
 suhkelva-convert-spec =

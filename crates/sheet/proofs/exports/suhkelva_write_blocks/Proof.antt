@@ -17,9 +17,10 @@ same-length : tie.Need-same-length
 same-length c = search needs
 
 returns : tie.Need-returns
-returns c =
-    (c .written-fields .ensures ∙ ap (λ (o : Outcome). writtenFields (o .reply)) (c .before .before .before .write-blocks .ensures),
-    ap (λ (o : Outcome). getD (o .slices) 0 []) (c .before .before .before .write-blocks .ensures))
+returns c = (
+  c .written-fields .ensures ∙ ap (λ (o : Outcome). writtenFields (o .reply)) (c .before .before .before .write-blocks .ensures),
+  ap (λ (o : Outcome). getD (o .slices) 0 []) (c .before .before .before .write-blocks .ensures),
+)
 
 pub suhkelva-write-blocks-spec : {M : Type 1} → statement M
 suhkelva-write-blocks-spec =
