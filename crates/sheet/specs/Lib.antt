@@ -1,1 +1,3 @@
 pub mod Scans
+pub mod Replies
+pub mod Fields

@@ -5,7 +5,7 @@ use Prim.Native.Nat.{ℕ, _+_, _-_, _≤_, _<_}
 use native.Mathlib.Numerals.{add-one}
 use native.Mathlib.Omega.{arith}
 use lib.ListN.{length, getD, take, drop, replicate, set, length-set, replicate-append-replicate, take-append-drop, drop-of-length-le}
-use lib.Seq.{take-suc-set, take-suc, take-all, drop-set-lt, drop-drop}
+use lib.Seq.{take-suc-set, take-suc, take-all, take-at, drop-set-lt, drop-drop}
 
 -- What is done at i: the first k words, then zeros.
 abbrev pub Zeroed : (s s₀ : List ℕ) (k i : ℕ) → Type 0
@@ -57,3 +57,7 @@ copy-done list s s₀ i l h =
     sym (take-append-drop i s)
     ∙ ap (λ (t : List ℕ). t ++ drop i s) (h .3 ∙ take-all i list l ∙ sym (take-all (length s₀) list m))
     ∙ ap (λ (t : List ℕ). take (length s₀) list ++ t) (h .4 ∙ ap (λ (j : ℕ). drop j s₀) q)
+
+-- A slice that is as long as the list has it whole at its front.
+pub copied-front : (list s s₀ : List ℕ) → length list ≤ length s₀ → s ≡ take (length s₀) list ++ drop (length list) s₀ → take (length list) s ≡ list
+copied-front list s s₀ h e = ap (take (length list)) (e ∙ ap (λ (t : List ℕ). t ++ drop (length list) s₀) (take-all (length s₀) list h)) ∙ take-at list _ (length list) refl
