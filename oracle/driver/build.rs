@@ -1,5 +1,5 @@
-//! With the feature `rattle`, links libsuhkelva.a from the folder SUHKELVA_LIBRARY, by default target/staticlib at the root of
-//! the repository.
+//! With the feature `rattle`, links libsuhkelva.a from the folder SUHKELVA_LIBRARY, a full path, by default target/staticlib at
+//! the root of the repository.
 
 use std::env;
 use std::path::{Path, PathBuf};
