@@ -15,7 +15,7 @@ use crate::rust::{self, Caught};
 
 type Dag = SymbolicConstraintsDag<BabyBear>;
 
-const PACKING: &str = "packing, and unpacking of the number";
+pub const PACKING: &str = "packing against the Rust, and unpacking of the number";
 const SHEET_CHECK: &str = "sheet check (no counterpart in the Rust)";
 const BLOCKS: &str = "blocks written and read (no counterpart in the Rust)";
 const GRAPH_NODES: &str = "graph: nodes";
@@ -297,6 +297,12 @@ impl<'a> Comparison<'a> {
                 self.equal(PACKING, 1, (Ok(number), back), (of_rust, leaf.to_vec()));
             }
             Some(refusal) => {
+                let due = plain::calls::pack(leaf).refusal();
+                if due != Some(refusal) {
+                    let name = self.under_test.name();
+                    let difference = format!("{name} {refusal:?}, not {due:?}");
+                    return self.case(PACKING, 0, Some(difference));
+                }
                 let packed = plain::packing::packed(&wrapped(leaf));
                 let foretold = packed.map(|v| v.0).map_err(|n| panic_of(n).to_string());
                 self.equal(known(refusal, leaf), 1, foretold, of_rust);

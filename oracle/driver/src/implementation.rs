@@ -2,34 +2,74 @@
 
 use plain::{calls, Outcome, Record};
 
+/// A call that an implementation does not have keeps its default, which panics: nothing is counted that was not called.
+#[allow(unused_variables)]
 pub trait Implementation {
     fn name(&self) -> &str;
 
-    #[allow(dead_code)] // nothing in the Rust to compare it with
-    fn block_check(&self, bytes: &[u8], number: u32) -> Outcome;
-    fn reader(&self, bytes: &[u8], out: usize) -> Outcome;
-    fn writer(&self, words: &[u32], out: usize) -> Outcome<u8>;
-    fn check(&self, words: &[u32]) -> Outcome;
-    fn builder(&self, words: &[u32], scratch: usize, out: usize) -> Outcome;
-    fn max_rotation(&self, words: &[u32]) -> Outcome;
-    fn num_constraints(&self, words: &[u32]) -> Outcome;
-    fn conversion(&self, words: &[u32], out: usize) -> Outcome;
-    fn pack(&self, record: &Record) -> Outcome;
-    fn unpack(&self, number: u32) -> Outcome;
+    fn lacks(&self, call: &str) -> ! {
+        panic!("{} has no {call}", self.name())
+    }
+
+    fn block_check(&self, bytes: &[u8], number: u32) -> Outcome {
+        self.lacks("block check")
+    }
+
+    fn reader(&self, bytes: &[u8], out: usize) -> Outcome {
+        self.lacks("block reader")
+    }
+
+    fn writer(&self, words: &[u32], out: usize) -> Outcome<u8> {
+        self.lacks("block writer")
+    }
+
+    fn check(&self, words: &[u32]) -> Outcome {
+        self.lacks("sheet check")
+    }
+
+    fn builder(&self, words: &[u32], scratch: usize, out: usize) -> Outcome {
+        self.lacks("builder")
+    }
+
+    fn max_rotation(&self, words: &[u32]) -> Outcome {
+        self.lacks("max_rotation")
+    }
+
+    fn num_constraints(&self, words: &[u32]) -> Outcome {
+        self.lacks("num_constraints")
+    }
+
+    fn conversion(&self, words: &[u32], out: usize) -> Outcome {
+        self.lacks("conversion")
+    }
+
+    fn pack(&self, record: &Record) -> Outcome {
+        self.lacks("packing")
+    }
+
+    fn unpack(&self, number: u32) -> Outcome {
+        self.lacks("unpacking")
+    }
+
     fn expand_constraints(
         &self,
         words: &[u32],
         work: usize,
         pool: usize,
         lent: [usize; 3],
-    ) -> Outcome;
+    ) -> Outcome {
+        self.lacks("constraint call")
+    }
+
     fn expand_interactions(
         &self,
         words: &[u32],
         work: usize,
         pool: usize,
         lent: [usize; 6],
-    ) -> Outcome;
+    ) -> Outcome {
+        self.lacks("interaction call")
+    }
 }
 
 /// The plain Rust written from document 01.

@@ -1,26 +1,18 @@
-//! Compares implementations of document 01 with the Rust that it refers to.
-
-mod compare;
-mod examples;
-mod implementation;
-mod rng;
-mod rust;
-mod sheets;
-mod shrink;
-mod table;
+//! Compares the plain Rust written from document 01 with the Rust that the document refers to.
 
 use std::io::{self, Read};
 use std::process::ExitCode;
 use std::thread;
 use std::time::Duration;
 
-use compare::{compare_packing, compare_sheet, Case, COMPARED, KNOWN, LEFT_OUT};
-use examples::{examples, Example};
-use implementation::{Implementation, Plain};
+use driver::compare::{compare_packing, compare_sheet, Case, COMPARED, KNOWN, LEFT_OUT};
+use driver::examples::{examples, Example};
+use driver::implementation::{Implementation, Plain};
+use driver::rng::Rng;
+use driver::table::Table;
+use driver::{rust, sheets, shrink};
 use plain::calls::WORK;
 use plain::Sheet;
-use rng::Rng;
-use table::Table;
 
 const USAGE: &str = "usage:
   driver plain-vs-rust [SHEETS] [SEED]   random sheets: the plain Rust written from document 01 against the Rust

@@ -40,9 +40,20 @@ impl Table {
 
     /// Prints the rows in the order of `kinds`; a kind without a case is printed too.
     pub fn print(&self, title: &str, kinds: &[&str]) {
+        self.print_columns(title, kinds, 4);
+    }
+
+    /// The same with cases and differences only.
+    pub fn print_counts(&self, title: &str, kinds: &[&str]) {
+        self.print_columns(title, kinds, 2);
+    }
+
+    fn print_columns(&self, title: &str, kinds: &[&str], columns: usize) {
         let heads = ["cases", "differences", "not empty", "largest"];
         print!("\n{title:<58}");
-        heads.iter().for_each(|head| print!(" {head:>11}"));
+        heads[..columns]
+            .iter()
+            .for_each(|head| print!(" {head:>11}"));
         println!();
         for kind in kinds {
             let none = Row::default();
@@ -50,9 +61,8 @@ impl Table {
             let row = row.unwrap_or(&none);
             print!("{kind:<58}");
             let largest = row.largest as u64;
-            for number in [row.cases, row.differences, row.filled, largest] {
-                print!(" {number:>11}");
-            }
+            let numbers = [row.cases, row.differences, row.filled, largest];
+            numbers[..columns].iter().for_each(|n| print!(" {n:>11}"));
             println!();
         }
     }

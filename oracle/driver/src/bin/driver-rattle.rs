@@ -1,0 +1,81 @@
+//! Compares the rewrite, through its C entry points, with the plain Rust written from document 01 and with the Rust that the
+//! document refers to.
+
+use std::fmt::Debug;
+use std::process::ExitCode;
+
+use driver::compare::Case;
+use driver::implementation::Implementation;
+use driver::rattle::Rattle;
+use driver::rng::Rng;
+use driver::rust;
+use driver::single::{
+    compare_block, compare_number, compare_record, edge_numbers, edge_records, kinds,
+    random_blocks, random_number, random_record,
+};
+use driver::table::Table;
+
+const USAGE: &str = "usage:
+  driver-rattle [CASES] [SEED]   packing, unpacking and the block check: the edges, CASES random records and numbers, and a
+                                 tenth as many blocks, each in six states; 400,000 cases from seed 1 unless said otherwise";
+
+/// So many differences are shown.
+const SHOWN: u64 = 10;
+
+fn main() -> ExitCode {
+    let arguments: Vec<String> = std::env::args().skip(1).collect();
+    let number = |k: usize, usual: u64| match arguments.get(k) {
+        Some(text) => text.parse().ok(),
+        None => Some(usual),
+    };
+    let (Some(cases), Some(seed), ..=2) = (number(0, 400_000), number(1, 1), arguments.len())
+    else {
+        eprintln!("{USAGE}");
+        return ExitCode::from(2);
+    };
+    rust::keep_caught_panics_quiet();
+    match compare(cases, seed) {
+        0 => ExitCode::SUCCESS,
+        _ => ExitCode::FAILURE,
+    }
+}
+
+/// All comparisons; how many differences are left unexplained.
+fn compare(cases: u64, seed: u64) -> u64 {
+    let name = Rattle.name();
+    println!("{name} against plain and the Rust: {cases} cases, seed {seed}");
+    let mut table = Table::default();
+    let mut rng = Rng::new(seed);
+    for record in edge_records() {
+        add(&mut table, &record, compare_record(&Rattle, &record));
+    }
+    for number in edge_numbers() {
+        add(&mut table, &number, compare_number(&Rattle, number));
+    }
+    for _ in 0..cases {
+        let record = random_record(&mut rng);
+        add(&mut table, &record, compare_record(&Rattle, &record));
+        let number = random_number(&mut rng);
+        add(&mut table, &number, compare_number(&Rattle, number));
+    }
+    for _ in 0..cases / 10 {
+        for block in random_blocks(&mut rng) {
+            let case = compare_block(&Rattle, &block);
+            add(&mut table, &(block.number, &block.bytes), vec![case]);
+        }
+    }
+    table.print_counts("compared; known differences as foretold", &kinds());
+    println!("\nunexplained differences: {}", table.differences());
+    table.differences()
+}
+
+fn add(table: &mut Table, input: &dyn Debug, cases: Vec<Case>) {
+    for case in cases {
+        if let Some(difference) = &case.difference {
+            if table.differences() < SHOWN {
+                println!("{}, {input:?}: {difference}", case.kind);
+            }
+        }
+        table.add(case.kind, case.difference.is_some(), case.size);
+    }
+}
