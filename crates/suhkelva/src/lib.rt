@@ -2,11 +2,18 @@
 use block::SuhkelvaBlock;
 use packed_var::SuhkelvaPacked;
 use packed_var::SuhkelvaRecord;
+use sheet::exports::SuhkelvaNumber;
+use sheet::exports::SuhkelvaSheet;
+use sheet::exports::SuhkelvaWritten;
 ghost use mathlib.Core.Path.{_≡_};
+ghost use mathlib.Core.List.{[]};
+ghost use lib.ListN.{length, getD};
+ghost use Rattle.semantics.specs.Arithmetic.{prime};
 ghost use Rattle.semantics.specs.Sheet.{recordOf};
-ghost use Rattle.semantics.specs.Call.{blockCheckCall, packCall, unpackCall};
+ghost use Rattle.semantics.specs.Call.{blockCheckCall, packCall, unpackCall, checkCall, maxRotationCall, numConstraintsCall, conversionCall, readerCall, writerCall};
 ghost use Rattle.packed_var.specs.Packed.{packedFields, recordFields};
 ghost use Rattle.block.specs.Checked.{blockFields};
+ghost use Rattle.sheet.specs.Fields.{sheetFields, numberFields, writtenFields};
 
 #[no_mangle]
 pub extern "C" fn suhkelva_pack(kind: u32, a: u32, b: u32, c: u32, d: u32) -> SuhkelvaPacked
@@ -27,4 +34,49 @@ pub extern "C" fn suhkelva_block_check(bytes: &[u8], number: u32) -> SuhkelvaBlo
     ensures { λ r. ⌜ r ≡ blockFields (blockCheckCall (now (bytes .entry)) number .reply) ⌝ }
 {
     block::suhkelva_block_check(bytes, number)
+}
+
+#[no_mangle]
+pub extern "C" fn suhkelva_check_sheet(s: &[u32]) -> SuhkelvaSheet
+    ensures { λ r. ⌜ r ≡ sheetFields (checkCall prime (now (s .entry)) .reply) ⌝ }
+{
+    sheet::exports::suhkelva_check_sheet(s)
+}
+
+#[no_mangle]
+pub extern "C" fn suhkelva_max_rotation(s: &[u32]) -> SuhkelvaNumber
+    ensures { λ r. ⌜ r ≡ numberFields (maxRotationCall prime (now (s .entry)) .reply) ⌝ }
+{
+    sheet::exports::suhkelva_max_rotation(s)
+}
+
+#[no_mangle]
+pub extern "C" fn suhkelva_num_constraints(s: &[u32]) -> SuhkelvaNumber
+    ensures { λ r. ⌜ r ≡ numberFields (numConstraintsCall prime (now (s .entry)) .reply) ⌝ }
+{
+    sheet::exports::suhkelva_num_constraints(s)
+}
+
+#[no_mangle]
+pub extern "C" fn suhkelva_convert(s: &[u32], out: &mut [u32]) -> SuhkelvaWritten
+    ensures reply { λ r. ⌜ r ≡ writtenFields (conversionCall prime (now (s .entry)) (length (now (out .entry))) .reply) ⌝ }
+    ensures words { λ r. ⌜ now (out .exit) ≡ getD (conversionCall prime (now (s .entry)) (length (now (out .entry))) .slices) 0 [] ⌝ }
+{
+    sheet::exports::suhkelva_convert(s, out)
+}
+
+#[no_mangle]
+pub extern "C" fn suhkelva_read_blocks(bytes: &[u8], out: &mut [u32]) -> SuhkelvaWritten
+    ensures reply { λ r. ⌜ r ≡ writtenFields (readerCall (now (bytes .entry)) (length (now (out .entry))) .reply) ⌝ }
+    ensures words { λ r. ⌜ now (out .exit) ≡ getD (readerCall (now (bytes .entry)) (length (now (out .entry))) .slices) 0 [] ⌝ }
+{
+    sheet::exports::suhkelva_read_blocks(bytes, out)
+}
+
+#[no_mangle]
+pub extern "C" fn suhkelva_write_blocks(s: &[u32], out: &mut [u8]) -> SuhkelvaWritten
+    ensures reply { λ r. ⌜ r ≡ writtenFields (writerCall prime (now (s .entry)) (length (now (out .entry))) .reply) ⌝ }
+    ensures words { λ r. ⌜ now (out .exit) ≡ getD (writerCall prime (now (s .entry)) (length (now (out .entry))) .slices) 0 [] ⌝ }
+{
+    sheet::exports::suhkelva_write_blocks(s, out)
 }
