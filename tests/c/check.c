@@ -189,14 +189,305 @@ static void check_blocks(void)
     }
 }
 
+/* ---- Sheets ---- */
+
+#define P 2013265921u
+#define ROOM 640u /* longer than every output of the small sheets, in words */
+
+/* The sheet of document 01's `sheetlist`: seven records, a constraint, an interaction with two fields. */
+static const uint32_t sheet[] = {
+    1, 7, 1, 1,
+    1, 1, 0, 1, 0, /* main, offset 1, column 0 */
+    1, 1, 0, 0, 0, /* v */
+    7, 0, 1, 1, 0, /* their difference */
+    5, 1, 0, 0, 0, /* 1 */
+    7, 2, 3, 1, 0,
+    4, 0, 0, 0, 0, /* transition */
+    9, 5, 4, 2, 0,
+    6,
+    7, 1, 3, 2, 1, 2,
+};
+#define WORDS 46u
+
+/* The sheet with one word changed, and the refusal. */
+typedef struct {
+    size_t at;
+    uint32_t word;
+    uint32_t number;
+} Wrong;
+
+static const Wrong wrongs[] = {
+    {0, 0, 3}, {0, 2, 3}, {1, 4097, 3}, {2, 1025, 3}, {3, 1025, 3}, {3, 0xffffffffu, 3},
+    {4, 0, 5}, {4, 10, 5}, {5, 4, 5}, {14, 10, 5}, {15, 2, 5}, {16, 2, 5}, {18, 1, 5},
+    {20, P, 5}, {21, 1, 5}, {30, 1, 5}, {33, 1, 5}, {35, 6, 5},
+    {39, 7, 6}, {40, 65536, 6}, {42, 7, 6}, {43, 64, 6}, {44, 7, 6}, {45, 0xffffffffu, 6},
+};
+
+/* Outputs, filled with ones before each call. */
+static uint32_t out_words[ROOM];
+static uint8_t out_bytes[4 * ROOM];
+
+static void fill(void)
+{
+    memset(out_words, 0xff, sizeof out_words);
+    memset(out_bytes, 0xff, sizeof out_bytes);
+}
+
+/* Whether the elements from `from` to below `lent` are 0, and what lies beyond what was lent is untouched. */
+static int words_zero(size_t from, size_t lent)
+{
+    size_t k;
+    for (k = from; k < ROOM; k++) {
+        if (out_words[k] != (k < lent ? 0u : 0xffffffffu)) {
+            return 0;
+        }
+    }
+    return 1;
+}
+
+static int bytes_zero(size_t from, size_t lent)
+{
+    size_t k;
+    for (k = from; k < 4 * ROOM; k++) {
+        if (out_bytes[k] != (k < lent ? 0u : 0xffu)) {
+            return 0;
+        }
+    }
+    return 1;
+}
+
+static int wrote(SuhkelvaWritten r, uint64_t count)
+{
+    return r.number == 0 && r.place == 0 && r.count == count;
+}
+
+static int wrote_nothing(SuhkelvaWritten r, uint32_t number, uint64_t place)
+{
+    return r.number == number && r.place == place && r.count == 0;
+}
+
+static int no_number(SuhkelvaNumber r, uint32_t number, uint64_t place)
+{
+    return r.number == number && r.place == place && r.value == 0;
+}
+
+/* Every sheet call refuses these words by this number at this place, and leaves only zeros in what it was lent. */
+static void check_refused(const uint32_t *s, size_t length, uint32_t number, uint64_t place, const char *what)
+{
+    static const size_t lents[] = {0, 1, 45, 46, 47, 512, ROOM};
+    SuhkelvaSheet r = suhkelva_check_sheet(s, length);
+    size_t k;
+    check(r.number == number && r.place == place, what);
+    check((r.records | r.constraints | r.interactions | r.words | r.start) == 0, what);
+    check(no_number(suhkelva_max_rotation(s, length), number, place), what);
+    check(no_number(suhkelva_num_constraints(s, length), number, place), what);
+    for (k = 0; k < sizeof lents / sizeof lents[0]; k++) {
+        size_t lent = lents[k];
+        fill();
+        check(wrote_nothing(suhkelva_convert(s, length, out_words, lent), number, place), what);
+        check(words_zero(0, lent), "zeros after a refused conversion");
+        check(wrote_nothing(suhkelva_write_blocks(s, length, out_bytes, lent), number, place), what);
+        check(bytes_zero(0, lent), "zeros after a refused write");
+    }
+}
+
+static void check_sheets(void)
+{
+    static uint32_t s[WORDS + 200];
+    size_t k;
+    SuhkelvaSheet r;
+    SuhkelvaNumber n;
+    /* without and with spare words */
+    memcpy(s, sheet, sizeof sheet);
+    for (k = WORDS; k <= WORDS + 126; k += 63) {
+        r = suhkelva_check_sheet(s, k);
+        check(r.number == 0 && r.place == 0 && r.records == 7 && r.constraints == 1 && r.interactions == 1, "the sheet");
+        check(r.words == WORDS && r.start == 40, "its words, and where its interaction starts");
+        n = suhkelva_max_rotation(s, k);
+        check(n.number == 0 && n.place == 0 && n.value == 1, "its rotation");
+        n = suhkelva_num_constraints(s, k);
+        check(n.number == 0 && n.place == 0 && n.value == 1, "its constraints");
+    }
+    check_refused(s, WORDS + 127, 7, WORDS + 126, "the 127th spare word");
+    check_refused(s, WORDS + 200, 7, WORDS + 126, "200 spare words");
+    s[WORDS + 3] = 1;
+    check_refused(s, WORDS + 10, 7, WORDS + 3, "a spare word that is not 0");
+    /* an offset may be any word */
+    memcpy(s, sheet, sizeof sheet);
+    s[4 + 5 + 3] = 0xffffffffu;
+    n = suhkelva_max_rotation(s, WORDS);
+    check(n.number == 0 && n.value == 0xffffffffu, "any offset");
+    /* no record, constraint or interaction */
+    memset(s, 0, sizeof s);
+    s[0] = 1;
+    r = suhkelva_check_sheet(s, 4);
+    check(r.number == 0 && r.records == 0 && r.constraints == 0 && r.interactions == 0 && r.words == 4 && r.start == 4, "a head alone");
+    n = suhkelva_max_rotation(s, 4);
+    check(n.number == 0 && n.value == 0, "no rotation");
+    n = suhkelva_num_constraints(s, 4);
+    check(n.number == 0 && n.value == 0, "no constraint");
+    /* every shorter part of the sheet */
+    for (k = 0; k < WORDS; k++) {
+        check_refused(sheet, k, 4, k, "a part of the sheet");
+    }
+    /* one wrong word */
+    for (k = 0; k < sizeof wrongs / sizeof wrongs[0]; k++) {
+        memcpy(s, sheet, sizeof sheet);
+        s[wrongs[k].at] = wrongs[k].word;
+        check_refused(s, WORDS, wrongs[k].number, wrongs[k].at, "one wrong word");
+    }
+    /* the first that fails decides */
+    memcpy(s, sheet, sizeof sheet);
+    s[33] = 1;
+    s[39] = 7;
+    check_refused(s, 35, 5, 33, "a wrong record word before a missing one");
+    check_refused(s, WORDS, 5, 33, "a wrong record word before a wrong constraint");
+    check_refused(s, 33, 4, 33, "a missing word before a wrong one");
+}
+
+static void check_copies(void)
+{
+    static uint32_t s[WORDS + 126];
+    size_t lent;
+    memset(s, 0, sizeof s);
+    memcpy(s, sheet, sizeof sheet);
+    for (lent = 0; lent <= ROOM; lent++) {
+        SuhkelvaWritten r;
+        fill();
+        r = suhkelva_convert(s, lent % 2 == 0 ? WORDS : WORDS + 126, out_words, lent);
+        if (lent < WORDS) {
+            check(wrote_nothing(r, 15, WORDS) && words_zero(0, lent), "a conversion lent too little");
+        } else {
+            check(wrote(r, WORDS) && memcmp(out_words, sheet, sizeof sheet) == 0, "a conversion");
+            check(words_zero(WORDS, lent), "zeros past a conversion");
+        }
+    }
+}
+
+/* A sheet of so many constants, and how many words it has. */
+static size_t constants(uint32_t *s, uint32_t records)
+{
+    uint32_t k;
+    memset(s, 0, (4 + 5 * records) * sizeof *s);
+    s[0] = 1;
+    s[1] = records;
+    for (k = 0; k < records; k++) {
+        s[4 + 5 * k] = 5;
+        s[5 + 5 * k] = P - 1 - k;
+    }
+    return 4 + 5 * (size_t)records;
+}
+
+/* Written as blocks, read and copied: the words of the sheet again. */
+static void check_round_trip(const uint32_t *s, size_t length)
+{
+    static uint8_t blocks[4 * ROOM];
+    static uint32_t words[ROOM];
+    size_t count = (length + 126) / 127;
+    size_t bytes = 512 * count;
+    size_t n;
+    SuhkelvaWritten r;
+    fill();
+    check(wrote_nothing(suhkelva_write_blocks(s, length, out_bytes, bytes - 1), 15, bytes), "a write lent too little");
+    check(bytes_zero(0, bytes - 1), "zeros after it");
+    fill();
+    check(wrote(suhkelva_write_blocks(s, length, out_bytes, bytes), bytes), "a write");
+    check(bytes_zero(bytes, bytes), "nothing past what was lent");
+    memcpy(blocks, out_bytes, bytes);
+    fill();
+    check(wrote(suhkelva_write_blocks(s, length, out_bytes, bytes + 300), bytes), "a write lent more");
+    check(memcmp(blocks, out_bytes, bytes) == 0 && bytes_zero(bytes, bytes + 300), "the same bytes, then zeros");
+    for (n = 0; n < count; n++) {
+        check(says(suhkelva_block_check(blocks + 512 * n, 512, (uint32_t)n + 1), 0, 1), "a written block is good");
+    }
+
+    fill();
+    check(wrote_nothing(suhkelva_read_blocks(blocks, bytes, out_words, 127 * count - 1), 15, 127 * count), "a read lent too little");
+    check(words_zero(0, 127 * count - 1), "zeros after it");
+    fill();
+    check(wrote(suhkelva_read_blocks(blocks, bytes, out_words, 127 * count + 9), 127 * count), "a read");
+    check(words_zero(length, 127 * count + 9), "zeros past the sheet");
+    memcpy(words, out_words, sizeof words);
+    check(memcmp(words, s, length * sizeof *s) == 0, "the words of the sheet");
+    fill();
+    r = suhkelva_convert(words, 127 * count, out_words, ROOM);
+    check(wrote(r, length) && memcmp(out_words, s, length * sizeof *s) == 0 && words_zero(length, ROOM), "the sheet again");
+
+    /* one bit changed, in each block: 2, and 15 goes before it */
+    for (n = 0; n < count; n++) {
+        blocks[512 * n + 77] ^= 4;
+        fill();
+        check(wrote_nothing(suhkelva_read_blocks(blocks, bytes, out_words, ROOM), 2, n), "a changed block");
+        check(words_zero(0, ROOM), "zeros after it");
+        fill();
+        check(wrote_nothing(suhkelva_read_blocks(blocks, bytes, out_words, 126), 15, 127 * count), "15 before 2");
+        check(words_zero(0, 126), "zeros after it");
+        blocks[512 * n + 77] ^= 4;
+    }
+    /* 1 goes before 15 */
+    for (n = 0; n < bytes; n += 37) {
+        if (n % 512 != 0 || n == 0) {
+            fill();
+            check(wrote_nothing(suhkelva_read_blocks(blocks, n, out_words, n % 200), 1, 0), "a wrong number of bytes");
+            check(words_zero(0, n % 200), "zeros after it");
+        }
+    }
+}
+
+/* As many blocks as are taken, and one more. */
+static void check_most_blocks(void)
+{
+    static uint8_t blocks[711 * 512];
+    static uint32_t words[711 * 127];
+    uint32_t n;
+    size_t k;
+    int zero = 1;
+    memset(blocks, 0, sizeof blocks);
+    for (n = 0; n < 711; n++) {
+        put_word(blocks + 512 * n, n);
+        put_word(blocks + 512 * n + 508, 2 * n + 1);
+    }
+    memset(words, 0xff, sizeof words);
+    check(wrote(suhkelva_read_blocks(blocks, 710 * 512, words, 711 * 127), 710 * 127), "710 blocks");
+    for (k = 0; k < 711 * 127; k++) {
+        zero = zero && words[k] == (k % 127 == 0 && k < 710 * 127 ? k / 127 : 0);
+    }
+    check(zero, "the words of 710 blocks, then zeros");
+    memset(words, 0xff, sizeof words);
+    check(wrote_nothing(suhkelva_read_blocks(blocks, 711 * 512, words, 711 * 127), 1, 0), "711 blocks");
+    zero = 1;
+    for (k = 0; k < 711 * 127; k++) {
+        zero = zero && words[k] == 0;
+    }
+    check(zero, "zeros after 711 blocks");
+}
+
+static void check_sheet_blocks(void)
+{
+    static const uint32_t records[] = {0, 1, 24, 25, 49, 50, 51, 75, 76, 100};
+    static uint32_t s[4 + 5 * 100];
+    size_t k;
+    check_round_trip(sheet, WORDS);
+    for (k = 0; k < sizeof records / sizeof records[0]; k++) {
+        check_round_trip(s, constants(s, records[k]));
+    }
+    check_most_blocks();
+}
+
 int main(void)
 {
     check(sizeof(SuhkelvaPacked) == 12, "the size of SuhkelvaPacked");
     check(sizeof(SuhkelvaRecord) == 28, "the size of SuhkelvaRecord");
     check(sizeof(SuhkelvaBlock) == 12, "the size of SuhkelvaBlock");
+    check(sizeof(SuhkelvaSheet) == 56, "the size of SuhkelvaSheet");
+    check(sizeof(SuhkelvaNumber) == 24, "the size of SuhkelvaNumber");
+    check(sizeof(SuhkelvaWritten) == 24, "the size of SuhkelvaWritten");
     check_packing();
     check_unpacking();
     check_blocks();
+    check_sheets();
+    check_copies();
+    check_sheet_blocks();
     printf("%u checks passed, %u failed\n", passed, failed);
     return failed == 0 ? 0 : 1;
 }
