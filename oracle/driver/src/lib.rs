@@ -7,6 +7,7 @@ pub mod implementation;
 pub mod rattle;
 pub mod rng;
 pub mod rust;
+pub mod sheet_calls;
 pub mod sheets;
 pub mod shrink;
 pub mod single;

@@ -32,10 +32,56 @@ mod c {
         pub good: u32,
     }
 
+    #[repr(C)]
+    pub struct Sheet {
+        pub number: u32,
+        pub place: u64,
+        pub records: u64,
+        pub constraints: u64,
+        pub interactions: u64,
+        pub words: u64,
+        pub start: u64,
+    }
+
+    #[repr(C)]
+    pub struct Number {
+        pub number: u32,
+        pub place: u64,
+        pub value: u64,
+    }
+
+    #[repr(C)]
+    pub struct Written {
+        pub number: u32,
+        pub place: u64,
+        pub count: u64,
+    }
+
     extern "C" {
         pub fn suhkelva_pack(kind: u32, a: u32, b: u32, c: u32, d: u32) -> Packed;
         pub fn suhkelva_unpack(packed: u32) -> Record;
         pub fn suhkelva_block_check(bytes: *const u8, bytes_len: usize, number: u32) -> Block;
+        pub fn suhkelva_check_sheet(s: *const u32, s_len: usize) -> Sheet;
+        pub fn suhkelva_max_rotation(s: *const u32, s_len: usize) -> Number;
+        pub fn suhkelva_num_constraints(s: *const u32, s_len: usize) -> Number;
+        pub fn suhkelva_convert(
+            s: *const u32,
+            s_len: usize,
+            out: *mut u32,
+            out_len: usize,
+        ) -> Written;
+        pub fn suhkelva_read_blocks(
+            bytes: *const u8,
+            bytes_len: usize,
+            out: *mut u32,
+            out_len: usize,
+        ) -> Written;
+        pub fn suhkelva_write_blocks(
+            s: *const u32,
+            s_len: usize,
+            out: *mut u8,
+            out_len: usize,
+        ) -> Written;
     }
 }
 
@@ -54,6 +100,30 @@ mod calls {
 
     pub fn block_check(bytes: &[u8], number: u32) -> c::Block {
         unsafe { c::suhkelva_block_check(bytes.as_ptr(), bytes.len(), number) }
+    }
+
+    pub fn check_sheet(s: &[u32]) -> c::Sheet {
+        unsafe { c::suhkelva_check_sheet(s.as_ptr(), s.len()) }
+    }
+
+    pub fn max_rotation(s: &[u32]) -> c::Number {
+        unsafe { c::suhkelva_max_rotation(s.as_ptr(), s.len()) }
+    }
+
+    pub fn num_constraints(s: &[u32]) -> c::Number {
+        unsafe { c::suhkelva_num_constraints(s.as_ptr(), s.len()) }
+    }
+
+    pub fn convert(s: &[u32], out: &mut [u32]) -> c::Written {
+        unsafe { c::suhkelva_convert(s.as_ptr(), s.len(), out.as_mut_ptr(), out.len()) }
+    }
+
+    pub fn read_blocks(bytes: &[u8], out: &mut [u32]) -> c::Written {
+        unsafe { c::suhkelva_read_blocks(bytes.as_ptr(), bytes.len(), out.as_mut_ptr(), out.len()) }
+    }
+
+    pub fn write_blocks(s: &[u32], out: &mut [u8]) -> c::Written {
+        unsafe { c::suhkelva_write_blocks(s.as_ptr(), s.len(), out.as_mut_ptr(), out.len()) }
     }
 }
 
@@ -86,6 +156,24 @@ fn says(number: u32, place: u32, numbers: &[u32]) -> Outcome {
     outcome((number, u64::from(place)), &[], &numbers, vec![])
 }
 
+/// Words beyond what is lent, which must stay as they are.
+const GUARD: usize = 8;
+
+/// The outcome of a call that is lent `lent` elements for writing, filled with junk before: none of it may be left, and what
+/// stands behind must be.
+fn writing<T: Copy + PartialEq>(
+    lent: usize,
+    junk: T,
+    call: impl FnOnce(&mut [T]) -> c::Written,
+) -> Outcome<T> {
+    let mut out = vec![junk; lent + GUARD];
+    let r = call(&mut out[..lent]);
+    let untouched = out[lent..].iter().all(|&x| x == junk);
+    assert!(untouched, "the library wrote past what it was lent");
+    out.truncate(lent);
+    outcome((r.number, r.place), &[r.count], &[], vec![out])
+}
+
 /// The rewrite in Rattle; it lacks the calls that the library does not have yet.
 pub struct Rattle;
 
@@ -107,5 +195,33 @@ impl Implementation for Rattle {
     fn unpack(&self, number: u32) -> Outcome {
         let r = calls::unpack(number);
         says(r.number, r.place, &[r.kind, r.a, r.b, r.c, r.d])
+    }
+
+    fn check(&self, words: &[u32]) -> Outcome {
+        let r = calls::check_sheet(words);
+        let numbers = [r.records, r.constraints, r.interactions, r.words, r.start];
+        outcome((r.number, r.place), &[], &numbers, vec![])
+    }
+
+    fn max_rotation(&self, words: &[u32]) -> Outcome {
+        let r = calls::max_rotation(words);
+        outcome((r.number, r.place), &[], &[r.value], vec![])
+    }
+
+    fn num_constraints(&self, words: &[u32]) -> Outcome {
+        let r = calls::num_constraints(words);
+        outcome((r.number, r.place), &[], &[r.value], vec![])
+    }
+
+    fn conversion(&self, words: &[u32], out: usize) -> Outcome {
+        writing(out, 0xdead_beef, |out| calls::convert(words, out))
+    }
+
+    fn reader(&self, bytes: &[u8], out: usize) -> Outcome {
+        writing(out, 0xdead_beef, |out| calls::read_blocks(bytes, out))
+    }
+
+    fn writer(&self, words: &[u32], out: usize) -> Outcome<u8> {
+        writing(out, 0xa5, |out| calls::write_blocks(words, out))
     }
 }

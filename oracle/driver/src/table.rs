@@ -38,6 +38,12 @@ impl Table {
         self.rows.iter().map(|row| row.differences).sum()
     }
 
+    /// The kinds without a case.
+    pub fn empty<'a>(&self, kinds: &[&'a str]) -> Vec<&'a str> {
+        let has = |kind: &str| self.rows.iter().any(|row| row.kind == kind);
+        kinds.iter().copied().filter(|kind| !has(kind)).collect()
+    }
+
     /// Prints the rows in the order of `kinds`; a kind without a case is printed too.
     pub fn print(&self, title: &str, kinds: &[&str]) {
         self.print_columns(title, kinds, 4);

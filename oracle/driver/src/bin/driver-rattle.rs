@@ -9,6 +9,7 @@ use driver::implementation::Implementation;
 use driver::rattle::Rattle;
 use driver::rng::Rng;
 use driver::rust;
+use driver::sheet_calls::{self, compare_input, random_inputs};
 use driver::single::{
     compare_block, compare_number, compare_record, edge_numbers, edge_records, kinds,
     random_blocks, random_number, random_record,
@@ -17,7 +18,8 @@ use driver::table::Table;
 
 const USAGE: &str = "usage:
   driver-rattle [CASES] [SEED]   packing, unpacking and the block check: the edges, CASES random records and numbers, and a
-                                 tenth as many blocks, each in six states; 400,000 cases from seed 1 unless said otherwise";
+                                 tenth as many blocks, each in six states; then the sheet calls on CASES sheets and blocks,
+                                 good and broken; 400,000 cases from seed 1 unless said otherwise";
 
 /// So many differences are shown.
 const SHOWN: u64 = 10;
@@ -34,16 +36,36 @@ fn main() -> ExitCode {
         return ExitCode::from(2);
     };
     rust::keep_caught_panics_quiet();
-    match compare(cases, seed) {
-        0 => ExitCode::SUCCESS,
+    let name = Rattle.name();
+    println!("{name} against plain and the Rust: {cases} cases, seed {seed}");
+    let tables = [
+        (compare_single(cases, seed), kinds()),
+        (compare_sheet_calls(cases, seed), sheet_calls::kinds()),
+    ];
+    let titles = [
+        "compared; known differences as foretold",
+        "sheet calls, compared",
+    ];
+    for ((table, kinds), title) in tables.iter().zip(titles) {
+        table.print_counts(title, kinds);
+    }
+    let empty: Vec<&str> = tables
+        .iter()
+        .flat_map(|(table, kinds)| table.empty(kinds))
+        .collect();
+    for kind in &empty {
+        println!("no case of: {kind}");
+    }
+    let differences: u64 = tables.iter().map(|(table, _)| table.differences()).sum();
+    println!("\nunexplained differences: {differences}");
+    match (differences, empty.len()) {
+        (0, 0) => ExitCode::SUCCESS,
         _ => ExitCode::FAILURE,
     }
 }
 
-/// All comparisons; how many differences are left unexplained.
-fn compare(cases: u64, seed: u64) -> u64 {
-    let name = Rattle.name();
-    println!("{name} against plain and the Rust: {cases} cases, seed {seed}");
+/// Packing, unpacking and the block check.
+fn compare_single(cases: u64, seed: u64) -> Table {
     let mut table = Table::default();
     let mut rng = Rng::new(seed);
     for record in edge_records() {
@@ -64,9 +86,21 @@ fn compare(cases: u64, seed: u64) -> u64 {
             add(&mut table, &(block.number, &block.bytes), vec![case]);
         }
     }
-    table.print_counts("compared; known differences as foretold", &kinds());
-    println!("\nunexplained differences: {}", table.differences());
-    table.differences()
+    table
+}
+
+/// The sheet calls, on sheets and blocks made from random sheets until there are so many.
+fn compare_sheet_calls(cases: u64, seed: u64) -> Table {
+    let mut table = Table::default();
+    let mut rng = Rng::new(seed);
+    let mut made = 0;
+    while made < cases {
+        for input in random_inputs(&mut rng) {
+            add(&mut table, &input, compare_input(&Rattle, &input));
+            made += 1;
+        }
+    }
+    table
 }
 
 fn add(table: &mut Table, input: &dyn Debug, cases: Vec<Case>) {
