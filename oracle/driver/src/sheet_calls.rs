@@ -221,10 +221,10 @@ pub fn random_inputs(rng: &mut Rng) -> Vec<Input> {
     let zeros = rng.pick(&[0, 0, 1, 126]);
     let good = spare(&words, zeros);
     let front = rng.pick(&[4, 24, words.len(), words.len()]);
-    let changed = one_changed(rng, &words, sheet.records.len(), front);
-    let late = words.len() - rng.below(words.len().min(40));
-    let mut changed_late = one_changed(rng, &words[..late], sheet.records.len(), late);
-    changed_late.extend(&words[late..]);
+    let at = rng.below(front.min(words.len()));
+    let changed = one_changed(rng, &sheet, &words, at);
+    let at = words.len() - 1 - rng.below(words.len().min(40));
+    let changed_late = one_changed(rng, &sheet, &words, at);
     let cut = words[..rng.below(words.len())].to_vec();
     let zeros = rng.pick(&[1, 60, 125, 126, 127, 128, 300]);
     let longer = spare(&words, zeros);
@@ -248,10 +248,9 @@ pub fn random_inputs(rng: &mut Rng) -> Vec<Input> {
     words.chain(bytes.into_iter().map(Input::Bytes)).collect()
 }
 
-/// One word among the first `front` is another: a neighbour, a bound of document 01, or any.
-fn one_changed(rng: &mut Rng, words: &[u32], records: usize, front: usize) -> Vec<u32> {
+/// The word at an index is another: a neighbour, a bound of document 01, or any.
+fn one_changed(rng: &mut Rng, sheet: &Sheet, words: &[u32], at: usize) -> Vec<u32> {
     let mut changed = words.to_vec();
-    let at = rng.below(front.min(words.len()));
     let word = words[at];
     let bounds = [
         0,
@@ -273,7 +272,7 @@ fn one_changed(rng: &mut Rng, words: &[u32], records: usize, front: usize) -> Ve
     ];
     let (bound, any) = (rng.pick(&bounds), rng.word());
     let near = rng.pick(&[word.wrapping_add(1), word.wrapping_sub(1)]);
-    let record = (records as u32).wrapping_sub(rng.below(2) as u32);
+    let record = (sheet.records.len() as u32).wrapping_sub(rng.below(2) as u32);
     changed[at] = rng.pick(&[bound, bound, near, near, record, any]);
     changed
 }
