@@ -17,7 +17,7 @@ use Rattle.semantics.proofs.Encoding.{records-length, head-limits}
 use Rattle.semantics.proofs.Access.{constraint-word, words-count}
 use Rattle.semantics.proofs.Orders.{order-closed, order-roots, order-below, order-distinct, distinct-length}
 use Rattle.semantics.proofs.GraphSheets.{graph-roots}
-use Rattle.dag.specs.Memory.{tabulate, mark, nodesOut, recordsOf, builtOf, Holds, Order, Finishing, allAdded, graphOut, flagged, flaggedAmong, plainBelow, marksOf, nodeNumbers, part, put, renamedAll, Named, NamedInteractions}
+use Rattle.dag.specs.Memory.{tabulate, mark, nodesOut, recordsOf, builtOf, Holds, Order, Finishing, allAdded, graphOut, graphLength, flagged, flaggedAmong, plainBelow, marksOf, nodeNumbers, part, put, renamedAll, Named, NamedInteractions}
 use Rattle.dag.proofs.Steps as steps
 use Rattle.dag.proofs.Marks.{tabulate-length}
 use Rattle.dag.proofs.Sweeps.{put-length}
@@ -205,6 +205,12 @@ module _ (ws scratch out : List ℕ) (n : ℕ) (f : Finishing ws scratch out n) 
         out₂-length =
             let k = interactions-named .1 in
             ap length o₂ ∙ put-length out₁ next (renamedAll ws s₂ from ints) k ∙ out₁-length
+
+        pub end-is : (end : ℕ) → end ≡ next + length (renamedAll ws s₂ from ints) → end ≡ graphLength ws
+        end-is end e =
+            let k : length (renamedAll ws s₂ from ints) ≡ length (flatMap interactionWords (g .interactions)) = ap length renamed-now in
+            let kn : n ≡ length (g .records) = nodes-count ∙ ap length (sym records-are) in
+            omega (arith, next-is, encode-long g)
 
         pub list-small : next - (4 + 5 * n) < 4294967296
         list-small = omega (arith, next-is, sorted-few)

@@ -14,3 +14,4 @@ pub mod Reading
 pub mod Closing
 pub mod Graphing
 pub mod Starts
+pub mod Outcomes

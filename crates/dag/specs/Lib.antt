@@ -1,3 +1,4 @@
 pub mod Picks
 pub mod Memory
 pub mod Nodes
+pub mod Calls

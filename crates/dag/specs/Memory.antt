@@ -200,3 +200,6 @@ pub record Finishing (ws scratch out : List ℕ) (n : ℕ) : Type 0 where
 -- The graph in the output.
 abbrev pub graphOut : (lent : ℕ) → List ℕ → List ℕ
 graphOut lent ws = padded (encode (graphOf prime (readSheet ws))) lent
+
+abbrev pub graphLength : List ℕ → ℕ
+graphLength ws = length (encode (graphOf prime (readSheet ws)))

@@ -5,7 +5,7 @@ ghost use Prim.Native.Nat.{ℕ, pred, _+_, _*_, _%_, _≤_, _<_};
 ghost use lib.Dec.{leb};
 ghost use lib.ListN.{length, getD, set};
 ghost use Rattle.semantics.specs.Check.{readSheet};
-ghost use Rattle.dag.specs.Memory.{tabulate, flagWord, plainWord, plainBelow, flagged, flaggedAmong, chosen, Wanted, put, part, nodeNumbers, marksOf, Named, NamedInteraction, NamedInteractions, messageLength, renamedWords, renamedAll, recordsOf, Finishing, graphOut};
+ghost use Rattle.dag.specs.Memory.{tabulate, flagWord, plainWord, plainBelow, flagged, flaggedAmong, chosen, Wanted, put, part, nodeNumbers, marksOf, Named, NamedInteraction, NamedInteractions, messageLength, renamedWords, renamedAll, recordsOf, Finishing, graphOut, graphLength};
 
 // Above every mark: a mark is a node's number counted from 1.
 const FLAG: u32 = 65536;
@@ -142,7 +142,7 @@ fn write_interactions(
     next
 }
 
-// Writes the constraints and interactions behind the nodes, and the head.
+// Writes the constraints and interactions behind the nodes, and the head; hands back how many words the graph has.
 pub fn write_graph(
     sheet: &[u32],
     at: usize,
@@ -151,16 +151,17 @@ pub fn write_graph(
     scratch: &mut [u32],
     out: &mut [u32],
     n: usize,
-)
+) -> usize
     requires { ⌜ Finishing (now sheet) (now scratch) (now out) n × (at ≡ 4 + 5 * length (recordsOf (now sheet))) × (constraints ≡ length (readSheet (now sheet) .constraints)) × (interactions ≡ length (readSheet (now sheet) .interactions)) ⌝ }
-    ensures { λ _. ⌜ now (out .exit) ≡ graphOut (length (now (out .entry))) (now (sheet .entry)) ⌝ }
+    ensures { λ r. ⌜ (now (out .exit) ≡ graphOut (length (now (out .entry))) (now (sheet .entry))) × (r ≡ graphLength (now (sheet .entry))) ⌝ }
 {
     flag_nodes(sheet, at, constraints, scratch);
     let to = 4 + 5 * n;
     let next = write_flagged(scratch, n, out, to);
-    write_interactions(sheet, at + constraints, interactions, scratch, out, next);
+    let end = write_interactions(sheet, at + constraints, interactions, scratch, out, next);
     out[0] = 1;
     out[1] = n as u32;
     out[2] = (next - to) as u32;
     out[3] = interactions as u32;
+    end
 }

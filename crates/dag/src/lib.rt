@@ -1,9 +1,19 @@
 // The builder: port of dag.rs over a sheet, scratch and an output that are lent.
-mod build;
+ghost use mathlib.Core.Path.{_≡_};
+ghost use lib.ListN.{length};
+ghost use Rattle.semantics.specs.Arithmetic.{prime};
+ghost use Rattle.semantics.specs.Call.{builderCall, zeros};
+ghost use Rattle.dag.specs.Calls.{builtOutcome, Clear};
+
 mod finish;
+mod graph;
 mod nodes;
 mod rules;
 mod walk;
+
+use sheet::Checked;
+use sheet::Refusal;
+use sheet::Written;
 
 // A record as five words.
 pub struct Record {
@@ -12,4 +22,53 @@ pub struct Record {
     pub b: u32,
     pub c: u32,
     pub d: u32,
+}
+
+// The graph of a checked sheet, where scratch and output are long enough.
+fn build_checked(
+    s: &[u32],
+    records: usize,
+    words: usize,
+    scratch: &mut [u32],
+    out: &mut [u32],
+) -> Written
+    requires { ⌜ Clear (now s) records words (now scratch) (now out) ⌝ }
+    ensures { λ r. ⌜ builtOutcome r (zeros (length (now (scratch .entry)))) (now (out .exit)) ≡ builderCall prime (now (s .entry)) (length (now (scratch .entry))) (length (now (out .entry))) ⌝ }
+{
+    if scratch.len() < records {
+        return Written::Refused(Refusal {
+            number: 14,
+            place: records,
+        });
+    }
+    if out.len() < words {
+        return Written::Refused(Refusal {
+            number: 15,
+            place: words,
+        });
+    }
+    let written = graph::build_graph(s, &mut scratch[..records], out);
+    Written::Words(written)
+}
+
+// The graph of a sheet, in an output of zeros.
+fn build_clear(s: &[u32], scratch: &mut [u32], out: &mut [u32]) -> Written
+    requires { ⌜ (now scratch ≡ zeros (length (now scratch))) × (now out ≡ zeros (length (now out))) ⌝ }
+    ensures { λ r. ⌜ builtOutcome r (zeros (length (now (scratch .entry)))) (now (out .exit)) ≡ builderCall prime (now (s .entry)) (length (now (scratch .entry))) (length (now (out .entry))) ⌝ }
+{
+    match sheet::check_sheet(s) {
+        Checked::Sheet(head) => build_checked(s, head.records, head.words, scratch, out),
+        Checked::Refused(r) => Written::Refused(r),
+    }
+}
+
+// The builder: checks the sheet and writes its graph; scratch ends all zero.
+pub fn build(s: &[u32], scratch: &mut [u32], out: &mut [u32]) -> Written
+    ensures { λ r. ⌜ builtOutcome r (now (scratch .exit)) (now (out .exit)) ≡ builderCall prime (now (s .entry)) (length (now (scratch .entry))) (length (now (out .entry))) ⌝ }
+{
+    slices::zero_all(scratch);
+    slices::zero_all(out);
+    let written = build_clear(s, scratch, out);
+    slices::zero_all(scratch);
+    written
 }

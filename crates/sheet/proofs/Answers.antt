@@ -14,7 +14,6 @@ use Rattle.sheet.specs.declared.Refusal.{Refusal}
 use Rattle.sheet.specs.declared.Head.{Head}
 use Rattle.sheet.specs.declared.Checked.{Checked}
 use Rattle.sheet.specs.declared.Checked.the-variants.{Sheet, Refused}
-use Rattle.sheet.specs.declared.Counted.{Counted}
 use Rattle.sheet.specs.declared.Counted.the-variants as counted
 use Rattle.sheet.specs.Scans.{headOf, checkedOf}
 use Rattle.sheet.specs.Replies.{checkedReply, refusalOf, countedOutcome}

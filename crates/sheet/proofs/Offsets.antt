@@ -9,7 +9,7 @@ use lib.Dec.{eqb}
 use lib.ListN.{length, getD, drop}
 use lib.Seq.{getD-drop, drop-drop}
 use Rattle.semantics.specs.Answer.{good}
-use Rattle.semantics.specs.Sheet.{Record, Sheet, headWords, lengthOf}
+use Rattle.semantics.specs.Sheet.{Sheet, headWords, lengthOf}
 use Rattle.semantics.specs.Check.{readRecord, readRecords, check}
 use Rattle.semantics.specs.Graph.{rotation, maxRotation}
 use Rattle.semantics.proofs.Encoding.{records-back, sheet-length}
@@ -18,10 +18,11 @@ use Rattle.sheet.specs.declared.Head.{Head}
 use Rattle.sheet.specs.Scans.{headOf}
 use Rattle.sheet.specs.Replies.{largest}
 
--- The largest offset of n records without the first i, and of all.
+-- The largest offset of the n records without the first i.
 abbrev left : List ℕ → (n i : ℕ) → ℕ
 left ws n i = largest (readRecords (n - i) (drop (4 + 5 * i) ws))
 
+-- The larger of `most` and of what is left is the largest of all.
 abbrev pub Largest : List ℕ → (n i most : ℕ) → Type 0
 Largest ws n i most = (i ≤ n) × (max most (left ws n i) ≡ largest (readRecords n (drop 4 ws)))
 

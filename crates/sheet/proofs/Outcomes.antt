@@ -1,5 +1,5 @@
 -- The outcomes of the calls that write to one output.
-use mathlib.Core.Path.{_≡_, refl, sym, _∙_, ap}
+use mathlib.Core.Path.{_≡_, sym, _∙_, ap}
 use mathlib.Core.List.{List, [], _∷_, _++_}
 use Prim.Native.Nat.{ℕ, _-_, _≤_, _<_}
 use native.Mathlib.Omega.{arith}
@@ -7,7 +7,7 @@ use native.Mathlib.Nat.{sub-zero}
 use lib.Dec.{leb}
 use lib.ListN.{length, take, replicate, length-take}
 use borrow.Author.Tests.{lt-leb}
-use Rattle.semantics.specs.Answer.{Answer, good, refused, andThen}
+use Rattle.semantics.specs.Answer.{Answer, good, refused}
 use Rattle.semantics.specs.Sheet.{Sheet}
 use Rattle.semantics.specs.Check.{check}
 use Rattle.semantics.specs.Call.{Result, zeros, padded, paddedAll, outcome, needs, result, onSheet}

@@ -12,7 +12,7 @@ use lib.Seq.{take-suc-set, drop-drop, length-take-le}
 use borrow.Author.Tests.{ltb-false}
 use Rattle.semantics.specs.Answer.{Answer, good, refused, andThen}
 use Rattle.semantics.specs.Block.{wordAt, wordsOf, blockGood, badLength, readBlocks}
-use Rattle.semantics.specs.Call.{Result, Outcome, outcome, needs, result, readerCall}
+use Rattle.semantics.specs.Call.{Result, Outcome, outcome, result, readerCall}
 use Rattle.semantics.proofs.Basics.{cond-true, cond-false}
 use Rattle.semantics.proofs.Calls.{needs-met}
 use Rattle.sheet.specs.declared.Written.{Written}

@@ -1,7 +1,7 @@
 -- Laws of writing blocks: a word, the words of a block, a block, and block by block.
 use mathlib.Core.Path.{_≡_, refl, sym, _∙_, ap, subst}
 use mathlib.Core.List.{List, [], _∷_, _++_, flatMap, append-assoc, append-nil}
-use Prim.Native.Nat.{ℕ, zero, suc, _+_, _*_, _-_, _/_, _≤_, _<_}
+use Prim.Native.Nat.{ℕ, suc, _+_, _*_, _-_, _/_, _≤_, _<_}
 use native.Mathlib.Omega.{arith}
 use native.Mathlib.Nat.{add-zero, sub-zero}
 use native.Mathlib.Numerals.{add-one}
@@ -11,7 +11,7 @@ use Rattle.semantics.specs.Answer.{good}
 use Rattle.semantics.specs.Sheet.{Sheet, encode, lengthOf}
 use Rattle.semantics.specs.Check.{check}
 use Rattle.semantics.specs.Block.{wordBytes, wordsOf, checkWord, firstWords, blockBytes, writeBlocks, blocksFor}
-use Rattle.semantics.proofs.Blocks.{Words, words-back, first-length, first-add, written-length}
+use Rattle.semantics.proofs.Blocks.{Words, words-back, first-add, written-length}
 use Rattle.sheet.specs.declared.Head.{Head}
 use Rattle.sheet.specs.Scans.{headOf}
 use Rattle.sheet.proofs.Answers.{words-found}

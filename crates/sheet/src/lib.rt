@@ -1,4 +1,4 @@
-// Sheets: the check, and the calls that only read or copy a sheet.
+// Sheets: the check, the calls that only read or copy a sheet, and blocks.
 ghost use mathlib.Core.Path.{_≡_};
 ghost use lib.ListN.{length};
 ghost use Rattle.semantics.specs.Arithmetic.{prime};

@@ -1,0 +1,24 @@
+-- What the builder's answer stands for (01, "What each call hands back").
+use mathlib.Core.Path.{_≡_}
+use mathlib.Core.List.{List, [], _∷_}
+use Prim.Native.Nat.{ℕ}
+use lib.ListN.{length}
+use Rattle.semantics.specs.Arithmetic.{prime}
+use Rattle.semantics.specs.Answer.{good}
+use Rattle.semantics.specs.Sheet.{lengthOf}
+use Rattle.semantics.specs.Check.{readSheet, check}
+use Rattle.semantics.specs.Call.{Outcome, zeros}
+use Rattle.sheet.specs.declared.Written.{Written}
+use Rattle.sheet.specs.Replies.{writtenReply}
+
+-- The reply, scratch and the output.
+abbrev pub builtOutcome : Written → (scratch out : List ℕ) → Outcome
+builtOutcome r scratch out = record { reply = writtenReply r; slices = scratch ∷ out ∷ [] }
+
+-- A checked sheet with its E and L, and nothing but zeros in what is lent for writing.
+pub record Clear (ws : List ℕ) (records words : ℕ) (scratch out : List ℕ) : Type 0 where
+  pub checked : check prime ws ≡ good (readSheet ws)
+  pub records-are : records ≡ length (readSheet ws .records)
+  pub words-are : words ≡ lengthOf (readSheet ws)
+  pub scratch-is : scratch ≡ zeros (length scratch)
+  pub out-is : out ≡ zeros (length out)
