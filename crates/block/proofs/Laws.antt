@@ -11,12 +11,10 @@ use lib.Seq.{getD-drop, drop-drop}
 use borrow.Author.Tests.{eq-eqb, ne-eqb}
 use Rattle.semantics.specs.Answer.{Answer, good, refused, andThen}
 use Rattle.semantics.specs.Block.{wordAt, wordsOf, total, checkWord, blockGood, blockCheck}
-use Rattle.semantics.specs.Call.{outcome, result, blockCheckCall}
 use Rattle.semantics.proofs.Basics.{cond-true, cond-false}
 use Rattle.block.specs.declared.BlockChecked.{BlockChecked}
 use Rattle.block.specs.declared.BlockChecked.the-variants.{Yes, No, Refused}
-use Rattle.block.specs.declared.SuhkelvaBlock.{SuhkelvaBlock}
-use Rattle.block.specs.Checked.{checkedAnswer, blockFields}
+use Rattle.block.specs.Checked.{checkedAnswer}
 
 -- a word by its four bytes
 pub word-of : (bs : List ℕ) (at : ℕ) {a b c d : ℕ} → a ≡ getD bs at 0 → b ≡ getD bs (at + 1) 0 → c ≡ getD bs (at + 2) 0 → d ≡ getD bs (at + 3) 0
@@ -62,23 +60,3 @@ length-right number bs h e = ap good e ∙ sym (cond-true (eqb (length bs) 512) 
 pub length-wrong : (number : ℕ) (bs : List ℕ) → (length bs ≡ 512 → ⊥) → refused 1 0 ≡ blockCheck number bs
 unfolding blockCheck
 length-wrong number bs h = sym (cond-false (eqb (length bs) 512) _ _ (ne-eqb (length bs) 512 h))
-
--- the fields that go to C
-abbrev pub blockC : BlockChecked → SuhkelvaBlock
-blockC Yes = record { number = 0; place = 0; good = 1 }
-blockC No = record { number = 0; place = 0; good = 0 }
-blockC (Refused r) = record { number = r .number; place = r .place; good = 0 }
-
-abbrev replyFields : Answer Bool → SuhkelvaBlock
-replyFields a = blockFields (outcome [] [] (andThen a (λ (yes′ : Bool). result [] (cond yes′ 1 0 ∷ []))) .reply)
-
-checked-fields : (k : BlockChecked) → blockC k ≡ replyFields (checkedAnswer k)
-unfolding blockFields outcome andThen result
-checked-fields Yes = refl
-checked-fields No = refl
-checked-fields (Refused r) = refl
-
-pub check-fields : (bytes : List ℕ) (number : ℕ) {k j : BlockChecked} → checkedAnswer k ≡ blockCheck number bytes → k ≡ j
-    → blockC j ≡ blockFields (blockCheckCall bytes number .reply)
-unfolding blockCheckCall
-check-fields bytes number {k} e h = ap blockC (sym h) ∙ checked-fields k ∙ ap replyFields e

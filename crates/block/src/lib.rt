@@ -1,8 +1,7 @@
 // Blocks of 512 bytes: 127 words and a check word.
 ghost use mathlib.Core.Path.{_≡_};
 ghost use Rattle.semantics.specs.Block.{blockCheck};
-ghost use Rattle.semantics.specs.Call.{blockCheckCall};
-ghost use Rattle.block.specs.Checked.{checkedAnswer, blockFields};
+ghost use Rattle.block.specs.Checked.{checkedAnswer};
 
 pub mod words;
 
@@ -31,34 +30,4 @@ pub fn block_check(bytes: &[u8], number: u32) -> BlockChecked
         return BlockChecked::Yes;
     }
     BlockChecked::No
-}
-
-#[repr(C)]
-pub struct SuhkelvaBlock {
-    pub number: u32,
-    pub place: u32,
-    pub good: u32,
-}
-
-#[no_mangle]
-pub extern "C" fn suhkelva_block_check(bytes: &[u8], number: u32) -> SuhkelvaBlock
-    ensures { λ r. ⌜ r ≡ blockFields (blockCheckCall (now (bytes .entry)) number .reply) ⌝ }
-{
-    match block_check(bytes, number) {
-        BlockChecked::Yes => SuhkelvaBlock {
-            number: 0,
-            place: 0,
-            good: 1,
-        },
-        BlockChecked::No => SuhkelvaBlock {
-            number: 0,
-            place: 0,
-            good: 0,
-        },
-        BlockChecked::Refused(r) => SuhkelvaBlock {
-            number: r.number,
-            place: r.place,
-            good: 0,
-        },
-    }
 }

@@ -11,7 +11,6 @@ use Rattle.semantics.specs.Sheet as sheet
 use Rattle.semantics.specs.Sheet.{recordOf, recordWords, table, row, fits}
 use Rattle.semantics.specs.Check.{Scan, reading, stopped, scanWords, judged}
 use Rattle.semantics.specs.Packing.{packed, packFault, leafTests, packRecord, pack, unpacked, handsOut, unpack}
-use Rattle.semantics.specs.Call.{outcome, result, packCall, unpackCall}
 use Rattle.packed_var.specs.declared.symbolic_variable.Entry.{Entry}
 use Rattle.packed_var.specs.declared.symbolic_variable.Entry.the-variants.{Preprocessed, Main, Public, Challenge}
 use Rattle.packed_var.specs.declared.symbolic_variable.Sum.{Sum}
@@ -24,10 +23,8 @@ use Rattle.packed_var.specs.declared.Packed.{Packed}
 use Rattle.packed_var.specs.declared.Packed.the-variants as packed′
 use Rattle.packed_var.specs.declared.Unpacked.{Unpacked}
 use Rattle.packed_var.specs.declared.Unpacked.the-variants as unpacked′
-use Rattle.packed_var.specs.declared.SuhkelvaPacked.{SuhkelvaPacked}
-use Rattle.packed_var.specs.declared.SuhkelvaRecord.{SuhkelvaRecord}
 use Rattle.packed_var.specs.Variable.{entryAt, entryRotated}
-use Rattle.packed_var.specs.Packed.{entryRecord, leafRecord, leafChecked, leafAnswer, refusalOf, packedAnswer, unpackedAnswer, packedFields, recordFields}
+use Rattle.packed_var.specs.Packed.{entryRecord, leafRecord, leafChecked, leafAnswer, refusalOf, packedAnswer, unpackedAnswer}
 
 -- an entry with an offset, turned to a sum s that is known
 pub turned : (make : ℕ → Entry) (e : Entry) (k : ℕ) {s t u : Sum} → t ≡ s → t ≡ u → entryRotated e k ≡ entryAt make u → entryAt make s ≡ entryRotated e k
@@ -125,31 +122,3 @@ pub unpack-by : (n : ℕ) (w : sheet.Record) {p q : Packed} {t : Bool} → w ≡
     → cond t (good w) (refused 5 0) ≡ unpack n
 unfolding unpack
 unpack-by n w e a h k = rw (← k, ← h, a, e)
-
--- ---- the fields that go to C
-abbrev pub packedC : Packed → SuhkelvaPacked
-packedC (packed′.Var v) = record { number = 0; place = 0; packed = v .0 }
-packedC (packed′.Refused r) = record { number = r .number; place = r .place; packed = 0 }
-
-abbrev pub recordC : Unpacked → SuhkelvaRecord
-recordC (unpacked′.Words w) = record { number = 0; place = 0; kind = w .kind; a = w .a; b = w .b; c = w .c; d = w .d }
-recordC (unpacked′.Refused r) = record { number = r .number; place = r .place; kind = 0; a = 0; b = 0; c = 0; d = 0 }
-
-packed-fields : (p : Packed) → packedC p ≡ packedFields (outcome [] [] (andThen (packedAnswer p) (λ n. result [] (n ∷ []))) .reply)
-unfolding packedFields outcome andThen result
-packed-fields (packed′.Var v) = refl
-packed-fields (packed′.Refused r) = refl
-
-record-fields : (u : Unpacked) → recordC u ≡ recordFields (outcome [] [] (andThen (unpackedAnswer u) (λ r. result [] (recordWords r))) .reply)
-unfolding recordFields outcome andThen result recordWords
-record-fields (unpacked′.Words w) = refl
-record-fields (unpacked′.Refused r) = refl
-
-pub pack-fields : (r : sheet.Record) {p q : Packed} → packedAnswer p ≡ pack r → p ≡ q → packedC q ≡ packedFields (packCall r .reply)
-unfolding packCall
-pack-fields r {p} e h = ap packedC (sym h) ∙ packed-fields p ∙ ap (λ (x : Answer ℕ). packedFields (outcome [] [] (andThen x (λ n. result [] (n ∷ []))) .reply)) e
-
-pub unpack-fields : (n : ℕ) {u v : Unpacked} → unpackedAnswer u ≡ unpack n → u ≡ v → recordC v ≡ recordFields (unpackCall n .reply)
-unfolding unpackCall
-unpack-fields n {u} e h =
-    ap recordC (sym h) ∙ record-fields u ∙ ap (λ (x : Answer sheet.Record). recordFields (outcome [] [] (andThen x (λ r. result [] (recordWords r))) .reply)) e

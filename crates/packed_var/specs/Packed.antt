@@ -1,12 +1,10 @@
 -- What the answers of this crate stand for.
 use Prim.Native.Nat.{ℕ}
-use lib.ListN.{getD}
 use Rattle.semantics.specs.Answer.{Answer, good, refused}
 use Rattle.semantics.specs.Sheet as sheet
 use Rattle.semantics.specs.Sheet.{recordOf, recordWords}
 use Rattle.semantics.specs.Check.{reading, scanWords, judged}
 use Rattle.semantics.specs.Packing.{leafTests}
-use Rattle.semantics.specs.Call.{Reply}
 use Rattle.packed_var.specs.declared.symbolic_variable.Entry.{Entry}
 use Rattle.packed_var.specs.declared.symbolic_variable.Entry.the-variants.{Preprocessed, Main, Public, Challenge}
 use Rattle.packed_var.specs.declared.symbolic_variable.SymbolicVariable.{SymbolicVariable}
@@ -20,8 +18,6 @@ use Rattle.packed_var.specs.declared.Packed.the-variants as packed
 use Rattle.packed_var.specs.declared.Record.{Record}
 use Rattle.packed_var.specs.declared.Unpacked.{Unpacked}
 use Rattle.packed_var.specs.declared.Unpacked.the-variants as unpacked
-use Rattle.packed_var.specs.declared.SuhkelvaPacked.{SuhkelvaPacked}
-use Rattle.packed_var.specs.declared.SuhkelvaRecord.{SuhkelvaRecord}
 use Rattle.packed_var.specs.Variable.{variableOf}
 
 -- "a entry (0 preprocessed, 1 main, 2 challenge, 3 public), b part (0 unless main), c offset (0 for 2 and 3), d column"
@@ -74,18 +70,3 @@ wordsRecord w = recordOf (w .kind) (w .a) (w .b) (w .c) (w .d)
 abbrev pub unpackedAnswer : Unpacked → Answer sheet.Record
 unpackedAnswer (unpacked.Words w) = good (wordsRecord w)
 unpackedAnswer (unpacked.Refused r) = refused (r .number) (r .place)
-
--- The fields in which a reply goes to C: its number, its place, and its further numbers, 0 where it has none.
-unfoldable pub packedFields : Reply → SuhkelvaPacked
-packedFields r = record { number = r .number; place = r .place; packed = getD (r .numbers) 0 0 }
-
-unfoldable pub recordFields : Reply → SuhkelvaRecord
-recordFields r = record {
-  number = r .number;
-  place = r .place;
-  kind = getD (r .numbers) 0 0;
-  a = getD (r .numbers) 1 0;
-  b = getD (r .numbers) 2 0;
-  c = getD (r .numbers) 3 0;
-  d = getD (r .numbers) 4 0;
-}

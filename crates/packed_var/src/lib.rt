@@ -7,8 +7,7 @@ ghost use mathlib.Core.Path.{_≡_};
 ghost use Prim.Native.Nat.{_+_, _*_, _<_};
 ghost use Rattle.semantics.specs.Sheet.{recordOf};
 ghost use Rattle.semantics.specs.Packing.{pack, unpack, unpacked, packRecord};
-ghost use Rattle.semantics.specs.Call.{packCall, unpackCall};
-ghost use Rattle.packed_var.specs.Packed.{variableRecord, refusedWith, packedAnswer, wordsRecord, unpackedAnswer, packedFields, recordFields};
+ghost use Rattle.packed_var.specs.Packed.{variableRecord, refusedWith, packedAnswer, wordsRecord, unpackedAnswer};
 
 pub mod leaf;
 pub mod symbolic_variable;
@@ -164,66 +163,4 @@ pub fn unpack(v: PackedVar) -> Unpacked
         });
     }
     Unpacked::Words(words)
-}
-
-#[repr(C)]
-pub struct SuhkelvaPacked {
-    pub number: u32,
-    pub place: u32,
-    pub packed: u32,
-}
-
-#[repr(C)]
-pub struct SuhkelvaRecord {
-    pub number: u32,
-    pub place: u32,
-    pub kind: u32,
-    pub a: u32,
-    pub b: u32,
-    pub c: u32,
-    pub d: u32,
-}
-
-#[no_mangle]
-pub extern "C" fn suhkelva_pack(kind: u32, a: u32, b: u32, c: u32, d: u32) -> SuhkelvaPacked
-    ensures { λ r. ⌜ r ≡ packedFields (packCall (recordOf kind a b c d) .reply) ⌝ }
-{
-    match pack(kind, a, b, c, d) {
-        Packed::Var(v) => SuhkelvaPacked {
-            number: 0,
-            place: 0,
-            packed: v.0,
-        },
-        Packed::Refused(r) => SuhkelvaPacked {
-            number: r.number,
-            place: r.place,
-            packed: 0,
-        },
-    }
-}
-
-#[no_mangle]
-pub extern "C" fn suhkelva_unpack(packed: u32) -> SuhkelvaRecord
-    ensures { λ r. ⌜ r ≡ recordFields (unpackCall packed .reply) ⌝ }
-{
-    match unpack(PackedVar(packed)) {
-        Unpacked::Words(w) => SuhkelvaRecord {
-            number: 0,
-            place: 0,
-            kind: w.kind,
-            a: w.a,
-            b: w.b,
-            c: w.c,
-            d: w.d,
-        },
-        Unpacked::Refused(r) => SuhkelvaRecord {
-            number: r.number,
-            place: r.place,
-            kind: 0,
-            a: 0,
-            b: 0,
-            c: 0,
-            d: 0,
-        },
-    }
 }

@@ -8,7 +8,7 @@ use lib.Seq.{take-at}
 use Rattle.semantics.specs.Answer.{Answer, good, refused, andThen}
 use Rattle.semantics.specs.Sheet as semantics
 use Rattle.semantics.specs.Check.{check}
-use Rattle.semantics.specs.Call.{Result, outcome, paddedAll, result, onSheet, checkCall}
+use Rattle.semantics.specs.Call.{Result, outcome, paddedAll, result, onSheet}
 use Rattle.semantics.proofs.Encoding.{check-sound, check-inside, length-limit}
 use Rattle.sheet.specs.declared.Refusal.{Refusal}
 use Rattle.sheet.specs.declared.Head.{Head}
@@ -16,7 +16,7 @@ use Rattle.sheet.specs.declared.Checked.{Checked}
 use Rattle.sheet.specs.declared.Checked.the-variants.{Sheet, Refused}
 use Rattle.sheet.specs.declared.Counted.the-variants as counted
 use Rattle.sheet.specs.Scans.{headOf, checkedOf}
-use Rattle.sheet.specs.Replies.{checkedReply, refusalOf, countedOutcome}
+use Rattle.sheet.specs.Replies.{refusalOf, countedOutcome}
 
 -- A sheet was found, or the check refused.
 pub found : (a : Answer semantics.Sheet) {r : Checked} {h : Head} → r ≡ checkedOf a → r ≡ Sheet h → (t : semantics.Sheet) × (a ≡ good t) × (h ≡ headOf t)
@@ -68,16 +68,3 @@ module _ (p : ℕ) (ws : List ℕ) (number : semantics.Sheet → ℕ) where
   pub counted-found : {t : semantics.Sheet} {n : ℕ} → check p ws ≡ good t → n ≡ number t → countedOutcome (counted.Number n) ≡ outcome [] [] (onSheet p ws handsBack)
   unfolding outcome paddedAll result
   counted-found e f = ap (λ (m : ℕ). countedOutcome (counted.Number m)) f ∙ ap (outcome [] []) (on-found p ws handsBack e)
-
--- The sheet check as a call.
-pub checked-reply : (p : ℕ) (ws : List ℕ) {r : Checked} → r ≡ checkedOf (check p ws) → checkedReply r ≡ checkCall p ws .reply
-unfolding checkCall onSheet outcome paddedAll result andThen
-checked-reply p ws e = ap checkedReply e ∙ go (check p ws)
-  where
-    go : (a : Answer semantics.Sheet)
-        → checkedReply (checkedOf a)
-        ≡ outcome [] [] (andThen a (λ (s : semantics.Sheet). result [] (
-        length (s .records) ∷ length (s .constraints) ∷ length (s .interactions) ∷ semantics.lengthOf s
-        ∷ (4 + 5 * length (s .records) + length (s .constraints)) ∷ []))) .reply
-    go (good s) = refl
-    go (refused n k) = refl

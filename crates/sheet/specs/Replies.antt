@@ -18,16 +18,6 @@ use Rattle.sheet.specs.declared.Written.the-variants as written
 abbrev pub refusedReply : Refusal → Reply
 refusedReply r = record { number = r .number; place = r .place; counts = []; numbers = [] }
 
--- The sheet check tells E, C, I, L and where the interactions start.
-abbrev pub checkedReply : Checked → Reply
-checkedReply (checked.Sheet h) = record {
-  number = 0;
-  place = 0;
-  counts = [];
-  numbers = h .records ∷ h .constraints ∷ h .interactions ∷ h .words ∷ h .start ∷ [];
-}
-checkedReply (checked.Refused r) = refusedReply r
-
 -- "Both hand back the number with 0."
 abbrev pub countedReply : Counted → Reply
 countedReply (counted.Number n) = record { number = 0; place = 0; counts = []; numbers = n ∷ [] }

@@ -9,7 +9,6 @@ ghost use Rattle.sheet.specs.Replies.{countedOutcome, writtenOutcome};
 
 mod blocks;
 mod calls;
-pub mod exports;
 mod scan;
 
 use scan::Scanned;

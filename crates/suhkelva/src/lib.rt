@@ -1,60 +1,62 @@
-// Every entry point of the C library: each is that of the crate it calls, under its contract. include/suhkelva.h tells C of them.
-use block::SuhkelvaBlock;
-use packed_var::SuhkelvaPacked;
-use packed_var::SuhkelvaRecord;
-use sheet::exports::SuhkelvaNumber;
-use sheet::exports::SuhkelvaSheet;
-use sheet::exports::SuhkelvaWritten;
+// Every entry point of the C library. include/suhkelva.h tells C of them.
 ghost use mathlib.Core.Path.{_≡_};
 ghost use mathlib.Core.List.{[]};
 ghost use lib.ListN.{length, getD};
 ghost use Rattle.semantics.specs.Arithmetic.{prime};
 ghost use Rattle.semantics.specs.Sheet.{recordOf};
 ghost use Rattle.semantics.specs.Call.{blockCheckCall, packCall, unpackCall, checkCall, maxRotationCall, numConstraintsCall, conversionCall, readerCall, writerCall};
-ghost use Rattle.packed_var.specs.Packed.{packedFields, recordFields};
-ghost use Rattle.block.specs.Checked.{blockFields};
-ghost use Rattle.sheet.specs.Fields.{sheetFields, numberFields, writtenFields};
+ghost use Rattle.suhkelva.specs.Fields.{packedFields, recordFields, blockFields, sheetFields, numberFields, writtenFields};
+
+pub mod fields;
+
+use fields::SuhkelvaBlock;
+use fields::SuhkelvaNumber;
+use fields::SuhkelvaPacked;
+use fields::SuhkelvaRecord;
+use fields::SuhkelvaSheet;
+use fields::SuhkelvaWritten;
+use packed_var::PackedVar;
 
 #[no_mangle]
 pub extern "C" fn suhkelva_pack(kind: u32, a: u32, b: u32, c: u32, d: u32) -> SuhkelvaPacked
     ensures { λ r. ⌜ r ≡ packedFields (packCall (recordOf kind a b c d) .reply) ⌝ }
 {
-    packed_var::suhkelva_pack(kind, a, b, c, d)
+    fields::packed_fields(packed_var::pack(kind, a, b, c, d))
 }
 
 #[no_mangle]
 pub extern "C" fn suhkelva_unpack(packed: u32) -> SuhkelvaRecord
     ensures { λ r. ⌜ r ≡ recordFields (unpackCall packed .reply) ⌝ }
 {
-    packed_var::suhkelva_unpack(packed)
+    fields::record_fields(packed_var::unpack(PackedVar(packed)))
 }
 
 #[no_mangle]
 pub extern "C" fn suhkelva_block_check(bytes: &[u8], number: u32) -> SuhkelvaBlock
     ensures { λ r. ⌜ r ≡ blockFields (blockCheckCall (now (bytes .entry)) number .reply) ⌝ }
 {
-    block::suhkelva_block_check(bytes, number)
+    fields::block_fields(block::block_check(bytes, number))
 }
 
 #[no_mangle]
 pub extern "C" fn suhkelva_check_sheet(s: &[u32]) -> SuhkelvaSheet
     ensures { λ r. ⌜ r ≡ sheetFields (checkCall prime (now (s .entry)) .reply) ⌝ }
 {
-    sheet::exports::suhkelva_check_sheet(s)
+    fields::sheet_fields(sheet::check_sheet(s))
 }
 
 #[no_mangle]
 pub extern "C" fn suhkelva_max_rotation(s: &[u32]) -> SuhkelvaNumber
     ensures { λ r. ⌜ r ≡ numberFields (maxRotationCall prime (now (s .entry)) .reply) ⌝ }
 {
-    sheet::exports::suhkelva_max_rotation(s)
+    fields::number_fields(sheet::max_rotation(s))
 }
 
 #[no_mangle]
 pub extern "C" fn suhkelva_num_constraints(s: &[u32]) -> SuhkelvaNumber
     ensures { λ r. ⌜ r ≡ numberFields (numConstraintsCall prime (now (s .entry)) .reply) ⌝ }
 {
-    sheet::exports::suhkelva_num_constraints(s)
+    fields::number_fields(sheet::num_constraints(s))
 }
 
 #[no_mangle]
@@ -62,7 +64,7 @@ pub extern "C" fn suhkelva_convert(s: &[u32], out: &mut [u32]) -> SuhkelvaWritte
     ensures reply { λ r. ⌜ r ≡ writtenFields (conversionCall prime (now (s .entry)) (length (now (out .entry))) .reply) ⌝ }
     ensures words { λ r. ⌜ now (out .exit) ≡ getD (conversionCall prime (now (s .entry)) (length (now (out .entry))) .slices) 0 [] ⌝ }
 {
-    sheet::exports::suhkelva_convert(s, out)
+    fields::written_fields(sheet::convert(s, out))
 }
 
 #[no_mangle]
@@ -70,7 +72,7 @@ pub extern "C" fn suhkelva_read_blocks(bytes: &[u8], out: &mut [u32]) -> Suhkelv
     ensures reply { λ r. ⌜ r ≡ writtenFields (readerCall (now (bytes .entry)) (length (now (out .entry))) .reply) ⌝ }
     ensures words { λ r. ⌜ now (out .exit) ≡ getD (readerCall (now (bytes .entry)) (length (now (out .entry))) .slices) 0 [] ⌝ }
 {
-    sheet::exports::suhkelva_read_blocks(bytes, out)
+    fields::written_fields(sheet::read_blocks(bytes, out))
 }
 
 #[no_mangle]
@@ -78,5 +80,5 @@ pub extern "C" fn suhkelva_write_blocks(s: &[u32], out: &mut [u8]) -> SuhkelvaWr
     ensures reply { λ r. ⌜ r ≡ writtenFields (writerCall prime (now (s .entry)) (length (now (out .entry))) .reply) ⌝ }
     ensures words { λ r. ⌜ now (out .exit) ≡ getD (writerCall prime (now (s .entry)) (length (now (out .entry))) .slices) 0 [] ⌝ }
 {
-    sheet::exports::suhkelva_write_blocks(s, out)
+    fields::written_fields(sheet::write_blocks(s, out))
 }

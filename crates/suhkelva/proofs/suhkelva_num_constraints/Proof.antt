@@ -1,0 +1,19 @@
+use mathlib.Core.Path.{ap, _∙_}
+use borrow.Author.Needs.{needs}
+use Rattle.suhkelva.specs.Fields.{numberFields}
+use Rattle.semantics.specs.Call.{Outcome}
+use Rattle.suhkelva.proofs.suhkelva_num_constraints.Statement.{statement}
+use Rattle.suhkelva.proofs.suhkelva_num_constraints.Tie as tie
+
+num-constraints-requires : tie.Need-num-constraints-requires
+num-constraints-requires c κs = search needs
+
+number-fields-requires : tie.Need-number-fields-requires
+number-fields-requires c κs = search needs
+
+returns : tie.Need-returns
+returns c = c .number-fields .ensures ∙ ap (λ (o : Outcome). numberFields (o .reply)) (c .before .num-constraints .ensures)
+
+pub suhkelva-num-constraints-spec : {M : Type 1} → statement M
+suhkelva-num-constraints-spec =
+    tie.close (tie.spec num-constraints-requires number-fields-requires returns)

@@ -1,0 +1,27 @@
+use mathlib.Core.Path.{ap, _∙_}
+use mathlib.Core.List.{[]}
+use borrow.Author.Needs.{needs}
+use lib.ListN.{getD}
+use Rattle.suhkelva.specs.Fields.{writtenFields}
+use Rattle.semantics.specs.Call.{Outcome}
+use Rattle.suhkelva.proofs.suhkelva_read_blocks.Statement.{statement}
+use Rattle.suhkelva.proofs.suhkelva_read_blocks.Tie as tie
+
+read-blocks-requires : tie.Need-read-blocks-requires
+read-blocks-requires c κs = search needs
+
+written-fields-requires : tie.Need-written-fields-requires
+written-fields-requires c κs = search needs
+
+same-length : tie.Need-same-length
+same-length c = search needs
+
+returns : tie.Need-returns
+returns c = (
+  c .written-fields .ensures ∙ ap (λ (o : Outcome). writtenFields (o .reply)) (c .before .before .before .read-blocks .ensures),
+  ap (λ (o : Outcome). getD (o .slices) 0 []) (c .before .before .before .read-blocks .ensures),
+)
+
+pub suhkelva-read-blocks-spec : {M : Type 1} → statement M
+suhkelva-read-blocks-spec =
+    tie.close (tie.spec read-blocks-requires written-fields-requires same-length returns)

@@ -1,0 +1,18 @@
+use mathlib.Core.Path.{ap, _∙_}
+use borrow.Author.Needs.{needs}
+use Rattle.suhkelva.specs.Fields.{recordFields}
+use Rattle.suhkelva.proofs.Laws.{unpack-reply}
+use Rattle.suhkelva.proofs.suhkelva_unpack.Statement.{statement}
+use Rattle.suhkelva.proofs.suhkelva_unpack.Tie as tie
+
+unpack-requires : tie.Need-unpack-requires
+unpack-requires c κs = search needs
+
+record-fields-requires : tie.Need-record-fields-requires
+record-fields-requires c κs = search needs
+
+returns : tie.Need-returns
+returns c = c .record-fields .ensures ∙ ap recordFields (unpack-reply _ (c .before .unpack .result) (c .before .unpack .ensures))
+
+pub suhkelva-unpack-spec : {M : Type 1} → statement M
+suhkelva-unpack-spec = tie.close (tie.spec unpack-requires record-fields-requires returns)
