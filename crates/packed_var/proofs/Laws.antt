@@ -1,4 +1,4 @@
--- Laws of entries, of the words of a leaf, and of packing. Assumes nothing.
+-- Laws of the words of a leaf, and of packing. Assumes nothing.
 use mathlib.Core.Path.{_≡_, refl, sym, ap, _∙_}
 use mathlib.Core.Bool.{Bool, true, false, cond, _&&_, _||_}
 use mathlib.Core.List.{[], _∷_}
@@ -11,9 +11,8 @@ use Rattle.semantics.specs.Sheet as sheet
 use Rattle.semantics.specs.Sheet.{recordOf, recordWords, table, row, fits}
 use Rattle.semantics.specs.Check.{Scan, reading, stopped, scanWords, judged}
 use Rattle.semantics.specs.Packing.{packed, packFault, leafTests, packRecord, pack, unpacked, handsOut, unpack}
-use Rattle.packed_var.specs.declared.symbolic_variable.Entry.{Entry}
-use Rattle.packed_var.specs.declared.symbolic_variable.Entry.the-variants.{Preprocessed, Main, Public, Challenge}
-use Rattle.packed_var.specs.declared.symbolic_variable.Sum.{Sum}
+use Rattle.symbolic_variable.specs.declared.Entry.{Entry}
+use Rattle.symbolic_variable.specs.declared.Entry.the-variants.{Preprocessed, Main, Public, Challenge}
 use Rattle.packed_var.specs.declared.leaf.Leaf.{Leaf}
 use Rattle.packed_var.specs.declared.leaf.Leaf.the-variants.{Variable, IsFirstRow, IsLastRow, IsTransition}
 use Rattle.packed_var.specs.declared.leaf.LeafRead.{LeafRead}
@@ -23,12 +22,7 @@ use Rattle.packed_var.specs.declared.Packed.{Packed}
 use Rattle.packed_var.specs.declared.Packed.the-variants as packed′
 use Rattle.packed_var.specs.declared.Unpacked.{Unpacked}
 use Rattle.packed_var.specs.declared.Unpacked.the-variants as unpacked′
-use Rattle.packed_var.specs.Variable.{entryAt, entryRotated}
 use Rattle.packed_var.specs.Packed.{entryRecord, leafRecord, leafChecked, leafAnswer, refusalOf, packedAnswer, unpackedAnswer}
-
--- an entry with an offset, turned to a sum s that is known
-pub turned : (make : ℕ → Entry) (e : Entry) (k : ℕ) {s t u : Sum} → t ≡ s → t ≡ u → entryRotated e k ≡ entryAt make u → entryAt make s ≡ entryRotated e k
-turned make e k p q h = ap (entryAt make) (sym p ∙ q) ∙ sym h
 
 -- ---- the words of a leaf
 -- where the tests of a, b, c and d stop

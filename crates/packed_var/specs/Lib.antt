@@ -1,2 +1,1 @@
-pub mod Variable
 pub mod Packed

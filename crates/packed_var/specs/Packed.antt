@@ -5,9 +5,9 @@ use Rattle.semantics.specs.Sheet as sheet
 use Rattle.semantics.specs.Sheet.{recordOf, recordWords}
 use Rattle.semantics.specs.Check.{reading, scanWords, judged}
 use Rattle.semantics.specs.Packing.{leafTests}
-use Rattle.packed_var.specs.declared.symbolic_variable.Entry.{Entry}
-use Rattle.packed_var.specs.declared.symbolic_variable.Entry.the-variants.{Preprocessed, Main, Public, Challenge}
-use Rattle.packed_var.specs.declared.symbolic_variable.SymbolicVariable.{SymbolicVariable}
+use Rattle.symbolic_variable.specs.declared.Entry.{Entry}
+use Rattle.symbolic_variable.specs.declared.Entry.the-variants.{Preprocessed, Main, Public, Challenge}
+use Rattle.symbolic_variable.specs.declared.SymbolicVariable.{SymbolicVariable}
 use Rattle.packed_var.specs.declared.leaf.Leaf.{Leaf}
 use Rattle.packed_var.specs.declared.leaf.Leaf.the-variants.{Variable, IsFirstRow, IsLastRow, IsTransition}
 use Rattle.packed_var.specs.declared.leaf.LeafRead.{LeafRead}
@@ -18,7 +18,7 @@ use Rattle.packed_var.specs.declared.Packed.the-variants as packed
 use Rattle.packed_var.specs.declared.Record.{Record}
 use Rattle.packed_var.specs.declared.Unpacked.{Unpacked}
 use Rattle.packed_var.specs.declared.Unpacked.the-variants as unpacked
-use Rattle.packed_var.specs.Variable.{variableOf}
+use Rattle.symbolic_variable.specs.Variable.{variableOf}
 
 -- "a entry (0 preprocessed, 1 main, 2 challenge, 3 public), b part (0 unless main), c offset (0 for 2 and 3), d column"
 abbrev pub entryRecord : Entry → (column : ℕ) → sheet.Record

@@ -1,7 +1,7 @@
 // The leaf that a record's five words say: a variable or a row mark.
 use crate::Refusal;
-use crate::symbolic_variable::Entry;
-use crate::symbolic_variable::SymbolicVariable;
+use symbolic_variable::Entry;
+use symbolic_variable::SymbolicVariable;
 ghost use mathlib.Core.Path.{_≡_};
 ghost use Prim.Native.Nat.{_≤_};
 ghost use Rattle.semantics.specs.Sheet.{recordOf};

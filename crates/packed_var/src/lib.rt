@@ -10,7 +10,6 @@ ghost use Rattle.semantics.specs.Packing.{pack, unpack, unpacked, packRecord};
 ghost use Rattle.packed_var.specs.Packed.{variableRecord, refusedWith, packedAnswer, wordsRecord, unpackedAnswer};
 
 pub mod leaf;
-pub mod symbolic_variable;
 
 // A number with its own type: bits 0 to 3 type, 4 to 11 part, 12 to 15 offset, 16 to 31 column.
 pub struct PackedVar(pub u32);

@@ -1,22 +1,20 @@
--- What the answer of the check tells a caller, and the outcomes that follow.
+-- What the answer of the check tells a caller.
 use mathlib.Core.Path.{_≡_, refl, sym, _∙_, ap}
-use mathlib.Core.List.{List, [], _∷_}
-use Prim.Native.Nat.{ℕ, _+_, _*_, _≤_}
+use mathlib.Core.List.{List}
+use Prim.Native.Nat.{ℕ, _≤_}
 use native.Mathlib.Omega.{arith}
 use lib.ListN.{length, take}
 use lib.Seq.{take-at}
 use Rattle.semantics.specs.Answer.{Answer, good, refused, andThen}
 use Rattle.semantics.specs.Sheet as semantics
 use Rattle.semantics.specs.Check.{check}
-use Rattle.semantics.specs.Call.{Result, outcome, paddedAll, result, onSheet}
+use Rattle.semantics.specs.Call.{Result, onSheet}
 use Rattle.semantics.proofs.Encoding.{check-sound, check-inside, length-limit}
 use Rattle.sheet.specs.declared.Refusal.{Refusal}
 use Rattle.sheet.specs.declared.Head.{Head}
 use Rattle.sheet.specs.declared.Checked.{Checked}
 use Rattle.sheet.specs.declared.Checked.the-variants.{Sheet, Refused}
-use Rattle.sheet.specs.declared.Counted.the-variants as counted
 use Rattle.sheet.specs.Scans.{headOf, checkedOf}
-use Rattle.sheet.specs.Replies.{refusalOf, countedOutcome}
 
 -- A sheet was found, or the check refused.
 pub found : (a : Answer semantics.Sheet) {r : Checked} {h : Head} → r ≡ checkedOf a → r ≡ Sheet h → (t : semantics.Sheet) × (a ≡ good t) × (h ≡ headOf t)
@@ -53,18 +51,3 @@ module _ (p : ℕ) (ws : List ℕ) (rest : semantics.Sheet → Answer Result) wh
   pub on-refused : {r : Checked} {v : Refusal} → r ≡ checkedOf (check p ws) → r ≡ Refused v → refused (v .number) (v .place) ≡ onSheet p ws rest
   unfolding onSheet andThen
   on-refused e q = ap (λ (a : Answer semantics.Sheet). andThen a rest) (not-found (check p ws) e q)
-
--- A call that hands back a number of the sheet.
-module _ (p : ℕ) (ws : List ℕ) (number : semantics.Sheet → ℕ) where
-  abbrev handsBack : semantics.Sheet → Answer Result
-  handsBack t = result [] (number t ∷ [])
-
-  pub counted-refused : {r : Checked} {v u : Refusal} → r ≡ checkedOf (check p ws) → r ≡ Refused v → u ≡ refusalOf r
-      → countedOutcome (counted.Refused u) ≡ outcome [] [] (onSheet p ws handsBack)
-  unfolding outcome
-  counted-refused e q f =
-      ap (λ (x : Refusal). countedOutcome (counted.Refused x)) (f ∙ ap refusalOf q) ∙ ap (outcome [] []) (on-refused p ws handsBack e q)
-
-  pub counted-found : {t : semantics.Sheet} {n : ℕ} → check p ws ≡ good t → n ≡ number t → countedOutcome (counted.Number n) ≡ outcome [] [] (onSheet p ws handsBack)
-  unfolding outcome paddedAll result
-  counted-found e f = ap (λ (m : ℕ). countedOutcome (counted.Number m)) f ∙ ap (outcome [] []) (on-found p ws handsBack e)

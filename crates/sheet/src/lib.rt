@@ -1,14 +1,10 @@
-// Sheets: the check, the calls that only read or copy a sheet, and blocks.
+// Sheets: the check, and the answers that every call on a sheet shares.
 ghost use mathlib.Core.Path.{_≡_};
-ghost use lib.ListN.{length};
 ghost use Rattle.semantics.specs.Arithmetic.{prime};
 ghost use Rattle.semantics.specs.Check.{check};
-ghost use Rattle.semantics.specs.Call.{maxRotationCall, numConstraintsCall, conversionCall, readerCall, writerCall};
 ghost use Rattle.sheet.specs.Scans.{checkedOf};
-ghost use Rattle.sheet.specs.Replies.{countedOutcome, writtenOutcome};
+ghost use Rattle.sheet.specs.Replies.{refusalOf, countOf};
 
-mod blocks;
-mod calls;
 mod scan;
 
 use scan::Scanned;
@@ -30,12 +26,6 @@ pub struct Head {
 
 pub enum Checked {
     Sheet(Head),
-    Refused(Refusal),
-}
-
-// The number that a call hands back.
-pub enum Counted {
-    Number(usize),
     Refused(Refusal),
 }
 
@@ -81,51 +71,25 @@ pub fn check_sheet(s: &[u32]) -> Checked
     })
 }
 
-// The largest offset over all variables, used or unused.
-pub fn max_rotation(s: &[u32]) -> Counted
-    ensures { λ r. ⌜ countedOutcome r ≡ maxRotationCall prime (now (s .entry)) ⌝ }
+// The refusal of a sheet that was refused.
+pub fn refusal_of(checked: Checked) -> Refusal
+    ensures { λ r. ⌜ r ≡ refusalOf checked ⌝ }
 {
-    let checked = check_sheet(s);
-    let Checked::Sheet(head) = checked else {
-        return Counted::Refused(calls::refusal_of(checked));
-    };
-    Counted::Number(calls::largest_offset(s, head.records))
+    match checked {
+        Checked::Refused(r) => r,
+        Checked::Sheet(_) => Refusal {
+            number: 0,
+            place: 0,
+        },
+    }
 }
 
-// How many constraints the sheet has.
-pub fn num_constraints(s: &[u32]) -> Counted
-    ensures { λ r. ⌜ countedOutcome r ≡ numConstraintsCall prime (now (s .entry)) ⌝ }
+// How much was written: nothing after a refusal.
+pub fn count_of(written: Written) -> usize
+    ensures { λ r. ⌜ r ≡ countOf written ⌝ }
 {
-    let checked = check_sheet(s);
-    let Checked::Sheet(head) = checked else {
-        return Counted::Refused(calls::refusal_of(checked));
-    };
-    Counted::Number(head.constraints)
-}
-
-// The words of the sheet, without the spare ones.
-pub fn convert(s: &[u32], out: &mut [u32]) -> Written
-    ensures { λ r. ⌜ writtenOutcome r (now (out .exit)) ≡ conversionCall prime (now (s .entry)) (length (now (out .entry))) ⌝ }
-{
-    let copied = calls::copy_sheet(s, out);
-    slices::zero_from(out, calls::count_of(copied));
-    copied
-}
-
-// The words of blocks.
-pub fn read_blocks(bytes: &[u8], out: &mut [u32]) -> Written
-    ensures { λ r. ⌜ writtenOutcome r (now (out .exit)) ≡ readerCall (now (bytes .entry)) (length (now (out .entry))) ⌝ }
-{
-    let read = blocks::read_all(bytes, out);
-    slices::zero_from(out, calls::count_of(read));
-    read
-}
-
-// The sheet in blocks: its words, zero fill and the check words.
-pub fn write_blocks(s: &[u32], out: &mut [u8]) -> Written
-    ensures { λ r. ⌜ writtenOutcome r (now (out .exit)) ≡ writerCall prime (now (s .entry)) (length (now (out .entry))) ⌝ }
-{
-    let written = blocks::write_all(s, out);
-    slices::zero_bytes_from(out, calls::count_of(written));
-    written
+    match written {
+        Written::Words(n) => n,
+        Written::Refused(_) => 0,
+    }
 }

@@ -7,6 +7,10 @@ use native.Mathlib.Omega.{arith}
 use lib.ListN.{length, getD, take, drop, replicate, set, length-set, replicate-append-replicate, take-append-drop, drop-of-length-le}
 use lib.Seq.{take-suc-set, take-suc, take-all, take-at, drop-set-lt, drop-drop}
 
+-- One more element at the end of what is written.
+pub put-next : (o : List ℕ) (k j x : ℕ) {front : List ℕ} → j ≡ k + 1 → k < length o → take k o ≡ front → take j (set o k x) ≡ front ++ (x ∷ [])
+put-next o k j x e h f = ap (λ (m : ℕ). take m (set o k x)) (e ∙ add-one k) ∙ take-suc-set o k x h ∙ ap (λ (l : List ℕ). l ++ (x ∷ [])) f
+
 -- What is done at i: the first k words, then zeros.
 abbrev pub Zeroed : (s s₀ : List ℕ) (k i : ℕ) → Type 0
 Zeroed s s₀ k i = (k ≤ i) × (i - k ≤ length s₀ - k) × (length s ≡ length s₀) × (take i s ≡ take k s₀ ++ replicate (i - k) 0)

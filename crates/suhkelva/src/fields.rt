@@ -1,14 +1,15 @@
 // A reply for C: its number, its place, and its counts or numbers, 0 where it has none.
 ghost use mathlib.Core.Path.{_≡_};
-ghost use Rattle.sheet.specs.Replies.{countedReply, writtenReply};
+ghost use Rattle.sheet.specs.Replies.{writtenReply};
+ghost use Rattle.sheet_calls.specs.Replies.{countedReply};
 ghost use Rattle.suhkelva.specs.Replies.{packedReply, unpackedReply, blockReply, checkedReply};
 ghost use Rattle.suhkelva.specs.Fields.{packedFields, recordFields, blockFields, sheetFields, numberFields, writtenFields};
 use block::BlockChecked;
 use packed_var::Packed;
 use packed_var::Unpacked;
 use sheet::Checked;
-use sheet::Counted;
 use sheet::Written;
+use sheet_calls::Counted;
 
 #[repr(C)]
 pub struct SuhkelvaPacked {

@@ -49,14 +49,14 @@ pub extern "C" fn suhkelva_check_sheet(s: &[u32]) -> SuhkelvaSheet
 pub extern "C" fn suhkelva_max_rotation(s: &[u32]) -> SuhkelvaNumber
     ensures { λ r. ⌜ r ≡ numberFields (maxRotationCall prime (now (s .entry)) .reply) ⌝ }
 {
-    fields::number_fields(sheet::max_rotation(s))
+    fields::number_fields(sheet_calls::max_rotation(s))
 }
 
 #[no_mangle]
 pub extern "C" fn suhkelva_num_constraints(s: &[u32]) -> SuhkelvaNumber
     ensures { λ r. ⌜ r ≡ numberFields (numConstraintsCall prime (now (s .entry)) .reply) ⌝ }
 {
-    fields::number_fields(sheet::num_constraints(s))
+    fields::number_fields(sheet_calls::num_constraints(s))
 }
 
 #[no_mangle]
@@ -64,7 +64,7 @@ pub extern "C" fn suhkelva_convert(s: &[u32], out: &mut [u32]) -> SuhkelvaWritte
     ensures reply { λ r. ⌜ r ≡ writtenFields (conversionCall prime (now (s .entry)) (length (now (out .entry))) .reply) ⌝ }
     ensures words { λ r. ⌜ now (out .exit) ≡ getD (conversionCall prime (now (s .entry)) (length (now (out .entry))) .slices) 0 [] ⌝ }
 {
-    fields::written_fields(sheet::convert(s, out))
+    fields::written_fields(sheet_calls::convert(s, out))
 }
 
 #[no_mangle]
@@ -72,7 +72,7 @@ pub extern "C" fn suhkelva_read_blocks(bytes: &[u8], out: &mut [u32]) -> Suhkelv
     ensures reply { λ r. ⌜ r ≡ writtenFields (readerCall (now (bytes .entry)) (length (now (out .entry))) .reply) ⌝ }
     ensures words { λ r. ⌜ now (out .exit) ≡ getD (readerCall (now (bytes .entry)) (length (now (out .entry))) .slices) 0 [] ⌝ }
 {
-    fields::written_fields(sheet::read_blocks(bytes, out))
+    fields::written_fields(block_reader::read_blocks(bytes, out))
 }
 
 #[no_mangle]
@@ -80,5 +80,5 @@ pub extern "C" fn suhkelva_write_blocks(s: &[u32], out: &mut [u8]) -> SuhkelvaWr
     ensures reply { λ r. ⌜ r ≡ writtenFields (writerCall prime (now (s .entry)) (length (now (out .entry))) .reply) ⌝ }
     ensures words { λ r. ⌜ now (out .exit) ≡ getD (writerCall prime (now (s .entry)) (length (now (out .entry))) .slices) 0 [] ⌝ }
 {
-    fields::written_fields(sheet::write_blocks(s, out))
+    fields::written_fields(block_writer::write_blocks(s, out))
 }

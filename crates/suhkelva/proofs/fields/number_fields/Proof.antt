@@ -1,8 +1,8 @@
 use mathlib.Core.Path.{sym, ap}
 use borrow.Author.Needs.{needs}
-use Rattle.sheet.specs.Replies.{countedReply}
+use Rattle.sheet_calls.specs.Replies.{countedReply}
 use Rattle.suhkelva.specs.Fields.{numberFields}
-use Rattle.sheet.specs.declared.Counted.{Counted}
+use Rattle.sheet_calls.specs.declared.Counted.{Counted}
 use Rattle.suhkelva.proofs.fields.number_fields.Statement.{statement}
 use Rattle.suhkelva.proofs.fields.number_fields.Tie as tie
 

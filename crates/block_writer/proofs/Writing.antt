@@ -1,0 +1,168 @@
+-- Laws of writing blocks: a word, the words of a block, a block, and block by block.
+use mathlib.Core.Path.{_≡_, refl, sym, _∙_, ap, subst}
+use mathlib.Core.List.{List, [], _∷_, _++_, flatMap, append-assoc, append-nil}
+use Prim.Native.Nat.{ℕ, suc, _+_, _*_, _-_, _/_, _≤_, _<_}
+use native.Mathlib.Omega.{arith}
+use native.Mathlib.Nat.{add-zero, sub-zero}
+use native.Mathlib.Numerals.{add-one}
+use lib.ListN.{length, getD, take, drop, replicate, set, length-set, take-append-drop}
+use lib.Seq.{drop-drop, drop-at, getD-drop, length-take-le}
+use Rattle.semantics.specs.Answer.{good}
+use Rattle.semantics.specs.Sheet.{Sheet, encode, lengthOf}
+use Rattle.semantics.specs.Check.{check}
+use Rattle.semantics.specs.Block.{wordBytes, wordsOf, checkWord, firstWords, blockBytes, writeBlocks, blocksFor}
+use Rattle.semantics.proofs.Blocks.{Words, words-back, first-length, first-add, written-length}
+use Rattle.sheet.specs.declared.Head.{Head}
+use Rattle.sheet.specs.Scans.{headOf}
+use Rattle.sheet.proofs.Answers.{words-found}
+use Rattle.slices.proofs.Laws.{put-next}
+
+-- Four bytes, one behind the other.
+pub word-put : (w : ℕ) (o bs : List ℕ) (at : ℕ) → at + 4 ≤ length o → bs ≡ wordBytes w
+    → take (at + 4) (set (set (set (set o at (getD bs 0 0)) (at + 1) (getD bs 1 0)) (at + 2) (getD bs 2 0)) (at + 3) (getD bs 3 0)) ≡ take at o ++ wordBytes w
+unfolding wordBytes
+word-put w o bs at h e =
+    let o₁ : List ℕ = set o at (getD bs 0 0) in
+    let o₂ : List ℕ = set o₁ (at + 1) (getD bs 1 0) in
+    let o₃ : List ℕ = set o₂ (at + 2) (getD bs 2 0) in
+    let l₁ : length o₁ ≡ length o = length-set o at _ in
+    let l₂ : length o₂ ≡ length o₁ = length-set o₁ (at + 1) _ in
+    let l₃ : length o₃ ≡ length o₂ = length-set o₂ (at + 2) _ in
+    put-next o₃ (at + 3) (at + 4) _ (omega arith) (omega arith)
+    (put-next o₂ (at + 2) (at + 3) _ (omega arith) (omega arith)
+    (put-next o₁ (at + 1) (at + 2) _ (omega arith) (omega arith)
+    (put-next o at (at + 1) _ refl (omega arith) refl)))
+    ∙ ap (λ (b : List ℕ). (((take at o ++ (getD b 0 0 ∷ [])) ++ (getD b 1 0 ∷ [])) ++ (getD b 2 0 ∷ [])) ++ (getD b 3 0 ∷ [])) e
+    ∙ simp append-assoc
+
+flat-append : (f : ℕ → List ℕ) (us vs : List ℕ) → flatMap f (us ++ vs) ≡ flatMap f us ++ flatMap f vs
+unfolding flatMap
+flat-append f [] vs = refl
+flat-append f (u ∷ us) vs = ap (λ (l : List ℕ). f u ++ l) (flat-append f us vs) ∙ sym (append-assoc (f u) (flatMap f us) (flatMap f vs))
+
+words-append : (us vs : List ℕ) → Words us → Words vs → Words (us ++ vs)
+words-append [] vs h k = k
+words-append (u ∷ us) vs h k = (h .0, words-append us vs (h .1) k)
+
+first-one : (ws : List ℕ) → firstWords 1 ws ≡ getD ws 0 0 ∷ []
+unfolding firstWords
+first-one [] = refl
+first-one (w ∷ ws) = let z : 1 - suc (length ws) ≡ 0 = omega arith in ap (λ (m : ℕ). w ∷ replicate m 0) z
+
+first-snoc : (n : ℕ) (ws : List ℕ) → firstWords (n + 1) ws ≡ firstWords n ws ++ (getD ws n 0 ∷ [])
+first-snoc n ws =
+    first-add n 1 ws ∙ ap (λ (l : List ℕ). firstWords n ws ++ l)
+    (first-one (drop n ws) ∙ ap (λ (x : ℕ). x ∷ []) (getD-drop n ws 0 0 ∙ ap (λ (k : ℕ). getD ws k 0) (add-zero n)))
+
+-- The words from `from` on, of which i are written from `at` on.
+abbrev pub WordsPut : (ws o o₀ : List ℕ) (from at i : ℕ) → Type 0
+WordsPut ws o o₀ from at i =
+    (i ≤ 127) × (length o ≡ length o₀)
+    × (take (at + 4 * i) o ≡ take at o₀ ++ flatMap wordBytes (firstWords i (drop from ws))) × Words (firstWords i (drop from ws))
+
+module _ (ws o o₀ : List ℕ) (from at : ℕ) where
+  pub put-none : WordsPut ws o o from at 0
+  unfolding firstWords flatMap
+  put-none =
+      let m : 0 - length (drop from ws) ≡ 0 = omega arith in
+      let z : firstWords 0 (drop from ws) ≡ [] = ap (λ (k : ℕ). replicate k 0) m in (
+        omega arith,
+        refl,
+        ap (λ (k : ℕ). take k o) (add-zero at) ∙ sym (append-nil (take at o)) ∙ ap (λ (u : List ℕ). take at o ++ flatMap wordBytes u) (sym z),
+        subst Words (sym z) tt,
+      )
+
+  pub put-more : (i : ℕ) (o′ : List ℕ) {w : ℕ} → i < 127 → w ≡ getD ws (from + i) 0 → w < 4294967296 → length o′ ≡ length o
+      → take (at + 4 * i + 4) o′ ≡ take (at + 4 * i) o ++ wordBytes w → WordsPut ws o o₀ from at i → WordsPut ws o′ o₀ from at (i + 1)
+  unfolding flatMap
+  put-more i o′ {w} h e b l f r =
+      let us : List ℕ = firstWords i (drop from ws) in
+      let j : at + 4 * (i + 1) ≡ at + 4 * i + 4 = omega arith in
+      let s : firstWords (i + 1) (drop from ws) ≡ us ++ (w ∷ []) =
+      first-snoc i (drop from ws) ∙ ap (λ (x : ℕ). us ++ (x ∷ [])) (getD-drop from ws i 0 ∙ sym e) in (
+        omega arith,
+        l ∙ r .1,
+        ap (λ (m : ℕ). take m o′) j ∙ f ∙ ap (λ (u : List ℕ). u ++ wordBytes w) (r .2)
+            ∙ append-assoc (take at o₀) (flatMap wordBytes us) (wordBytes w)
+            ∙ ap (λ (u : List ℕ). take at o₀ ++ (flatMap wordBytes us ++ u)) (sym (append-nil (wordBytes w)))
+            ∙ ap (λ (u : List ℕ). take at o₀ ++ u) (sym (flat-append wordBytes us (w ∷ [])) ∙ ap (flatMap wordBytes) (sym s)),
+        subst Words (sym s) (words-append us (w ∷ []) (r .3) (b, tt)),
+      )
+
+  -- All are written, and read back they are the same.
+  pub put-all : (i : ℕ) → 127 ≤ i → at + 508 ≤ length o₀ → WordsPut ws o o₀ from at i
+      → (take (at + 508) o ≡ take at o₀ ++ flatMap wordBytes (firstWords 127 (drop from ws))) × (wordsOf 127 (drop at o) ≡ firstWords 127 (drop from ws))
+  put-all i h l r =
+      let e : i ≡ 127 = omega arith in
+      let us : List ℕ = firstWords 127 (drop from ws) in
+      let f : take (at + 508) o ≡ take at o₀ ++ flatMap wordBytes us = rw e at (r .2) in
+      let w : Words us = rw e at (r .3) in
+      let D : List ℕ = drop (at + 508) o in
+      let d : drop at o ≡ flatMap wordBytes us ++ D =
+      ap (drop at) (sym (take-append-drop (at + 508) o) ∙ ap (λ (u : List ℕ). u ++ D) f ∙ append-assoc (take at o₀) (flatMap wordBytes us) D)
+      ∙ drop-at (take at o₀) (flatMap wordBytes us ++ D) at (length-take-le at o₀ (omega arith)) in
+      (f, ap (wordsOf 127) d ∙ ap (λ (n : ℕ). wordsOf n (flatMap wordBytes us ++ D)) (sym (first-length 127 (drop from ws))) ∙ words-back us D w)
+
+-- The words of a block and its check word.
+module _ (ws o o₁ o₂ : List ℕ) (at number : ℕ) where
+  pub block-put : {check : ℕ} → take (at + 508) o₁ ≡ take at o ++ flatMap wordBytes ws → wordsOf 127 (drop at o₁) ≡ ws
+      → check ≡ checkWord number (wordsOf 127 (drop at o₁)) → take (at + 508 + 4) o₂ ≡ take (at + 508) o₁ ++ wordBytes check
+      → take (at + 512) o₂ ≡ take at o ++ blockBytes number ws
+  unfolding blockBytes
+  block-put f b e g =
+      let j : at + 512 ≡ at + 508 + 4 = omega arith in
+      ap (λ (m : ℕ). take m o₂) j ∙ g ∙ (λ i. f i ++ wordBytes ((e ∙ ap (checkWord number) b) i)) ∙ append-assoc (take at o) (flatMap wordBytes ws) _
+
+-- n blocks, of which k are written.
+abbrev pub BlocksPut : (ws o o₀ : List ℕ) (n k : ℕ) → Type 0
+BlocksPut ws o o₀ n k = (k ≤ n) × (length o ≡ length o₀) × (take (512 * k) o ++ writeBlocks (n - k) k (drop (127 * k) ws) ≡ writeBlocks n 0 ws)
+
+module _ (ws o o₀ : List ℕ) (n : ℕ) where
+  pub none-put : BlocksPut ws o o n 0
+  none-put = (omega arith, refl, ap (λ (m : ℕ). writeBlocks m 0 ws) (sub-zero n))
+
+  pub one-put : (k : ℕ) (o′ : List ℕ) → k < n → length o′ ≡ length o
+      → take (512 * k + 512) o′ ≡ take (512 * k) o ++ blockBytes (k + 1) (firstWords 127 (drop (127 * k) ws)) → BlocksPut ws o o₀ n k → BlocksPut ws o′ o₀ n (k + 1)
+  unfolding writeBlocks
+  one-put k o′ h l f r =
+      let us : List ℕ = drop (127 * k) ws in
+      let left : n - k ≡ suc (n - (k + 1)) = omega arith in
+      let i : 127 * (k + 1) ≡ 127 * k + 127 = omega arith in
+      let j : 512 * (k + 1) ≡ 512 * k + 512 = omega arith in
+      let d : drop (127 * (k + 1)) ws ≡ drop 127 us = ap (λ (m : ℕ). drop m ws) i ∙ sym (drop-drop 127 (127 * k) ws) in (
+        omega arith,
+        l ∙ r .1,
+        ap (λ (u : List ℕ). u ++ writeBlocks (n - (k + 1)) (k + 1) (drop (127 * (k + 1)) ws)) (ap (λ (m : ℕ). take m o′) j ∙ f)
+            ∙ append-assoc (take (512 * k) o) _ _
+            ∙ (λ x. take (512 * k) o ++ (blockBytes (add-one k x) (firstWords 127 us) ++ writeBlocks (n - (k + 1)) (add-one k x) (d x)))
+            ∙ ap (λ (m : ℕ). take (512 * k) o ++ writeBlocks m k us) (sym left) ∙ r .2,
+      )
+
+  pub all-put : (k : ℕ) → n ≤ k → BlocksPut ws o o₀ n k → take (512 * n) o ≡ writeBlocks n 0 ws
+  unfolding writeBlocks
+  all-put k h r =
+      let e : k ≡ n = omega arith in
+      let z : n - k ≡ 0 = omega arith in
+      ap (λ (m : ℕ). take (512 * m) o) (sym e) ∙ sym (append-nil (take (512 * k) o))
+      ∙ ap (λ (m : ℕ). take (512 * k) o ++ writeBlocks m k (drop (127 * k) ws)) (sym z) ∙ r .2
+
+-- The blocks of a sheet that was found.
+abbrev pub sheetBytes : Sheet → ℕ
+sheetBytes t = 512 * blocksFor (lengthOf t)
+
+abbrev pub sheetBlocks : Sheet → List ℕ
+sheetBlocks t = writeBlocks (blocksFor (lengthOf t)) 0 (encode t)
+
+module _ (p : ℕ) (ws : List ℕ) {t : Sheet} (e : check p ws ≡ good t) {h : Head} (q : h ≡ headOf t) where
+  blocks-are : (h .words + 126) / 127 ≡ blocksFor (lengthOf t)
+  unfolding blocksFor
+  blocks-are = ap (λ (k : Head). (k .words + 126) / 127) q
+
+  pub bytes-are : 512 * ((h .words + 126) / 127) ≡ sheetBytes t
+  bytes-are = ap (λ (n : ℕ). 512 * n) blocks-are
+
+  pub made-are : writeBlocks ((h .words + 126) / 127) 0 (take (h .words) ws) ≡ sheetBlocks t
+  made-are = λ i. writeBlocks (blocks-are i) 0 (words-found p ws e q i)
+
+  pub made-length : 512 * ((h .words + 126) / 127) ≡ length (sheetBlocks t)
+  made-length = bytes-are ∙ sym (written-length (blocksFor (lengthOf t)) 0 (encode t))

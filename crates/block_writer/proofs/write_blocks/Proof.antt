@@ -1,0 +1,28 @@
+use mathlib.Core.Path.{_∙_}
+use borrow.Author.Needs.{needs}
+use Rattle.semantics.specs.Call.{result}
+use Rattle.sheet.proofs.Outcomes.{finish}
+use Rattle.block_writer.proofs.write_blocks.Statement.{statement}
+use Rattle.block_writer.proofs.write_blocks.Tie as tie
+
+write-all-requires : tie.Need-write-all-requires
+write-all-requires c κs = search needs
+
+count-of-requires : tie.Need-count-of-requires
+count-of-requires c κs = search needs
+
+zero-bytes-from-requires : tie.Need-zero-bytes-from-requires
+zero-bytes-from-requires c κs = search needs
+
+same-length : tie.Need-same-length
+same-length c = search needs
+
+returns : tie.Need-returns
+returns c =
+    let write = c .before .before .before .before .before .before .before .write-all in
+    finish (write .result) (write .last .1 .0) (c .before .before .before .count-of .ensures) (c .before .before .zero-bytes-from .ensures) ∙ write .ensures
+
+pub write-blocks-spec : {M : Type 1} → statement M
+write-blocks-spec =
+    tie.close
+    (tie.spec write-all-requires count-of-requires zero-bytes-from-requires same-length returns)

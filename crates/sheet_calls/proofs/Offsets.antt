@@ -1,0 +1,61 @@
+-- Laws of the largest offset, taken record by record.
+use mathlib.Core.Path.{_≡_, _∙_, ap}
+use mathlib.Core.Bool.{cond}
+use mathlib.Core.List.{List}
+use Prim.Native.Nat.{ℕ, suc, _+_, _*_, _-_, _≤_, _<_, max}
+use native.Mathlib.Omega.{arith}
+use native.Mathlib.Nat.{add-zero, sub-zero}
+use lib.Dec.{eqb}
+use lib.ListN.{length, getD, drop}
+use lib.Seq.{getD-drop, drop-drop}
+use Rattle.semantics.specs.Answer.{good}
+use Rattle.semantics.specs.Sheet.{Sheet, headWords, lengthOf}
+use Rattle.semantics.specs.Check.{readRecord, readRecords, check}
+use Rattle.semantics.specs.Graph.{rotation, maxRotation}
+use Rattle.semantics.proofs.Encoding.{records-back, sheet-length}
+use Rattle.semantics.proofs.Access.{words-are, words-long}
+use Rattle.sheet.specs.declared.Head.{Head}
+use Rattle.sheet.specs.Scans.{headOf}
+use Rattle.sheet_calls.specs.Replies.{largest}
+
+-- The largest offset of the n records without the first i.
+abbrev left : List ℕ → (n i : ℕ) → ℕ
+left ws n i = largest (readRecords (n - i) (drop (4 + 5 * i) ws))
+
+-- The larger of `most` and of what is left is the largest of all.
+abbrev pub Largest : List ℕ → (n i most : ℕ) → Type 0
+Largest ws n i most = (i ≤ n) × (max most (left ws n i) ≡ largest (readRecords n (drop 4 ws)))
+
+pub largest-none : (ws : List ℕ) (n : ℕ) → Largest ws n 0 0
+largest-none ws n = (omega arith, omega (arith, ap (λ (m : ℕ). largest (readRecords m (drop 4 ws))) (sub-zero n)))
+
+next : (ws : List ℕ) (n i : ℕ) → i < n → left ws n i ≡ max (cond (eqb (getD ws (4 + 5 * i) 0) 1) (getD ws (4 + 5 * i + 3) 0) 0) (left ws n (i + 1))
+unfolding largest readRecords readRecord rotation
+next ws n i h =
+    let m : n - i ≡ suc (n - (i + 1)) = omega arith in
+    let k : 4 + 5 * i + 5 ≡ 4 + 5 * (i + 1) = omega arith in
+    rw (m, drop-drop 5 (4 + 5 * i) ws, k, getD-drop (4 + 5 * i) ws 0 0, getD-drop (4 + 5 * i) ws 3 0, add-zero)
+
+pub largest-more : (ws : List ℕ) (n i most : ℕ) {x y : ℕ} → i < n → y ≡ cond (eqb (getD ws (4 + 5 * i) 0) 1) (getD ws (4 + 5 * i + 3) 0) 0 → x ≡ max most y
+    → Largest ws n i most → Largest ws n (i + 1) x
+largest-more ws n i most h e f g = (omega arith, omega (arith, next ws n i h, g .1))
+
+pub largest-all : (ws : List ℕ) (n i most : ℕ) → n ≤ i → Largest ws n i most → most ≡ largest (readRecords n (drop 4 ws))
+unfolding largest readRecords
+largest-all ws n i most h g =
+    let z : n - i ≡ 0 = omega arith in
+    let none : left ws n i ≡ 0 = rw z in
+    omega (arith, g .1)
+
+-- The records of a checked sheet stand behind its head.
+module _ (p : ℕ) (ws : List ℕ) {t : Sheet} (e : check p ws ≡ good t) {h : Head} (q : h ≡ headOf t) where
+  pub records-fit : 4 + 5 * h .records ≤ length ws
+  unfolding lengthOf
+  records-fit = let l = words-long p ws t e in let m = sheet-length t in let r = ap (λ (k : Head). k .records) q in omega arith
+
+  pub largest-is : largest (readRecords (h .records) (drop 4 ws)) ≡ maxRotation t
+  unfolding largest maxRotation headWords
+  largest-is =
+      ap largest (ap (λ (k : Head). readRecords (k .records) (drop 4 ws)) q
+      ∙ ap (λ (u : List ℕ). readRecords (length (t .records)) (drop 4 u)) (words-are p ws t e)
+      ∙ records-back (t .records) _)

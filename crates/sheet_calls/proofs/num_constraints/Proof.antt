@@ -1,0 +1,47 @@
+use mathlib.Core.Path.{ap}
+use borrow.Author.Needs.{needs}
+use lib.ListN.{length}
+use Rattle.semantics.specs.Arithmetic.{prime}
+use Rattle.semantics.specs.Check.{check}
+use Rattle.semantics.specs.Call.{numConstraintsCall}
+use Rattle.sheet.proofs.Answers.{found}
+use Rattle.sheet_calls.proofs.Counts.{counted-refused, counted-found}
+use Rattle.sheet.specs.declared.Head.{Head}
+use Rattle.sheet_calls.proofs.num_constraints.Statement.{statement}
+use Rattle.sheet_calls.proofs.num_constraints.Tie as tie
+
+check-sheet-requires : tie.Need-check-sheet-requires
+check-sheet-requires c κs = search needs
+
+enum-known-checked : tie.Need-enum-known-checked
+enum-known-checked c = search needs
+
+enum-told : tie.Need-enum-told
+enum-told c = search needs
+
+refusal-of-requires : tie.Need-refusal-of-requires
+refusal-of-requires c κs = search needs
+
+returns : tie.Need-returns
+unfolding numConstraintsCall
+returns c =
+    let ws = c .before .before .before .before .before .args .s .now in
+    counted-refused prime ws (λ t. length (t .constraints)) (c .before .before .before .check-sheet .ensures) (c .before .enum-told .given .1) (c .refusal-of .ensures)
+
+returns-2 : tie.Need-returns-2
+unfolding numConstraintsCall
+returns-2 c =
+    let ws = c .before .before .before .before .before .args .s .now in
+    let t = found (check prime ws) (c .before .before .before .check-sheet .ensures) (c .before .checked .given .1) in
+    counted-found prime ws (λ t. length (t .constraints)) (t .1) (ap (λ (h : Head). h .constraints) (t .2))
+
+pub num-constraints-spec : {M : Type 1} → statement M
+num-constraints-spec =
+    tie.close
+    (tie.spec
+    check-sheet-requires
+    enum-known-checked
+    enum-told
+    refusal-of-requires
+    returns
+    returns-2)

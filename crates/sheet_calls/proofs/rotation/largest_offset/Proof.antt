@@ -1,0 +1,81 @@
+use mathlib.Core.Path.{_∙_}
+use Prim.Native.Nat.{_-_}
+use borrow.Author.Needs.{needs}
+use Rattle.sheet_calls.proofs.Offsets.{Largest, largest-none, largest-more, largest-all}
+use Rattle.sheet_calls.proofs.rotation.largest_offset.Statement.{statement}
+use Rattle.sheet_calls.proofs.rotation.largest_offset.Tie as tie
+
+abbrev Inv-loop : tie.InvT-loop
+Inv-loop s records most₀ i₀ most i = Largest s records i most
+
+abbrev μ-loop : tie.MeasureT-loop
+μ-loop s records most₀ i₀ most i = records - i
+
+loop-holds : tie.Need-loop-holds Inv-loop μ-loop
+loop-holds c = largest-none (c .before .args .s .now) (c .before .args .records)
+
+mul-at : tie.Need-mul-at Inv-loop μ-loop
+mul-at c = search needs
+
+add-at : tie.Need-add-at Inv-loop μ-loop
+add-at c = search needs
+
+mul-offset-of : tie.Need-mul-offset-of Inv-loop μ-loop
+mul-offset-of c = search needs
+
+shared-slice-read-offset-of : tie.Need-shared-slice-read-offset-of Inv-loop μ-loop
+shared-slice-read-offset-of c = search needs
+
+add-offset-of : tie.Need-add-offset-of Inv-loop μ-loop
+add-offset-of c = search needs
+
+mul-offset-of-2 : tie.Need-mul-offset-of-2 Inv-loop μ-loop
+mul-offset-of-2 c = search needs
+
+shared-slice-read-offset-of-2 : tie.Need-shared-slice-read-offset-of-2 Inv-loop μ-loop
+shared-slice-read-offset-of-2 c = search needs
+
+offset-of-requires : tie.Need-offset-of-requires Inv-loop μ-loop
+offset-of-requires c κs = search needs
+
+larger-requires : tie.Need-larger-requires Inv-loop μ-loop
+larger-requires c κs = search needs
+
+add-i : tie.Need-add-i Inv-loop μ-loop
+add-i c = search needs
+
+loop-less : tie.Need-loop-less Inv-loop μ-loop
+loop-less c = search needs
+
+loop-again : tie.Need-loop-again Inv-loop μ-loop
+loop-again c =
+    let args = c .before .before .before .before .before .before .before .args in
+    let loop = c .before .before .before .before .before .loop in
+    largest-more (args .s .now) (args .records) (loop .i) (loop .most) (search needs) (c .before .offset-of .ensures) (c .larger .ensures) (loop .inv)
+
+returns : tie.Need-returns Inv-loop μ-loop
+returns c =
+    let args = c .before .before .before .args in
+    let loop = c .before .loop in
+    largest-all (args .s .now) (args .records) (loop .i) (loop .most) (search needs) (loop .inv)
+
+pub largest-offset-spec : {M : Type 1} → statement M
+largest-offset-spec =
+    tie.close
+    (tie.spec
+    Inv-loop
+    μ-loop
+    loop-holds
+    mul-at
+    add-at
+    mul-offset-of
+    shared-slice-read-offset-of
+    add-offset-of
+    mul-offset-of-2
+    shared-slice-read-offset-of-2
+    offset-of-requires
+    larger-requires
+    add-i
+    loop-less
+    loop-again
+    returns)

@@ -1,0 +1,68 @@
+// The calls that only read or copy a sheet.
+ghost use mathlib.Core.Path.{_≡_};
+ghost use lib.ListN.{length};
+ghost use Rattle.semantics.specs.Arithmetic.{prime};
+ghost use Rattle.semantics.specs.Call.{maxRotationCall, numConstraintsCall, conversionCall};
+ghost use Rattle.sheet.specs.Replies.{writtenOutcome, finished};
+ghost use Rattle.sheet_calls.specs.Replies.{countedOutcome};
+use sheet::Checked;
+use sheet::Refusal;
+use sheet::Written;
+
+mod rotation;
+
+// The number that a call hands back.
+pub enum Counted {
+    Number(usize),
+    Refused(Refusal),
+}
+
+// The largest offset over all variables, used or unused.
+pub fn max_rotation(s: &[u32]) -> Counted
+    ensures { λ r. ⌜ countedOutcome r ≡ maxRotationCall prime (now (s .entry)) ⌝ }
+{
+    let checked = sheet::check_sheet(s);
+    let Checked::Sheet(head) = checked else {
+        return Counted::Refused(sheet::refusal_of(checked));
+    };
+    Counted::Number(rotation::largest_offset(s, head.records))
+}
+
+// How many constraints the sheet has.
+pub fn num_constraints(s: &[u32]) -> Counted
+    ensures { λ r. ⌜ countedOutcome r ≡ numConstraintsCall prime (now (s .entry)) ⌝ }
+{
+    let checked = sheet::check_sheet(s);
+    let Checked::Sheet(head) = checked else {
+        return Counted::Refused(sheet::refusal_of(checked));
+    };
+    Counted::Number(head.constraints)
+}
+
+// The words of a sheet go to the front of the output.
+fn copy_sheet(s: &[u32], out: &mut [u32]) -> Written
+    ensures { λ r. ⌜ finished r (now (out .exit)) ≡ conversionCall prime (now (s .entry)) (length (now (out .entry))) ⌝ }
+{
+    let checked = sheet::check_sheet(s);
+    let Checked::Sheet(head) = checked else {
+        return Written::Refused(sheet::refusal_of(checked));
+    };
+    let words = head.words;
+    if out.len() < words {
+        return Written::Refused(Refusal {
+            number: 15,
+            place: words,
+        });
+    }
+    slices::copy_words(&s[..words], out);
+    Written::Words(words)
+}
+
+// The words of the sheet, without the spare ones.
+pub fn convert(s: &[u32], out: &mut [u32]) -> Written
+    ensures { λ r. ⌜ writtenOutcome r (now (out .exit)) ≡ conversionCall prime (now (s .entry)) (length (now (out .entry))) ⌝ }
+{
+    let copied = copy_sheet(s, out);
+    slices::zero_from(out, sheet::count_of(copied));
+    copied
+}

@@ -1,0 +1,42 @@
+// The largest offset.
+ghost use mathlib.Core.Path.{_≡_};
+ghost use mathlib.Core.Bool.{cond};
+ghost use Prim.Native.Nat.{_+_, _*_, _≤_, max};
+ghost use lib.Dec.{eqb};
+ghost use lib.ListN.{length, drop};
+ghost use Rattle.semantics.specs.Check.{readRecords};
+ghost use Rattle.sheet_calls.specs.Replies.{largest};
+
+// The offset of a record: only a variable has one.
+fn offset_of(kind: u32, c: u32) -> usize
+    ensures { λ r. ⌜ r ≡ cond (eqb kind 1) c 0 ⌝ }
+{
+    if kind == 1 {
+        return c as usize;
+    }
+    0
+}
+
+fn larger(x: usize, y: usize) -> usize
+    ensures { λ r. ⌜ r ≡ max x y ⌝ }
+{
+    if x < y {
+        return y;
+    }
+    x
+}
+
+// The largest offset of the records behind the head.
+pub fn largest_offset(s: &[u32], records: usize) -> usize
+    requires { ⌜ 4 + 5 * records ≤ length (now s) ⌝ }
+    ensures { λ r. ⌜ r ≡ largest (readRecords records (drop 4 (now (s .entry)))) ⌝ }
+{
+    let mut most = 0;
+    let mut i = 0;
+    while i < records {
+        let at = 4 + 5 * i;
+        most = larger(most, offset_of(s[at], s[at + 3]));
+        i += 1;
+    }
+    most
+}

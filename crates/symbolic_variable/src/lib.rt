@@ -1,0 +1,141 @@
+// Entries and variables, as in symbolic_variable.rs.
+ghost use mathlib.Core.Path.{_≡_};
+ghost use Rattle.symbolic_variable.specs.Variable.{sumOf, offsetOf, entryRotated, variableOf, degreeMultiple, variableRotated};
+
+pub enum Entry {
+    Preprocessed { offset: usize },
+    Main { part_index: usize, offset: usize },
+    Public,
+    Challenge,
+}
+
+// An entry's offset, where it has one.
+pub enum EntryOffset {
+    At(usize),
+    Nowhere,
+}
+
+// An entry with its offset moved on, or an offset too large for a usize.
+pub enum Rotated {
+    To(Entry),
+    TooFar,
+}
+
+// A variable within the evaluation window.
+pub struct SymbolicVariable {
+    pub entry: Entry,
+    pub index: usize,
+}
+
+pub enum RotatedVariable {
+    To(SymbolicVariable),
+    TooFar,
+}
+
+enum Sum {
+    Fits(usize),
+    TooLarge,
+}
+
+const LARGEST: usize = 18446744073709551615;
+
+fn plus(a: usize, b: usize) -> Sum
+    ensures { λ r. ⌜ r ≡ sumOf a b ⌝ }
+{
+    if LARGEST - a < b {
+        return Sum::TooLarge;
+    }
+    Sum::Fits(a + b)
+}
+
+impl Entry {
+    pub fn offset(self) -> EntryOffset
+        ensures { λ r. ⌜ r ≡ offsetOf self ⌝ }
+    {
+        match self {
+            Entry::Preprocessed { offset } => EntryOffset::At(offset),
+            Entry::Main {
+                part_index: _,
+                offset,
+            } => EntryOffset::At(offset),
+            Entry::Public => EntryOffset::Nowhere,
+            Entry::Challenge => EntryOffset::Nowhere,
+        }
+    }
+
+    // Advance the offset of the entry by the given `offset`.
+    pub fn rotate(self, offset: usize) -> Rotated
+        ensures { λ r. ⌜ r ≡ entryRotated self offset ⌝ }
+    {
+        match self {
+            Entry::Preprocessed { offset: old_offset } => {
+                let Sum::Fits(sum) = plus(old_offset, offset) else {
+                    return Rotated::TooFar;
+                };
+                Rotated::To(Entry::Preprocessed { offset: sum })
+            }
+            Entry::Main {
+                part_index,
+                offset: old_offset,
+            } => {
+                let Sum::Fits(sum) = plus(old_offset, offset) else {
+                    return Rotated::TooFar;
+                };
+                Rotated::To(Entry::Main {
+                    part_index,
+                    offset: sum,
+                })
+            }
+            Entry::Public => Rotated::To(self),
+            Entry::Challenge => Rotated::To(self),
+        }
+    }
+
+    pub fn next(self) -> Rotated
+        ensures { λ r. ⌜ r ≡ entryRotated self 1 ⌝ }
+    {
+        self.rotate(1)
+    }
+}
+
+impl SymbolicVariable {
+    pub fn new(entry: Entry, index: usize) -> Self
+        ensures { λ r. ⌜ r ≡ variableOf entry index ⌝ }
+    {
+        SymbolicVariable { entry, index }
+    }
+
+    pub fn degree_multiple(self) -> usize
+        ensures { λ r. ⌜ r ≡ degreeMultiple (self .entry) ⌝ }
+    {
+        let entry = self.entry;
+        match entry {
+            Entry::Preprocessed { offset: _ } => 1,
+            Entry::Main {
+                part_index: _,
+                offset: _,
+            } => 1,
+            Entry::Public => 0,
+            Entry::Challenge => 0,
+        }
+    }
+
+    pub fn rotate(self, offset: usize) -> RotatedVariable
+        ensures { λ r. ⌜ r ≡ variableRotated self offset ⌝ }
+    {
+        let entry = self.entry;
+        let Rotated::To(moved) = entry.rotate(offset) else {
+            return RotatedVariable::TooFar;
+        };
+        RotatedVariable::To(SymbolicVariable {
+            entry: moved,
+            index: self.index,
+        })
+    }
+
+    pub fn next(self) -> RotatedVariable
+        ensures { λ r. ⌜ r ≡ variableRotated self 1 ⌝ }
+    {
+        self.rotate(1)
+    }
+}
