@@ -1,75 +1,16 @@
--- Laws of the words of a leaf, and of packing. Assumes nothing.
+-- Laws of packing a variable. Assumes nothing.
 use mathlib.Core.Path.{_≡_, refl, sym, ap, _∙_}
-use mathlib.Core.Bool.{Bool, true, false, cond, _&&_, _||_}
-use mathlib.Core.List.{[], _∷_}
-use Prim.Native.Nat.{ℕ, zero, suc, _+_, _*_, _≤_, _<_}
-use native.Mathlib.Omega.{arith}
-use lib.Dec.{eqb, leb, ltb}
+use mathlib.Core.Bool.{Bool, true, false, cond}
+use Prim.Native.Nat.{ℕ, _+_, _*_, _<_}
+use lib.Dec.{eqb, ltb}
 use borrow.Author.Tests.{lt-ltb}
-use Rattle.semantics.specs.Answer.{Answer, good, refused, andThen}
-use Rattle.semantics.specs.Sheet as sheet
-use Rattle.semantics.specs.Sheet.{recordOf, recordWords, table, row, fits}
-use Rattle.semantics.specs.Check.{Scan, reading, stopped, scanWords, judged}
-use Rattle.semantics.specs.Packing.{packed, packFault, leafTests, packRecord, pack, unpacked, handsOut, unpack}
+use Rattle.semantics.specs.Answer.{Answer, good, refused}
+use Rattle.semantics.specs.Sheet.{recordOf}
+use Rattle.semantics.specs.Packing.{packed, packFault, packRecord}
 use Rattle.symbolic_variable.specs.declared.Entry.{Entry}
 use Rattle.symbolic_variable.specs.declared.Entry.the-variants.{Preprocessed, Main, Public, Challenge}
-use Rattle.packed_var.specs.declared.leaf.Leaf.{Leaf}
-use Rattle.packed_var.specs.declared.leaf.Leaf.the-variants.{Variable, IsFirstRow, IsLastRow, IsTransition}
-use Rattle.packed_var.specs.declared.leaf.LeafRead.{LeafRead}
-use Rattle.packed_var.specs.declared.leaf.LeafRead.the-variants as read
-use Rattle.packed_var.specs.declared.Refusal.{Refusal}
-use Rattle.packed_var.specs.declared.Packed.{Packed}
-use Rattle.packed_var.specs.declared.Packed.the-variants as packed′
-use Rattle.packed_var.specs.declared.Unpacked.{Unpacked}
-use Rattle.packed_var.specs.declared.Unpacked.the-variants as unpacked′
-use Rattle.packed_var.specs.Packed.{entryRecord, leafRecord, leafChecked, leafAnswer, refusalOf, packedAnswer, unpackedAnswer}
+use Rattle.packed_var.specs.Packed.{entryRecord}
 
--- ---- the words of a leaf
--- where the tests of a, b, c and d stop
-abbrev pub fourTests : (s t u v : Bool) → Scan
-fourTests s t u v = cond s (cond t (cond u (cond v (reading 5 []) (stopped 5 4)) (stopped 5 3)) (stopped 5 2)) (stopped 5 1)
-
-pub kind-wrong : (k a b c d : ℕ) → leb 1 k && leb k 4 ≡ false → refused 5 0 ≡ leafChecked (recordOf k a b c d)
-unfolding leafChecked scanWords leafTests recordWords judged
-kind-wrong k a b c d h = rw h
-
-pub variable-tests : (a b c d : ℕ) {s t u v w : Bool} → leb a 3 ≡ s → eqb a 1 ≡ t → eqb b 0 ≡ u → leb a 1 ≡ v → eqb c 0 ≡ w
-    → judged (fourTests s (t || u) (v || w) true) (recordOf 1 a b c d) ≡ leafChecked (recordOf 1 a b c d)
-unfolding leafChecked scanWords leafTests recordWords row table fits
-variable-tests a b c d p q r x y = sym (λ i. judged (fourTests (p i) (q i || r i) (x i || y i) true) (recordOf 1 a b c d))
-
-unused-words : (k a b c d : ℕ) → 2 ≤ k → k ≤ 4 → leafChecked (recordOf k a b c d) ≡ judged (fourTests (eqb a 0) (eqb b 0) (eqb c 0) (eqb d 0)) (recordOf k a b c d)
-unfolding leafChecked scanWords leafTests recordWords row table fits
-unused-words zero a b c d l h = absurd (omega arith)
-unused-words (suc zero) a b c d l h = absurd (omega arith)
-unused-words (suc (suc zero)) a b c d l h = refl
-unused-words (suc (suc (suc zero))) a b c d l h = refl
-unused-words (suc (suc (suc (suc zero)))) a b c d l h = refl
-unused-words (suc (suc (suc (suc (suc k))))) a b c d l h = absurd (omega arith)
-
-pub mark-tests : (k a b c d : ℕ) → 2 ≤ k → k ≤ 4 → {s t u v : Bool} → eqb a 0 ≡ s → eqb b 0 ≡ t → eqb c 0 ≡ u → eqb d 0 ≡ v
-    → judged (fourTests s t u v) (recordOf k a b c d) ≡ leafChecked (recordOf k a b c d)
-mark-tests k a b c d l h p q r x = sym (unused-words k a b c d l h ∙ (λ i. judged (fourTests (p i) (q i) (r i) (x i)) (recordOf k a b c d)))
-
--- the words of a leaf pass
-entry-checked : (e : Entry) (d : ℕ) → leafChecked (entryRecord e d) ≡ good (entryRecord e d)
-unfolding leafChecked scanWords leafTests recordWords row table fits judged
-entry-checked (Preprocessed o) d = refl
-entry-checked (Main p o) d = refl
-entry-checked Public d = refl
-entry-checked Challenge d = refl
-
-leaf-checked : (l : Leaf) → leafChecked (leafRecord l) ≡ good (leafRecord l)
-unfolding leafChecked scanWords leafTests recordWords row table fits judged
-leaf-checked (Variable v) = entry-checked (v .entry) (v .index)
-leaf-checked IsFirstRow = refl
-leaf-checked IsLastRow = refl
-leaf-checked IsTransition = refl
-
-pub leaf-said : (l : Leaf) {w : LeafRead} {r : sheet.Record} → w ≡ read.Said l → leafRecord l ≡ r → leafAnswer w ≡ leafChecked r
-leaf-said l p e = ap leafAnswer p ∙ sym (leaf-checked l) ∙ ap leafChecked e
-
--- ---- packing
 abbrev pub fourFaults : (s t u v : Bool) → ℕ → Answer ℕ
 fourFaults s t u v n = cond s (refused 8 0) (cond t (refused 9 0) (cond u (refused 10 0) (cond v (refused 11 0) (good n))))
 
@@ -98,21 +39,3 @@ column-wrong Challenge d h = variable-faults 2 0 0 d (lt-ltb 65535 d h) refl ref
 
 pub entry-packs : (d : ℕ) {e f : Entry} {x : Answer ℕ} → e ≡ f → x ≡ packRecord (entryRecord f d) → x ≡ packRecord (entryRecord e d)
 entry-packs d p h = h ∙ ap (λ (e : Entry). packRecord (entryRecord e d)) (sym p)
-
--- by the leaf that was read
-module _ (r : sheet.Record) {w : LeafRead} (answer : leafAnswer w ≡ leafChecked r) where
-  pub pack-refused : {f g : Refusal} → w ≡ read.Refused f → g ≡ refusalOf w → packedAnswer (packed′.Refused g) ≡ pack r
-  unfolding pack andThen leafChecked
-  pack-refused p q =
-      ap (λ (x : Refusal). refused (x .number) (x .place)) (q ∙ ap refusalOf p)
-      ∙ ap (λ (x : Answer sheet.Record). andThen x packRecord) (sym (ap leafAnswer p) ∙ answer)
-
-  pub pack-said : {l m : Leaf} → w ≡ read.Said l → l ≡ m → packRecord (leafRecord m) ≡ pack r
-  unfolding pack andThen leafChecked
-  pack-said p q = ap (λ (x : Leaf). packRecord (leafRecord x)) (sym q) ∙ ap (λ (x : Answer sheet.Record). andThen x packRecord) (sym (ap leafAnswer p) ∙ answer)
-
--- ---- unpacking
-pub unpack-by : (n : ℕ) (w : sheet.Record) {p q : Packed} {t : Bool} → w ≡ unpacked n → packedAnswer p ≡ pack w → p ≡ q → handsOut (packedAnswer q) n ≡ t
-    → cond t (good w) (refused 5 0) ≡ unpack n
-unfolding unpack
-unpack-by n w e a h k = rw (← k, ← h, a, e)

@@ -1,59 +1,22 @@
--- What the answers of this crate stand for.
+-- What a variable says as a record, and what the answers of this crate stand for.
 use Prim.Native.Nat.{ℕ}
 use Rattle.semantics.specs.Answer.{Answer, good, refused}
-use Rattle.semantics.specs.Sheet as sheet
-use Rattle.semantics.specs.Sheet.{recordOf, recordWords}
-use Rattle.semantics.specs.Check.{reading, scanWords, judged}
-use Rattle.semantics.specs.Packing.{leafTests}
+use Rattle.semantics.specs.Sheet.{Record, recordOf}
 use Rattle.symbolic_variable.specs.declared.Entry.{Entry}
 use Rattle.symbolic_variable.specs.declared.Entry.the-variants.{Preprocessed, Main, Public, Challenge}
 use Rattle.symbolic_variable.specs.declared.SymbolicVariable.{SymbolicVariable}
-use Rattle.packed_var.specs.declared.leaf.Leaf.{Leaf}
-use Rattle.packed_var.specs.declared.leaf.Leaf.the-variants.{Variable, IsFirstRow, IsLastRow, IsTransition}
-use Rattle.packed_var.specs.declared.leaf.LeafRead.{LeafRead}
-use Rattle.packed_var.specs.declared.leaf.LeafRead.the-variants as read
-use Rattle.packed_var.specs.declared.Refusal.{Refusal}
 use Rattle.packed_var.specs.declared.Packed.{Packed}
 use Rattle.packed_var.specs.declared.Packed.the-variants as packed
-use Rattle.packed_var.specs.declared.Record.{Record}
-use Rattle.packed_var.specs.declared.Unpacked.{Unpacked}
-use Rattle.packed_var.specs.declared.Unpacked.the-variants as unpacked
-use Rattle.symbolic_variable.specs.Variable.{variableOf}
 
 -- "a entry (0 preprocessed, 1 main, 2 challenge, 3 public), b part (0 unless main), c offset (0 for 2 and 3), d column"
-abbrev pub entryRecord : Entry → (column : ℕ) → sheet.Record
+abbrev pub entryRecord : Entry → (column : ℕ) → Record
 entryRecord (Preprocessed o) d = recordOf 1 0 0 o d
 entryRecord (Main p o) d = recordOf 1 1 p o d
 entryRecord Challenge d = recordOf 1 2 0 0 d
 entryRecord Public d = recordOf 1 3 0 0 d
 
-abbrev pub variableRecord : SymbolicVariable → sheet.Record
+abbrev pub variableRecord : SymbolicVariable → Record
 variableRecord v = entryRecord (v .entry) (v .index)
-
--- "1 Variable; 2 IsFirstRow, 3 IsLastRow, 4 IsTransition: none"
-abbrev pub leafRecord : Leaf → sheet.Record
-leafRecord (Variable v) = variableRecord v
-leafRecord IsFirstRow = recordOf 2 0 0 0 0
-leafRecord IsLastRow = recordOf 3 0 0 0 0
-leafRecord IsTransition = recordOf 4 0 0 0 0
-
--- The first step of packing: each word of the record passes its test.
-unfoldable pub leafChecked : sheet.Record → Answer sheet.Record
-leafChecked r = judged (scanWords 5 (leafTests (recordWords r)) (reading 0 (recordWords r))) r
-
-abbrev pub leafAnswer : LeafRead → Answer sheet.Record
-leafAnswer (read.Said l) = good (leafRecord l)
-leafAnswer (read.Refused r) = refused (r .number) (r .place)
-
-abbrev pub wrongAt : ℕ → LeafRead
-wrongAt place = read.Refused (record { number = 5; place = place })
-
-abbrev pub saidOf : Entry → (column : ℕ) → LeafRead
-saidOf e d = read.Said (Variable (variableOf e d))
-
-abbrev pub refusalOf : LeafRead → Refusal
-refusalOf (read.Said l) = record { number = 0; place = 0 }
-refusalOf (read.Refused r) = r
 
 abbrev pub refusedWith : ℕ → Packed
 refusedWith number = packed.Refused (record { number = number; place = 0 })
@@ -62,11 +25,3 @@ refusedWith number = packed.Refused (record { number = number; place = 0 })
 abbrev pub packedAnswer : Packed → Answer ℕ
 packedAnswer (packed.Var v) = good (v .0)
 packedAnswer (packed.Refused r) = refused (r .number) (r .place)
-
-abbrev pub wordsRecord : Record → sheet.Record
-wordsRecord w = recordOf (w .kind) (w .a) (w .b) (w .c) (w .d)
-
--- The five words, or a refusal.
-abbrev pub unpackedAnswer : Unpacked → Answer sheet.Record
-unpackedAnswer (unpacked.Words w) = good (wordsRecord w)
-unpackedAnswer (unpacked.Refused r) = refused (r .number) (r .place)

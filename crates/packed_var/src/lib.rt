@@ -1,15 +1,10 @@
 // Packed variables, as PackedVar in monomial.rs.
-use leaf::Leaf;
-use leaf::LeafRead;
 use symbolic_variable::Entry;
 use symbolic_variable::SymbolicVariable;
 ghost use mathlib.Core.Path.{_≡_};
 ghost use Prim.Native.Nat.{_+_, _*_, _<_};
-ghost use Rattle.semantics.specs.Sheet.{recordOf};
-ghost use Rattle.semantics.specs.Packing.{pack, unpack, unpacked, packRecord};
-ghost use Rattle.packed_var.specs.Packed.{variableRecord, refusedWith, packedAnswer, wordsRecord, unpackedAnswer};
-
-pub mod leaf;
+ghost use Rattle.semantics.specs.Packing.{packRecord};
+ghost use Rattle.packed_var.specs.Packed.{variableRecord, refusedWith, packedAnswer};
 
 // A number with its own type: bits 0 to 3 type, 4 to 11 part, 12 to 15 offset, 16 to 31 column.
 pub struct PackedVar(pub u32);
@@ -21,20 +16,6 @@ pub struct Refusal {
 
 pub enum Packed {
     Var(PackedVar),
-    Refused(Refusal),
-}
-
-// A record's five words.
-pub struct Record {
-    pub kind: u32,
-    pub a: u32,
-    pub b: u32,
-    pub c: u32,
-    pub d: u32,
-}
-
-pub enum Unpacked {
-    Words(Record),
     Refused(Refusal),
 }
 
@@ -104,62 +85,4 @@ impl PackedVar {
     {
         PackedVar::new(10, 0, 0, 0)
     }
-}
-
-// The packed number of the variable or row mark that a record's five words say.
-pub fn pack(kind: u32, a: u32, b: u32, c: u32, d: u32) -> Packed
-    ensures { λ r. ⌜ packedAnswer r ≡ pack (recordOf kind a b c d) ⌝ }
-{
-    let read = leaf::leaf_of(kind, a, b, c, d);
-    let LeafRead::Said(said) = read else {
-        return Packed::Refused(leaf::refusal_of(read));
-    };
-    match said {
-        Leaf::Variable(var) => PackedVar::from_symbolic_var(var),
-        Leaf::IsFirstRow => Packed::Var(PackedVar::is_first()),
-        Leaf::IsLastRow => Packed::Var(PackedVar::is_last()),
-        Leaf::IsTransition => Packed::Var(PackedVar::is_transition()),
-    }
-}
-
-// The words that the bits of a number are.
-fn words_of(n: u32) -> Record
-    ensures { λ r. ⌜ wordsRecord r ≡ unpacked n ⌝ }
-{
-    if 8 <= n % 16 {
-        return Record {
-            kind: n % 16 - 6,
-            a: 0,
-            b: 0,
-            c: 0,
-            d: 0,
-        };
-    }
-    Record {
-        kind: 1,
-        a: n % 16,
-        b: n / 16 % 256,
-        c: n / 4096 % 16,
-        d: n / 65536,
-    }
-}
-
-// The words that pack to a number, where there are such.
-pub fn unpack(v: PackedVar) -> Unpacked
-    ensures { λ r. ⌜ unpackedAnswer r ≡ unpack (v .0) ⌝ }
-{
-    let words = words_of(v.0);
-    let Packed::Var(again) = pack(words.kind, words.a, words.b, words.c, words.d) else {
-        return Unpacked::Refused(Refusal {
-            number: 5,
-            place: 0,
-        });
-    };
-    if again.0 != v.0 {
-        return Unpacked::Refused(Refusal {
-            number: 5,
-            place: 0,
-        });
-    }
-    Unpacked::Words(words)
 }

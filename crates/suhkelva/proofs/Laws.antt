@@ -12,9 +12,10 @@ use Rattle.semantics.specs.Packing.{pack, unpack}
 use Rattle.semantics.specs.Call.{Reply, Result, outcome, paddedAll, result, onSheet, packCall, unpackCall, blockCheckCall, checkCall}
 use Rattle.packed_var.specs.declared.Packed.{Packed}
 use Rattle.packed_var.specs.declared.Packed.the-variants as packed
-use Rattle.packed_var.specs.declared.Unpacked.{Unpacked}
-use Rattle.packed_var.specs.declared.Unpacked.the-variants as unpacked
-use Rattle.packed_var.specs.Packed.{packedAnswer, unpackedAnswer}
+use Rattle.packing.specs.declared.Unpacked.{Unpacked}
+use Rattle.packing.specs.declared.Unpacked.the-variants as unpacked
+use Rattle.packed_var.specs.Packed.{packedAnswer}
+use Rattle.packing.specs.Leaves.{unpackedAnswer}
 use Rattle.block.specs.declared.BlockChecked.{BlockChecked}
 use Rattle.block.specs.declared.BlockChecked.the-variants as block
 use Rattle.block.specs.Checked.{checkedAnswer}

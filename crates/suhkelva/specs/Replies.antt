@@ -4,8 +4,8 @@ use Prim.Native.Nat.{ℕ}
 use Rattle.semantics.specs.Call.{Reply}
 use Rattle.packed_var.specs.declared.Packed.{Packed}
 use Rattle.packed_var.specs.declared.Packed.the-variants as packed
-use Rattle.packed_var.specs.declared.Unpacked.{Unpacked}
-use Rattle.packed_var.specs.declared.Unpacked.the-variants as unpacked
+use Rattle.packing.specs.declared.Unpacked.{Unpacked}
+use Rattle.packing.specs.declared.Unpacked.the-variants as unpacked
 use Rattle.block.specs.declared.BlockChecked.{BlockChecked}
 use Rattle.block.specs.declared.BlockChecked.the-variants as block
 use Rattle.sheet.specs.declared.Checked.{Checked}

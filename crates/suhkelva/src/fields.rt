@@ -6,7 +6,7 @@ ghost use Rattle.suhkelva.specs.Replies.{packedReply, unpackedReply, blo
 ghost use Rattle.suhkelva.specs.Fields.{packedFields, recordFields, blockFields, sheetFields, numberFields, writtenFields};
 use block::BlockChecked;
 use packed_var::Packed;
-use packed_var::Unpacked;
+use packing::Unpacked;
 use sheet::Checked;
 use sheet::Written;
 use sheet_calls::Counted;

@@ -21,14 +21,14 @@ use packed_var::PackedVar;
 pub extern "C" fn suhkelva_pack(kind: u32, a: u32, b: u32, c: u32, d: u32) -> SuhkelvaPacked
     ensures { λ r. ⌜ r ≡ packedFields (packCall (recordOf kind a b c d) .reply) ⌝ }
 {
-    fields::packed_fields(packed_var::pack(kind, a, b, c, d))
+    fields::packed_fields(packing::pack(kind, a, b, c, d))
 }
 
 #[no_mangle]
 pub extern "C" fn suhkelva_unpack(packed: u32) -> SuhkelvaRecord
     ensures { λ r. ⌜ r ≡ recordFields (unpackCall packed .reply) ⌝ }
 {
-    fields::record_fields(packed_var::unpack(PackedVar(packed)))
+    fields::record_fields(packing::unpack(PackedVar(packed)))
 }
 
 #[no_mangle]

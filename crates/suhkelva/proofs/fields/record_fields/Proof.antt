@@ -2,7 +2,7 @@ use mathlib.Core.Path.{sym, ap}
 use borrow.Author.Needs.{needs}
 use Rattle.suhkelva.specs.Replies.{unpackedReply}
 use Rattle.suhkelva.specs.Fields.{recordFields}
-use Rattle.packed_var.specs.declared.Unpacked.{Unpacked}
+use Rattle.packing.specs.declared.Unpacked.{Unpacked}
 use Rattle.suhkelva.proofs.fields.record_fields.Statement.{statement}
 use Rattle.suhkelva.proofs.fields.record_fields.Tie as tie
 

@@ -3,11 +3,11 @@ use mathlib.Core.Path.{_≡_, refl, sym, ap, _∙_}
 use borrow.Author.Tests.{eq-eqb, ne-eqb}
 use Rattle.semantics.specs.Sheet.{recordOf}
 use Rattle.semantics.specs.Check.{judged}
-use Rattle.packed_var.specs.declared.leaf.Leaf.the-variants.{IsFirstRow, IsLastRow, IsTransition}
-use Rattle.packed_var.specs.Packed.{leafAnswer}
-use Rattle.packed_var.proofs.Laws.{mark-tests, leaf-said}
-use Rattle.packed_var.proofs.leaf.mark.Statement.{statement}
-use Rattle.packed_var.proofs.leaf.mark.Tie as tie
+use Rattle.packing.specs.declared.leaf.Leaf.the-variants.{IsFirstRow, IsLastRow, IsTransition}
+use Rattle.packing.specs.Leaves.{leafAnswer}
+use Rattle.packing.proofs.Laws.{mark-tests, leaf-said}
+use Rattle.packing.proofs.leaf.mark.Statement.{statement}
+use Rattle.packing.proofs.leaf.mark.Tie as tie
 
 wrong-requires : tie.Need-wrong-requires
 wrong-requires c κs = search needs

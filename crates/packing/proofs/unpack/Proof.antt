@@ -2,9 +2,9 @@ use borrow.Author.Needs.{needs}
 use mathlib.Core.Path.{refl}
 use borrow.Author.Tests.{eq-eqb, ne-eqb}
 use Rattle.semantics.specs.Packing.{handsOut}
-use Rattle.packed_var.proofs.Laws.{unpack-by}
-use Rattle.packed_var.proofs.unpack.Statement.{statement}
-use Rattle.packed_var.proofs.unpack.Tie as tie
+use Rattle.packing.proofs.Laws.{unpack-by}
+use Rattle.packing.proofs.unpack.Statement.{statement}
+use Rattle.packing.proofs.unpack.Tie as tie
 
 words-of-requires : tie.Need-words-of-requires
 words-of-requires c κs = search needs

@@ -5,8 +5,8 @@ use lib.Dec.{leb}
 use borrow.Author.Tests.{le-leb, lt-leb}
 use Rattle.semantics.specs.Packing.{unpacked}
 use Rattle.semantics.proofs.Basics.{cond-true, cond-false}
-use Rattle.packed_var.proofs.words_of.Statement.{statement}
-use Rattle.packed_var.proofs.words_of.Tie as tie
+use Rattle.packing.proofs.words_of.Statement.{statement}
+use Rattle.packing.proofs.words_of.Tie as tie
 
 sub-t5 : tie.Need-sub-t5
 sub-t5 c = search needs

@@ -1,11 +1,11 @@
 // The leaf that a record's five words say: a variable or a row mark.
-use crate::Refusal;
+use packed_var::Refusal;
 use symbolic_variable::Entry;
 use symbolic_variable::SymbolicVariable;
 ghost use mathlib.Core.Path.{_≡_};
 ghost use Prim.Native.Nat.{_≤_};
 ghost use Rattle.semantics.specs.Sheet.{recordOf};
-ghost use Rattle.packed_var.specs.Packed.{leafAnswer, leafChecked, wrongAt, saidOf, refusalOf};
+ghost use Rattle.packing.specs.Leaves.{leafAnswer, leafChecked, wrongAt, saidOf, refusalOf};
 
 pub enum Leaf {
     Variable(SymbolicVariable),

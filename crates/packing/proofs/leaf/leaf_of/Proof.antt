@@ -4,10 +4,10 @@ use mathlib.Core.Bool.{Bool, _&&_}
 use lib.Dec.{leb}
 use borrow.Author.Tests.{le-leb, lt-leb}
 use Rattle.semantics.specs.Sheet.{recordOf}
-use Rattle.packed_var.specs.Packed.{leafAnswer, leafChecked}
-use Rattle.packed_var.proofs.Laws.{kind-wrong}
-use Rattle.packed_var.proofs.leaf.leaf_of.Statement.{statement}
-use Rattle.packed_var.proofs.leaf.leaf_of.Tie as tie
+use Rattle.packing.specs.Leaves.{leafAnswer, leafChecked}
+use Rattle.packing.proofs.Laws.{kind-wrong}
+use Rattle.packing.proofs.leaf.leaf_of.Statement.{statement}
+use Rattle.packing.proofs.leaf.leaf_of.Tie as tie
 
 wrong-requires : tie.Need-wrong-requires
 wrong-requires c κs = search needs

@@ -1,8 +1,8 @@
 use borrow.Author.Needs.{needs}
 use mathlib.Core.Path.{sym, ap}
-use Rattle.packed_var.specs.Packed.{refusalOf}
-use Rattle.packed_var.proofs.leaf.refusal_of.Statement.{statement}
-use Rattle.packed_var.proofs.leaf.refusal_of.Tie as tie
+use Rattle.packing.specs.Leaves.{refusalOf}
+use Rattle.packing.proofs.leaf.refusal_of.Statement.{statement}
+use Rattle.packing.proofs.leaf.refusal_of.Tie as tie
 
 enum-known-read : tie.Need-enum-known-read
 enum-known-read c = search needs

@@ -2,9 +2,9 @@ use borrow.Author.Needs.{needs}
 use mathlib.Core.Path.{ap, _∙_}
 use Rattle.semantics.specs.Answer.{good}
 use Rattle.semantics.specs.Packing.{packed, packFault, packRecord}
-use Rattle.packed_var.proofs.Laws.{pack-refused, pack-said}
-use Rattle.packed_var.proofs.pack.Statement.{statement}
-use Rattle.packed_var.proofs.pack.Tie as tie
+use Rattle.packing.proofs.Laws.{pack-refused, pack-said}
+use Rattle.packing.proofs.pack.Statement.{statement}
+use Rattle.packing.proofs.pack.Tie as tie
 
 leaf-of-requires : tie.Need-leaf-of-requires
 leaf-of-requires c κs = search needs

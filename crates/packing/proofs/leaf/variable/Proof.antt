@@ -3,10 +3,10 @@ use mathlib.Core.Path.{_≡_, refl, sym, ap, _∙_}
 use borrow.Author.Tests.{le-leb, lt-leb, eq-eqb, ne-eqb}
 use Rattle.semantics.specs.Sheet.{recordOf}
 use Rattle.semantics.specs.Check.{judged}
-use Rattle.packed_var.specs.Packed.{leafAnswer}
-use Rattle.packed_var.proofs.Laws.{variable-tests, leaf-said}
-use Rattle.packed_var.proofs.leaf.variable.Statement.{statement}
-use Rattle.packed_var.proofs.leaf.variable.Tie as tie
+use Rattle.packing.specs.Leaves.{leafAnswer}
+use Rattle.packing.proofs.Laws.{variable-tests, leaf-said}
+use Rattle.packing.proofs.leaf.variable.Statement.{statement}
+use Rattle.packing.proofs.leaf.variable.Tie as tie
 
 wrong-requires : tie.Need-wrong-requires
 wrong-requires c κs = search needs
