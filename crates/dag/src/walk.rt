@@ -7,7 +7,6 @@ ghost use lib.Dec.{eqb};
 ghost use lib.ListN.{length, getD};
 ghost use Rattle.semantics.specs.Arithmetic.{prime};
 ghost use Rattle.semantics.specs.Graph.{addRule, subRule, mulRule};
-ghost use Rattle.semantics.specs.Value.{recordAt};
 ghost use Rattle.semantics.specs.Walk.{member, visit, childrenAt};
 ghost use Rattle.dag.specs.Picks.{fiveWords, pickOf, viewOf};
 ghost use Rattle.dag.specs.Nodes.{nodeIn};
@@ -87,7 +86,8 @@ fn add_record(sheet: &[u32], scratch: &mut [u32], out: &mut [u32], r: usize, n: 
             n
         }
         Pick::Make(q) => {
-            let node = nodes::intern_node(out, n, 0, q);
+            let from = nodes::search_from(q);
+            let node = nodes::intern_node(out, n, from, q);
             scratch[r] = node.index as u32 + 1;
             node.count
         }
