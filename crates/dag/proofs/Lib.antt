@@ -16,3 +16,4 @@ pub mod Closing
 pub mod Graphing
 pub mod Starts
 pub mod Outcomes
+pub mod Demands
