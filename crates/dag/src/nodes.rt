@@ -21,7 +21,8 @@ pub struct Interned {
     pub count: usize,
 }
 
-fn wide(w: u32) -> usize
+// A word as a place or a count.
+pub fn wide(w: u32) -> usize
     ensures { λ x. ⌜ x ≡ w ⌝ }
 {
     w as usize

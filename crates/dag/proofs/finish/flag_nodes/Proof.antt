@@ -1,12 +1,10 @@
-use mathlib.Core.Path.{_≡_, refl, sym, ap, subst, _∙_}
-use mathlib.Core.Bool.{Bool, true, false, cond}
-use mathlib.Core.List.{List, [], _∷_, _++_}
-use Prim.Native.Nat.{ℕ, zero, suc, _+_, _*_, _-_, _/_, _%_, _≤_, _<_}
+use mathlib.Core.Path.{_≡_, sym, ap, subst, _∙_}
+use Prim.Native.Nat.{ℕ, _+_, _-_, _/_, _%_, _≤_, _<_}
 use native.Mathlib.Omega.{arith}
 use borrow.Author.Needs.{needs}
-use lib.ListN.{length, getD, take, drop, replicate, set, length-set}
+use lib.ListN.{length, getD}
 use Prim.Native.Nat.{pred}
-use Rattle.dag.specs.Memory.{tabulate, flagWord, flagged, part, nodeNumbers, marksOf, Named}
+use Rattle.dag.specs.Memory.{tabulate, flagged, part, nodeNumbers, marksOf}
 use Rattle.dag.proofs.Flags.{flagging-none, flagging-length, flagging-more, next-mark, next-node}
 use Rattle.dag.proofs.finish.flag_nodes.Statement.{statement}
 use Rattle.dag.proofs.finish.flag_nodes.Tie as tie
@@ -14,7 +12,7 @@ use Rattle.dag.proofs.finish.flag_nodes.Reads as reads
 use Rattle.dag.proofs.finish.flag_nodes.Lts as lts
 use Rattle.dag.proofs.finish.flag_node.Reads as flag-node-reads
 use Rattle.dag.proofs.finish.node_number.Reads as node-number-reads
-use Rattle.dag.proofs.finish.wide.Reads as wide-reads
+use Rattle.dag.proofs.nodes.wide.Reads as wide-reads
 
 j-is : (j count : ℕ) → j ≤ count → count ≤ j → j ≡ count
 j-is j count h k = omega arith

@@ -1,10 +1,8 @@
-use mathlib.Core.Path.{_≡_, refl, sym, ap, subst, _∙_}
-use mathlib.Core.Bool.{Bool, true, false, cond}
-use mathlib.Core.List.{List, [], _∷_, _++_}
-use Prim.Native.Nat.{ℕ, zero, suc, _+_, _*_, _-_, _/_, _%_, _≤_, _<_}
-use native.Mathlib.Omega.{arith}
+use mathlib.Core.Path.{sym, ap, _∙_}
+use mathlib.Core.Bool.{Bool, cond}
+use Prim.Native.Nat.{_-_, _/_}
 use borrow.Author.Needs.{needs}
-use lib.ListN.{length, getD, take, drop, replicate, set, length-set}
+use lib.ListN.{getD, set}
 use lib.Seq.{set-getD}
 use borrow.Author.Tests.{le-leb, lt-leb}
 use Rattle.dag.specs.Memory.{plainWord}

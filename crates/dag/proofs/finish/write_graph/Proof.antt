@@ -1,10 +1,8 @@
-use mathlib.Core.Path.{_≡_, refl, sym, ap, subst, _∙_}
-use mathlib.Core.Bool.{Bool, true, false, cond}
-use mathlib.Core.List.{List, [], _∷_, _++_}
-use Prim.Native.Nat.{ℕ, zero, suc, _+_, _*_, _-_, _/_, _%_, _≤_, _<_}
+use mathlib.Core.Path.{refl}
+use Prim.Native.Nat.{_+_, _-_, _/_, _≤_}
 use native.Mathlib.Omega.{arith}
 use borrow.Author.Needs.{needs}
-use lib.ListN.{length, getD, take, drop, replicate, set, length-set}
+use lib.ListN.{length-set}
 use Rattle.dag.proofs.Adds.{few-records}
 use Rattle.dag.proofs.Graphing.{constraints-named, nodes-small, lists-small, room-flagged, interactions-named, four-words, out₂-length, list-small, end-is, graph-written}
 use Rattle.dag.proofs.finish.write_graph.Statement.{statement}

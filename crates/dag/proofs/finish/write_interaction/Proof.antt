@@ -1,18 +1,16 @@
-use mathlib.Core.Path.{_≡_, refl, sym, ap, subst, _∙_}
-use mathlib.Core.Bool.{Bool, true, false, cond}
-use mathlib.Core.List.{List, [], _∷_, _++_}
-use Prim.Native.Nat.{ℕ, zero, suc, _+_, _*_, _-_, _/_, _%_, _≤_, _<_}
+use mathlib.Core.Path.{refl, sym, ap, subst, _∙_}
+use Prim.Native.Nat.{ℕ, _+_, _-_, _/_}
 use native.Mathlib.Omega.{arith}
 use borrow.Author.Needs.{needs}
-use lib.ListN.{length, getD, take, drop, replicate, set, length-set}
-use Rattle.dag.specs.Memory.{put, part, nodeNumbers, marksOf, Named, NamedInteraction, messageLength, renamedWords}
+use lib.ListN.{length, getD, set, length-set}
+use Rattle.dag.specs.Memory.{put, part, nodeNumbers, marksOf, Named, renamedWords}
 use Rattle.dag.proofs.Sweeps.{put-length}
 use Rattle.dag.proofs.Naming.{interaction-put, length-two, length-three, renamed-length}
 use Rattle.dag.proofs.finish.write_interaction.Statement.{statement}
 use Rattle.dag.proofs.finish.write_interaction.Tie as tie
 use Rattle.dag.proofs.finish.write_interaction.Reads as reads
 use Rattle.dag.proofs.finish.write_interaction.Lts as lts
-use Rattle.dag.proofs.finish.wide.Reads as wide-reads
+use Rattle.dag.proofs.nodes.wide.Reads as wide-reads
 use Rattle.dag.proofs.finish.write_names.Reads as write-names-reads
 
 -- src/finish.rt:110:28

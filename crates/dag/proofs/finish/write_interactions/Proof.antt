@@ -1,17 +1,16 @@
-use mathlib.Core.Path.{_≡_, refl, sym, ap, subst, _∙_}
-use mathlib.Core.Bool.{Bool, true, false, cond}
-use mathlib.Core.List.{List, [], _∷_, _++_}
-use Prim.Native.Nat.{ℕ, zero, suc, _+_, _*_, _-_, _/_, _%_, _≤_, _<_}
+use mathlib.Core.Path.{ap, _∙_}
+use mathlib.Core.List.{List}
+use Prim.Native.Nat.{ℕ, _+_, _-_, _/_, _≤_, _<_}
 use native.Mathlib.Omega.{arith}
 use borrow.Author.Needs.{needs}
-use lib.ListN.{length, getD, take, drop, replicate, set, length-set}
-use Rattle.dag.specs.Memory.{put, messageLength, renamedAll, NamedInteractions}
+use lib.ListN.{length}
+use Rattle.dag.specs.Memory.{put}
 use Rattle.dag.proofs.Naming.{Written, written-none, out-length, next-interaction, next-room, written-more, written-done}
 use Rattle.dag.proofs.finish.write_interactions.Statement.{statement}
 use Rattle.dag.proofs.finish.write_interactions.Tie as tie
 use Rattle.dag.proofs.finish.write_interactions.Reads as reads
 use Rattle.dag.proofs.finish.write_interactions.Lts as lts
-use Rattle.dag.proofs.finish.wide.Reads as wide-reads
+use Rattle.dag.proofs.nodes.wide.Reads as wide-reads
 use Rattle.dag.proofs.finish.write_interaction.Reads as write-interaction-reads
 
 abbrev Inv-loop : tie.InvT-loop

@@ -1,12 +1,10 @@
 use mathlib.Core.Path.{_≡_, refl, sym, ap, subst, _∙_}
-use mathlib.Core.Bool.{Bool, true, false, cond}
-use mathlib.Core.List.{List, [], _∷_, _++_}
-use Prim.Native.Nat.{ℕ, zero, suc, _+_, _*_, _-_, _/_, _%_, _≤_, _<_}
+use Prim.Native.Nat.{ℕ, _+_, _-_, _/_, _%_, _≤_, _<_}
 use native.Mathlib.Omega.{arith}
 use borrow.Author.Needs.{needs}
-use lib.ListN.{length, getD, take, drop, replicate, set, length-set}
+use lib.ListN.{length, getD, length-set}
 use Prim.Native.Nat.{pred}
-use Rattle.dag.specs.Memory.{put, part, nodeNumbers, marksOf, Named}
+use Rattle.dag.specs.Memory.{put, part, nodeNumbers, marksOf}
 use Rattle.dag.proofs.Sweeps.{put-none}
 use Rattle.dag.proofs.Naming.{plain-mark, node-small, naming-more}
 use Rattle.dag.proofs.finish.write_names.Statement.{statement}
@@ -14,7 +12,7 @@ use Rattle.dag.proofs.finish.write_names.Tie as tie
 use Rattle.dag.proofs.finish.write_names.Reads as reads
 use Rattle.dag.proofs.finish.write_names.Lts as lts
 use Rattle.dag.proofs.finish.node_number.Reads as node-number-reads
-use Rattle.dag.proofs.finish.wide.Reads as wide-reads
+use Rattle.dag.proofs.nodes.wide.Reads as wide-reads
 
 j-is : (j count : ℕ) → j ≤ count → count ≤ j → j ≡ count
 j-is j count h k = omega arith

@@ -1,10 +1,8 @@
-use mathlib.Core.Path.{_≡_, refl, sym, ap, subst, _∙_}
-use mathlib.Core.Bool.{Bool, true, false, cond}
-use mathlib.Core.List.{List, [], _∷_, _++_}
-use Prim.Native.Nat.{ℕ, zero, suc, _+_, _*_, _-_, _/_, _%_, _≤_, _<_}
+use mathlib.Core.Path.{refl, ap, _∙_}
+use Prim.Native.Nat.{ℕ, _+_, _*_, _-_, _/_, _≤_}
 use native.Mathlib.Omega.{arith}
 use borrow.Author.Needs.{needs}
-use lib.ListN.{length, getD, take, drop, replicate, set, length-set}
+use lib.ListN.{length}
 use Rattle.dag.specs.Memory.{recordsOf, graphOut}
 use Rattle.dag.proofs.Rooting.{part-below, walking-after, walks-both}
 use Rattle.dag.proofs.Starts.{start-walking, head-counts, head-inside, counts-small, constraints-inside, interactions-inside, finishing}
@@ -12,7 +10,7 @@ use Rattle.dag.proofs.graph.build_graph.Statement.{statement}
 use Rattle.dag.proofs.graph.build_graph.Tie as tie
 use Rattle.dag.proofs.graph.build_graph.Reads as reads
 use Rattle.dag.proofs.graph.build_graph.Lts as lts
-use Rattle.dag.proofs.graph.wide.Reads as wide-reads
+use Rattle.dag.proofs.nodes.wide.Reads as wide-reads
 use Rattle.dag.proofs.finish.write_graph.Reads as write-graph-reads
 use Rattle.dag.proofs.walk.add_interactions.Reads as add-interactions-reads
 use Rattle.dag.proofs.walk.add_names.Reads as add-names-reads

@@ -1,10 +1,7 @@
-use mathlib.Core.Path.{_≡_, refl, sym, ap, subst, _∙_}
-use mathlib.Core.Bool.{Bool, true, false, cond}
-use mathlib.Core.List.{List, [], _∷_, _++_}
-use Prim.Native.Nat.{ℕ, zero, suc, _+_, _*_, _-_, _/_, _%_, _≤_, _<_}
-use native.Mathlib.Omega.{arith}
+use mathlib.Core.Path.{subst}
+use mathlib.Core.List.{_++_}
+use Prim.Native.Nat.{ℕ, _+_, _-_, _/_}
 use borrow.Author.Needs.{needs}
-use lib.ListN.{length, getD, take, drop, replicate, set, length-set}
 use Rattle.dag.specs.Memory.{part, Walks}
 use Rattle.dag.proofs.Rooting.{message-inside, count-inside, names-below, walking-after, walks-both}
 use Rattle.dag.proofs.walk.add_interaction.Statement.{statement}
@@ -12,7 +9,7 @@ use Rattle.dag.proofs.walk.add_interaction.Tie as tie
 use Rattle.dag.proofs.walk.add_interaction.Reads as reads
 use Rattle.dag.proofs.walk.add_interaction.Lts as lts
 use Rattle.dag.proofs.walk.add_names.Reads as add-names-reads
-use Rattle.dag.proofs.walk.wide.Reads as wide-reads
+use Rattle.dag.proofs.nodes.wide.Reads as wide-reads
 
 -- src/walk.rt:139:30
 add-wide : tie.Need-add-wide

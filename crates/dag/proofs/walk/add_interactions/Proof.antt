@@ -1,17 +1,14 @@
-use mathlib.Core.Path.{_≡_, refl, sym, ap, subst, _∙_}
-use mathlib.Core.Bool.{Bool, true, false, cond}
-use mathlib.Core.List.{List, [], _∷_, _++_}
-use Prim.Native.Nat.{ℕ, zero, suc, _+_, _*_, _-_, _/_, _%_, _≤_, _<_}
+use Prim.Native.Nat.{_+_, _-_, _/_, _≤_}
 use native.Mathlib.Omega.{arith}
 use borrow.Author.Needs.{needs}
-use lib.ListN.{length, getD, take, drop, replicate, set, length-set}
+use lib.ListN.{length}
 use Rattle.dag.proofs.Rooting.{Rooting, rooting-none, rooting-walking, rooting-length, rooting-done, next-roots, rooting-more}
 use Rattle.dag.proofs.walk.add_interactions.Statement.{statement}
 use Rattle.dag.proofs.walk.add_interactions.Tie as tie
 use Rattle.dag.proofs.walk.add_interactions.Reads as reads
 use Rattle.dag.proofs.walk.add_interactions.Lts as lts
 use Rattle.dag.proofs.walk.add_interaction.Reads as add-interaction-reads
-use Rattle.dag.proofs.walk.wide.Reads as wide-reads
+use Rattle.dag.proofs.nodes.wide.Reads as wide-reads
 
 abbrev Inv-loop : tie.InvT-loop
 Inv-loop sheet at count scratch₀ out₀ n used₀ from₀ i₀ scratch out used from i = Rooting sheet at count scratch₀ out₀ n scratch out used from i

@@ -1,10 +1,8 @@
-use mathlib.Core.Path.{_≡_, refl, sym, ap, subst, _∙_}
-use mathlib.Core.Bool.{Bool, true, false, cond}
-use mathlib.Core.List.{List, [], _∷_, _++_}
-use Prim.Native.Nat.{ℕ, zero, suc, _+_, _*_, _-_, _/_, _%_, _≤_, _<_}
+use mathlib.Core.Path.{_≡_, sym, subst}
+use Prim.Native.Nat.{ℕ, _+_, _-_, _/_, _<_}
 use native.Mathlib.Omega.{arith}
 use borrow.Author.Needs.{needs}
-use lib.ListN.{length, getD, take, drop, replicate, set, length-set}
+use lib.ListN.{length}
 use Rattle.dag.specs.Memory.{part, recordsOf, Walks}
 use Rattle.dag.proofs.Rooting.{Naming, naming-none, naming-walking, naming-length, naming-more, ready-root}
 use Rattle.dag.proofs.walk.add_names.Statement.{statement}
@@ -12,7 +10,7 @@ use Rattle.dag.proofs.walk.add_names.Tie as tie
 use Rattle.dag.proofs.walk.add_names.Reads as reads
 use Rattle.dag.proofs.walk.add_names.Lts as lts
 use Rattle.dag.proofs.walk.add_expr.Reads as add-expr-reads
-use Rattle.dag.proofs.walk.wide.Reads as wide-reads
+use Rattle.dag.proofs.nodes.wide.Reads as wide-reads
 
 abbrev Inv-loop : tie.InvT-loop
 Inv-loop sheet at count scratch₀ out₀ n used₀ j₀ scratch out used j = Naming sheet at count scratch₀ out₀ n scratch out used j

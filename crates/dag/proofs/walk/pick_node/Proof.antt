@@ -1,10 +1,7 @@
-use mathlib.Core.Path.{_≡_, refl, sym, ap, subst, _∙_}
-use mathlib.Core.Bool.{Bool, true, false, cond}
-use mathlib.Core.List.{List, [], _∷_, _++_}
-use Prim.Native.Nat.{ℕ, zero, suc, _+_, _*_, _-_, _/_, _%_, _≤_, _<_}
+use mathlib.Core.Path.{sym, subst, _∙_}
+use Prim.Native.Nat.{ℕ, _-_, _/_}
 use native.Mathlib.Omega.{arith}
 use borrow.Author.Needs.{needs}
-use lib.ListN.{length, getD, take, drop, replicate, set, length-set}
 use Rattle.semantics.specs.Walk.{childrenAt}
 use Rattle.semantics.proofs.Members.{Mem}
 use Rattle.dag.specs.Memory.{recordsOf}
@@ -17,7 +14,7 @@ use Rattle.dag.proofs.rules.neg_rule.Reads as neg-rule-reads
 use Rattle.dag.proofs.walk.built_child.Reads as built-child-reads
 use Rattle.dag.proofs.walk.record_at.Reads as record-at-reads
 use Rattle.dag.proofs.walk.two_rule.Reads as two-rule-reads
-use Rattle.dag.proofs.walk.wide.Reads as wide-reads
+use Rattle.dag.proofs.nodes.wide.Reads as wide-reads
 
 -- src/walk.rt:69:9
 record-at-requires : tie.Need-record-at-requires
