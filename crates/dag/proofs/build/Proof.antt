@@ -8,37 +8,26 @@ use Rattle.semantics.specs.Call.{builderCall, zeros}
 use Rattle.dag.specs.Calls.{builtOutcome}
 use Rattle.dag.proofs.build.Statement.{statement}
 use Rattle.dag.proofs.build.Tie as tie
-use Rattle.dag.proofs.build.Reads as reads
-use Rattle.dag.proofs.build.Lts as lts
-use Rattle.dag.proofs.build_clear.Reads as build-clear-reads
-use Rattle.slices.proofs.zero_all.Reads as zero-all-reads
 
--- src/lib.rt:63:5
 zero-all-requires : tie.Need-zero-all-requires
 zero-all-requires c κs = search needs
 
--- src/lib.rt:64:5
 zero-all-requires-2 : tie.Need-zero-all-requires-2
 zero-all-requires-2 c κs = search needs
 
--- src/lib.rt:65:9
 build-clear-requires : tie.Need-build-clear-requires
 unfolding zeros
 build-clear-requires c κs = (c .before .before .before .before .before .before .before .before .zero-all .ensures ∙ ap (λ (k : ℕ). replicate k 0) (sym (c .before .before .before .before .before .before .before .before .zero-all .kept .0)), c .before .before .before .before .zero-all2 .ensures ∙ ap (λ (k : ℕ). replicate k 0) (sym (c .before .before .before .before .zero-all2 .kept .0)))
 
--- src/lib.rt:66:5
 zero-all-requires-3 : tie.Need-zero-all-requires-3
 zero-all-requires-3 c κs = search needs
 
--- src/lib.rt:60:1
 same-length : tie.Need-same-length
 same-length c = search needs
 
--- src/lib.rt:60:1
 same-length-2 : tie.Need-same-length-2
 same-length-2 c = search needs
 
--- src/lib.rt:60:1
 returns : tie.Need-returns
 unfolding zeros
 returns c = ap (λ (l : List ℕ). builtOutcome (c .before .before .before .before .before .before .before .before .build-clear .result) l (c .before .before .before .before .before .before .before .before .build-clear .last .1 .1 .0)) (c .before .before .zero-all3 .ensures ∙ ap (λ (k : ℕ). replicate k 0) (c .before .before .before .before .before .before .before .before .build-clear .kept .1 .0)) ∙ c .before .before .before .before .before .before .before .before .build-clear .ensures ∙ (λ i. builderCall prime (c .before .before .before .before .before .before .before .before .before .before .before .before .before .before .before .before .before .before .before .before .before .before .args .s .now) (c .before .before .before .before .before .before .before .before .before .before .before .before .before .before .before .before .before .zero-all .kept .0 i) (c .before .before .before .before .before .before .before .before .before .before .before .before .before .zero-all2 .kept .0 i))

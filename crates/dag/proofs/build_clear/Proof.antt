@@ -12,40 +12,28 @@ use Rattle.dag.specs.Calls.{builtOutcome}
 use Rattle.dag.proofs.Outcomes.{clear-found, call-refused}
 use Rattle.dag.proofs.build_clear.Statement.{statement}
 use Rattle.dag.proofs.build_clear.Tie as tie
-use Rattle.dag.proofs.build_clear.Reads as reads
-use Rattle.dag.proofs.build_clear.Lts as lts
-use Rattle.dag.proofs.build_checked.Reads as build-checked-reads
-use Rattle.sheet.proofs.check_sheet.Reads as check-sheet-reads
 
--- src/lib.rt:53:11
 check-sheet-requires : tie.Need-check-sheet-requires
 check-sheet-requires c κs = search needs
 
--- src/lib.rt:54:24
 enum-known-head : tie.Need-enum-known-head
 enum-known-head c = search needs
 
--- src/lib.rt:54:33
 build-checked-requires : tie.Need-build-checked-requires
 build-checked-requires c κs = let t = found (check prime (c .before .before .before .before .before .before .before .before .before .args .s .now)) (c .before .before .before .before .before .check-sheet .ensures) (c .before .before .before .head .given .1) in clear-found (c .before .before .before .before .before .before .before .before .before .args .s .now) (t .0) (t .1) _ _ (ap (λ (h : Head). h .records) (t .2)) (ap (λ (h : Head). h .words) (t .2)) (c .before .before .before .before .before .before .before .before .before .args .scratch .now) (c .before .before .before .before .before .before .before .before .before .args .out .now) (c .before .before .before .before .before .before .before .before .before .pre .0) (c .before .before .before .before .before .before .before .before .before .pre .1)
 
--- src/lib.rt:55:26
 enum-known-r : tie.Need-enum-known-r
 enum-known-r c = search needs
 
--- src/lib.rt:49:1
 same-length : tie.Need-same-length
 same-length c = search needs
 
--- src/lib.rt:49:1
 same-length-2 : tie.Need-same-length-2
 same-length-2 c = search needs
 
--- src/lib.rt:49:1
 returns : tie.Need-returns
 returns c = search needs
 
--- src/lib.rt:49:1
 returns-2 : tie.Need-returns-2
 returns-2 c = ap (builtOutcome (Refused (c .before .r .given .0 .0)) (zeros (length (c .before .before .before .before .before .before .before .args .scratch .now)))) (c .before .before .before .before .before .before .before .pre .1) ∙ call-refused (c .before .before .before .before .before .before .before .args .s .now) (length (c .before .before .before .before .before .before .before .args .scratch .now)) (length (c .before .before .before .before .before .before .before .args .out .now)) (c .before .before .before .check-sheet .ensures) (c .before .r .given .1)
 

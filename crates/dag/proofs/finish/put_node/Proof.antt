@@ -9,34 +9,25 @@ use Rattle.dag.specs.Memory.{put, chosen, Wanted}
 use Rattle.dag.proofs.Sweeps.{put-none, put-one}
 use Rattle.dag.proofs.finish.put_node.Statement.{statement}
 use Rattle.dag.proofs.finish.put_node.Tie as tie
-use Rattle.dag.proofs.finish.put_node.Reads as reads
-use Rattle.dag.proofs.finish.put_node.Lts as lts
 
--- src/finish.rt:70:9
 returns : tie.Need-returns
 returns c = let e = not-true (c .before .args .wanted) (c .if1 .taken) in (sym (ap (λ (b : Bool). put (c .before .args .out .now) (c .before .args .at) (chosen b (c .before .args .node))) e ∙ put-none (c .before .args .out .now) (c .before .args .at)), sym (ap (λ (b : Bool). (c .before .args .at) + length (chosen b (c .before .args .node))) e ∙ add-zero (c .before .args .at)))
 
--- src/finish.rt:72:15
 cast-out : tie.Need-cast-out
 cast-out c = search needs
 
--- src/finish.rt:72:5
 mul-out : tie.Need-mul-out
 mul-out c = let h : (c .before .args .at) < length (c .before .args .out .now) = subst (λ (b : Bool). Wanted b (c .before .args .at) (c .before .args .out .now)) (not-false (c .before .args .wanted) (c .if1 .left)) (c .before .pre .1) in search needs
 
--- src/finish.rt:72:5
 slice-write-out : tie.Need-slice-write-out
 slice-write-out c = subst (λ (b : Bool). Wanted b (c .before .args .at) (c .before .args .out .now)) (not-false (c .before .args .wanted) (c .if1 .left)) (c .before .pre .1)
 
--- src/finish.rt:73:5
 add-result : tie.Need-add-result
 add-result c = let h : (c .before .args .at) < length (c .before .args .out .now) = subst (λ (b : Bool). Wanted b (c .before .args .at) (c .before .args .out .now)) (not-false (c .before .args .wanted) (c .if1 .left)) (c .before .pre .1) in search needs
 
--- src/finish.rt:65:1
 same-length : tie.Need-same-length
 same-length c = search needs
 
--- src/finish.rt:65:1
 returns-2 : tie.Need-returns-2
 returns-2 c = let e = not-false (c .before .args .wanted) (c .if1 .left) in let h : (c .before .args .at) < length (c .before .args .out .now) = subst (λ (b : Bool). Wanted b (c .before .args .at) (c .before .args .out .now)) e (c .before .pre .1) in (put-one (c .before .args .out .now) (c .before .args .at) (c .before .args .node) h ∙ ap (λ (b : Bool). put (c .before .args .out .now) (c .before .args .at) (chosen b (c .before .args .node))) (sym e), ap (λ (b : Bool). (c .before .args .at) + length (chosen b (c .before .args .node))) (sym e))
 

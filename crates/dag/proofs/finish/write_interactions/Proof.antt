@@ -8,10 +8,6 @@ use Rattle.dag.specs.Memory.{put}
 use Rattle.dag.proofs.Naming.{Written, written-none, out-length, next-interaction, next-room, written-more, written-done}
 use Rattle.dag.proofs.finish.write_interactions.Statement.{statement}
 use Rattle.dag.proofs.finish.write_interactions.Tie as tie
-use Rattle.dag.proofs.finish.write_interactions.Reads as reads
-use Rattle.dag.proofs.finish.write_interactions.Lts as lts
-use Rattle.dag.proofs.nodes.wide.Reads as wide-reads
-use Rattle.dag.proofs.finish.write_interaction.Reads as write-interaction-reads
 
 abbrev Inv-loop : tie.InvT-loop
 Inv-loop sheet at count scratch out₀ to from₀ next₀ i₀ out from next i = Written sheet scratch at count out₀ to out from next i
@@ -19,55 +15,42 @@ Inv-loop sheet at count scratch out₀ to from₀ next₀ i₀ out from next i =
 abbrev μ-loop : tie.MeasureT-loop
 μ-loop sheet at count scratch out₀ to from₀ next₀ i₀ out from next i = count - i
 
--- src/finish.rt:127:5
 loop-holds : tie.Need-loop-holds Inv-loop μ-loop
 loop-holds c = written-none (c .before .before .before .args .sheet .now) (c .before .before .before .args .scratch .now) (c .before .before .before .args .at) (c .before .before .before .args .count) (c .before .before .before .args .out .now) (c .before .before .before .args .to) (c .before .before .before .pre .0) (c .before .before .before .pre .1)
 
--- src/finish.rt:128:34
 add-wide : tie.Need-add-wide Inv-loop μ-loop
 add-wide c = omega (arith, next-interaction (c .before .before .before .before .before .args .sheet .now) (c .before .before .before .before .before .args .scratch .now) (c .before .before .before .before .before .args .at) (c .before .before .before .before .before .args .count) (c .before .before .before .before .before .args .out .now) (c .before .before .before .before .before .args .to) (c .before .before .before .before .before .pre .0) (c .before .before .before .before .before .pre .1) (c .before .loop .out) (c .before .loop .from) (c .before .loop .next) (c .before .loop .i) (c .before .loop .inv) (omega arith) .inside)
 
--- src/finish.rt:128:28
 mul-wide : tie.Need-mul-wide Inv-loop μ-loop
 mul-wide c = let h : c .before .loop .from + 3 < length (c .before .before .before .before .before .args .sheet .now) = omega (arith, next-interaction (c .before .before .before .before .before .args .sheet .now) (c .before .before .before .before .before .args .scratch .now) (c .before .before .before .before .before .args .at) (c .before .before .before .before .before .args .count) (c .before .before .before .before .before .args .out .now) (c .before .before .before .before .before .args .to) (c .before .before .before .before .before .pre .0) (c .before .before .before .before .before .pre .1) (c .before .loop .out) (c .before .loop .from) (c .before .loop .next) (c .before .loop .i) (c .before .loop .inv) (omega arith) .inside) in search needs
 
--- src/finish.rt:128:28
 shared-slice-read-wide : tie.Need-shared-slice-read-wide Inv-loop μ-loop
 shared-slice-read-wide c = omega (arith, next-interaction (c .before .before .before .before .before .before .args .sheet .now) (c .before .before .before .before .before .before .args .scratch .now) (c .before .before .before .before .before .before .args .at) (c .before .before .before .before .before .before .args .count) (c .before .before .before .before .before .before .args .out .now) (c .before .before .before .before .before .before .args .to) (c .before .before .before .before .before .before .pre .0) (c .before .before .before .before .before .before .pre .1) (c .before .before .loop .out) (c .before .before .loop .from) (c .before .before .loop .next) (c .before .before .loop .i) (c .before .before .loop .inv) (omega arith) .inside)
 
--- src/finish.rt:128:13
 wide-requires : tie.Need-wide-requires Inv-loop μ-loop
 wide-requires c κs = search needs
 
--- src/finish.rt:129:13
 write-interaction-requires : tie.Need-write-interaction-requires Inv-loop μ-loop
 write-interaction-requires c κs = (next-interaction (c .before .before .before .before .before .before .before .before .args .sheet .now) (c .before .before .before .before .before .before .before .before .args .scratch .now) (c .before .before .before .before .before .before .before .before .args .at) (c .before .before .before .before .before .before .before .before .args .count) (c .before .before .before .before .before .before .before .before .args .out .now) (c .before .before .before .before .before .before .before .before .args .to) (c .before .before .before .before .before .before .before .before .pre .0) (c .before .before .before .before .before .before .before .before .pre .1) (c .before .before .before .before .loop .out) (c .before .before .before .before .loop .from) (c .before .before .before .before .loop .next) (c .before .before .before .before .loop .i) (c .before .before .before .before .loop .inv) (omega arith), next-room (c .before .before .before .before .before .before .before .before .args .sheet .now) (c .before .before .before .before .before .before .before .before .args .scratch .now) (c .before .before .before .before .before .before .before .before .args .at) (c .before .before .before .before .before .before .before .before .args .count) (c .before .before .before .before .before .before .before .before .args .out .now) (c .before .before .before .before .before .before .before .before .args .to) (c .before .before .before .before .before .before .before .before .pre .0) (c .before .before .before .before .before .before .before .before .pre .1) (c .before .before .before .before .loop .out) (c .before .before .before .before .loop .from) (c .before .before .before .before .loop .next) (c .before .before .before .before .loop .i) (c .before .before .before .before .loop .inv) (omega arith))
 
--- src/finish.rt:131:16
 add-from : tie.Need-add-from Inv-loop μ-loop
 add-from c = let h : c .before .before .before .before .before .before .before .loop .from + (4 + c .before .before .before .before .wide .result) ≤ length (c .before .before .before .before .before .before .before .before .before .before .before .args .sheet .now) = omega (arith, c .before .before .before .before .wide .ensures, next-interaction (c .before .before .before .before .before .before .before .before .before .before .before .args .sheet .now) (c .before .before .before .before .before .before .before .before .before .before .before .args .scratch .now) (c .before .before .before .before .before .before .before .before .before .before .before .args .at) (c .before .before .before .before .before .before .before .before .before .before .before .args .count) (c .before .before .before .before .before .before .before .before .before .before .before .args .out .now) (c .before .before .before .before .before .before .before .before .before .before .before .args .to) (c .before .before .before .before .before .before .before .before .before .before .before .pre .0) (c .before .before .before .before .before .before .before .before .before .before .before .pre .1) (c .before .before .before .before .before .before .before .loop .out) (c .before .before .before .before .before .before .before .loop .from) (c .before .before .before .before .before .before .before .loop .next) (c .before .before .before .before .before .before .before .loop .i) (c .before .before .before .before .before .before .before .loop .inv) (omega arith) .inside) in search needs
 
--- src/finish.rt:131:16
 add-from-2 : tie.Need-add-from-2 Inv-loop μ-loop
 add-from-2 c = let h : c .before .before .before .before .before .before .before .loop .from + (4 + c .before .before .before .before .wide .result) ≤ length (c .before .before .before .before .before .before .before .before .before .before .before .args .sheet .now) = omega (arith, c .before .before .before .before .wide .ensures, next-interaction (c .before .before .before .before .before .before .before .before .before .before .before .args .sheet .now) (c .before .before .before .before .before .before .before .before .before .before .before .args .scratch .now) (c .before .before .before .before .before .before .before .before .before .before .before .args .at) (c .before .before .before .before .before .before .before .before .before .before .before .args .count) (c .before .before .before .before .before .before .before .before .before .before .before .args .out .now) (c .before .before .before .before .before .before .before .before .before .before .before .args .to) (c .before .before .before .before .before .before .before .before .before .before .before .pre .0) (c .before .before .before .before .before .before .before .before .before .before .before .pre .1) (c .before .before .before .before .before .before .before .loop .out) (c .before .before .before .before .before .before .before .loop .from) (c .before .before .before .before .before .before .before .loop .next) (c .before .before .before .before .before .before .before .loop .i) (c .before .before .before .before .before .before .before .loop .inv) (omega arith) .inside) in search needs
 
--- src/finish.rt:132:9
 add-i : tie.Need-add-i Inv-loop μ-loop
 add-i c = search needs
 
--- src/finish.rt:127:5
 loop-less : tie.Need-loop-less Inv-loop μ-loop
 loop-less c = search needs
 
--- src/finish.rt:127:5
 loop-again : tie.Need-loop-again Inv-loop μ-loop
 loop-again c = written-more (c .before .before .before .before .before .before .before .before .before .before .before .args .sheet .now) (c .before .before .before .before .before .before .before .before .before .before .before .args .scratch .now) (c .before .before .before .before .before .before .before .before .before .before .before .args .at) (c .before .before .before .before .before .before .before .before .before .before .before .args .count) (c .before .before .before .before .before .before .before .before .before .before .before .args .out .now) (c .before .before .before .before .before .before .before .before .before .before .before .args .to) (c .before .before .before .before .before .before .before .before .before .before .before .pre .0) (c .before .before .before .before .before .before .before .before .before .before .before .pre .1) (c .before .before .before .before .before .before .before .loop .out) (c .before .before .before .before .before .before .before .loop .from) (c .before .before .before .before .before .before .before .loop .next) (c .before .before .before .before .before .before .before .loop .i) (c .before .before .before .before .before .before .before .loop .inv) (omega arith) _ _ _ (c .before .before .write-interaction .ensures .0) (c .before .before .write-interaction .ensures .1) (omega (arith, c .before .before .before .before .wide .ensures))
 
--- src/finish.rt:120:1
 same-length : tie.Need-same-length Inv-loop μ-loop
 same-length c = out-length (c .before .before .before .before .before .args .sheet .now) (c .before .before .before .before .before .args .scratch .now) (c .before .before .before .before .before .args .at) (c .before .before .before .before .before .args .count) (c .before .before .before .before .before .args .out .now) (c .before .before .before .before .before .args .to) (c .before .before .before .before .before .pre .0) (c .before .before .before .before .before .pre .1) (c .before .loop .out) (c .before .loop .from) (c .before .loop .next) (c .before .loop .i) (c .before .loop .inv)
 
--- src/finish.rt:120:1
 returns : tie.Need-returns Inv-loop μ-loop
 returns c = (c .before .loop .inv .out-is ∙ ap (put (c .before .before .before .before .before .args .out .now) (c .before .before .before .before .before .args .to)) (written-done (c .before .before .before .before .before .args .sheet .now) (c .before .before .before .before .before .args .scratch .now) (c .before .before .before .before .before .args .at) (c .before .before .before .before .before .args .count) (c .before .before .before .before .before .args .out .now) (c .before .before .before .before .before .args .to) (c .before .loop .out) (c .before .loop .from) (c .before .loop .next) (c .before .loop .i) (c .before .loop .inv) (c .loop-test .left)), c .before .loop .inv .next-is ∙ ap (λ (l : List ℕ). (c .before .before .before .before .before .args .to) + length l) (written-done (c .before .before .before .before .before .args .sheet .now) (c .before .before .before .before .before .args .scratch .now) (c .before .before .before .before .before .args .at) (c .before .before .before .before .before .args .count) (c .before .before .before .before .before .args .out .now) (c .before .before .before .before .before .args .to) (c .before .loop .out) (c .before .loop .from) (c .before .loop .next) (c .before .loop .i) (c .before .loop .inv) (c .loop-test .left)))
 

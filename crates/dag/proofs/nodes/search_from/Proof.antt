@@ -4,51 +4,37 @@ use Rattle.dag.specs.Picks.{fiveWords}
 use Rattle.dag.proofs.Searches.{from-flat, from-neg, from-left, from-right}
 use Rattle.dag.proofs.nodes.search_from.Statement.{statement}
 use Rattle.dag.proofs.nodes.search_from.Tie as tie
-use Rattle.dag.proofs.nodes.search_from.Reads as reads
-use Rattle.dag.proofs.nodes.search_from.Lts as lts
-use Rattle.dag.proofs.nodes.wide.Reads as wide-reads
 
--- src/nodes.rt:69:9
 returns : tie.Need-returns
 returns c = from-flat (fiveWords (c .before .before .args .r)) (λ h. omega (arith, c .if1 .taken))
 
--- src/nodes.rt:72:9
 returns-2 : tie.Need-returns-2
 returns-2 c = from-flat (fiveWords (c .before .before .before .before .args .r)) (λ h. c .if2 .taken)
 
--- src/nodes.rt:75:16
 wide-requires : tie.Need-wide-requires
 wide-requires c κs = search needs
 
--- src/nodes.rt:75:16
 add-result : tie.Need-add-result
 add-result c = search needs
 
--- src/nodes.rt:75:9
 returns-3 : tie.Need-returns-3
 returns-3 c = from-neg (fiveWords (c .before .before .before .before .before .before .before .args .r)) (c .before .if3 .taken) _ (c .wide .ensures)
 
--- src/nodes.rt:78:16
 wide-requires-2 : tie.Need-wide-requires-2
 wide-requires-2 c κs = search needs
 
--- src/nodes.rt:78:16
 add-result-2 : tie.Need-add-result-2
 add-result-2 c = search needs
 
--- src/nodes.rt:78:9
 returns-4 : tie.Need-returns-4
 returns-4 c = from-right (fiveWords (c .before .before .before .before .before .before .before .before .before .args .r)) (omega (arith, c .before .before .before .before .before .before .before .if1 .left)) (omega (arith, c .before .before .before .before .before .if2 .left)) (c .before .before .before .if3 .left) (c .before .if4 .taken) _ (c .wide2 .ensures)
 
--- src/nodes.rt:80:5
 wide-requires-3 : tie.Need-wide-requires-3
 wide-requires-3 c κs = search needs
 
--- src/nodes.rt:80:5
 add-result-3 : tie.Need-add-result-3
 add-result-3 c = search needs
 
--- src/nodes.rt:65:1
 returns-5 : tie.Need-returns-5
 returns-5 c = from-left (fiveWords (c .before .before .before .before .before .before .before .before .before .args .r)) (omega (arith, c .before .before .before .before .before .before .before .if1 .left)) (omega (arith, c .before .before .before .before .before .if2 .left)) (c .before .before .before .if3 .left) (omega (arith, c .before .if4 .left)) _ (c .wide3 .ensures)
 

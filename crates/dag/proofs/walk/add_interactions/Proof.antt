@@ -5,10 +5,6 @@ use lib.ListN.{length}
 use Rattle.dag.proofs.Rooting.{Rooting, rooting-none, rooting-walking, rooting-length, rooting-done, next-roots, rooting-more}
 use Rattle.dag.proofs.walk.add_interactions.Statement.{statement}
 use Rattle.dag.proofs.walk.add_interactions.Tie as tie
-use Rattle.dag.proofs.walk.add_interactions.Reads as reads
-use Rattle.dag.proofs.walk.add_interactions.Lts as lts
-use Rattle.dag.proofs.walk.add_interaction.Reads as add-interaction-reads
-use Rattle.dag.proofs.nodes.wide.Reads as wide-reads
 
 abbrev Inv-loop : tie.InvT-loop
 Inv-loop sheet at count scratch₀ out₀ n used₀ from₀ i₀ scratch out used from i = Rooting sheet at count scratch₀ out₀ n scratch out used from i
@@ -16,59 +12,45 @@ Inv-loop sheet at count scratch₀ out₀ n used₀ from₀ i₀ scratch out use
 abbrev μ-loop : tie.MeasureT-loop
 μ-loop sheet at count scratch₀ out₀ n used₀ from₀ i₀ scratch out used from i = count - i
 
--- src/walk.rt:152:5
 loop-holds : tie.Need-loop-holds Inv-loop μ-loop
 loop-holds c = rooting-none (c .before .before .before .args .sheet .now) (c .before .before .before .args .at) (c .before .before .before .args .count) (c .before .before .before .args .scratch .now) (c .before .before .before .args .out .now) (c .before .before .before .args .n) (c .before .before .before .pre .0) (c .before .before .before .pre .1)
 
--- src/walk.rt:153:34
 add-wide : tie.Need-add-wide Inv-loop μ-loop
 add-wide c = let h : c .before .loop .from + 4 ≤ length (c .before .before .before .before .before .args .sheet .now) = omega (arith, (next-roots (c .before .before .before .before .before .args .sheet .now) (c .before .before .before .before .before .args .at) (c .before .before .before .before .before .args .count) (c .before .before .before .before .before .args .scratch .now) (c .before .before .before .before .before .args .out .now) (c .before .before .before .before .before .args .n) (c .before .before .before .before .before .pre .0) (c .before .loop .scratch) (c .before .loop .out) (c .before .loop .used) (c .before .loop .from) (c .before .loop .i) (c .before .loop .inv) (omega arith)) .inside) in search needs
 
--- src/walk.rt:153:28
 mul-wide : tie.Need-mul-wide Inv-loop μ-loop
 mul-wide c = let h : c .before .loop .from + 4 ≤ length (c .before .before .before .before .before .args .sheet .now) = omega (arith, (next-roots (c .before .before .before .before .before .args .sheet .now) (c .before .before .before .before .before .args .at) (c .before .before .before .before .before .args .count) (c .before .before .before .before .before .args .scratch .now) (c .before .before .before .before .before .args .out .now) (c .before .before .before .before .before .args .n) (c .before .before .before .before .before .pre .0) (c .before .loop .scratch) (c .before .loop .out) (c .before .loop .used) (c .before .loop .from) (c .before .loop .i) (c .before .loop .inv) (omega arith)) .inside) in search needs
 
--- src/walk.rt:153:28
 shared-slice-read-wide : tie.Need-shared-slice-read-wide Inv-loop μ-loop
 shared-slice-read-wide c = omega (arith, (next-roots (c .before .before .before .before .before .before .args .sheet .now) (c .before .before .before .before .before .before .args .at) (c .before .before .before .before .before .before .args .count) (c .before .before .before .before .before .before .args .scratch .now) (c .before .before .before .before .before .before .args .out .now) (c .before .before .before .before .before .before .args .n) (c .before .before .before .before .before .before .pre .0) (c .before .before .loop .scratch) (c .before .before .loop .out) (c .before .before .loop .used) (c .before .before .loop .from) (c .before .before .loop .i) (c .before .before .loop .inv) (omega arith)) .inside)
 
--- src/walk.rt:153:13
 wide-requires : tie.Need-wide-requires Inv-loop μ-loop
 wide-requires c κs = search needs
 
--- src/walk.rt:154:9
 add-interaction-requires : tie.Need-add-interaction-requires Inv-loop μ-loop
 add-interaction-requires c κs = (rooting-walking (c .before .before .before .before .before .before .before .before .before .args .sheet .now) (c .before .before .before .before .before .before .before .before .before .args .at) (c .before .before .before .before .before .before .before .before .before .args .count) (c .before .before .before .before .before .before .before .before .before .args .scratch .now) (c .before .before .before .before .before .before .before .before .before .args .out .now) (c .before .before .before .before .before .before .before .before .before .args .n) (c .before .before .before .before .before .before .before .before .before .pre .0) (c .before .before .before .before .before .loop .scratch) (c .before .before .before .before .before .loop .out) (c .before .before .before .before .before .loop .used) (c .before .before .before .before .before .loop .from) (c .before .before .before .before .before .loop .i) (c .before .before .before .before .before .loop .inv), (next-roots (c .before .before .before .before .before .before .before .before .before .args .sheet .now) (c .before .before .before .before .before .before .before .before .before .args .at) (c .before .before .before .before .before .before .before .before .before .args .count) (c .before .before .before .before .before .before .before .before .before .args .scratch .now) (c .before .before .before .before .before .before .before .before .before .args .out .now) (c .before .before .before .before .before .before .before .before .before .args .n) (c .before .before .before .before .before .before .before .before .before .pre .0) (c .before .before .before .before .before .loop .scratch) (c .before .before .before .before .before .loop .out) (c .before .before .before .before .before .loop .used) (c .before .before .before .before .before .loop .from) (c .before .before .before .before .before .loop .i) (c .before .before .before .before .before .loop .inv) (omega arith)))
 
--- src/walk.rt:155:16
 add-from : tie.Need-add-from Inv-loop μ-loop
 add-from c = let h : c .before .before .before .before .before .before .before .before .before .before .loop .from + (4 + c .before .before .before .before .before .before .before .wide .result) ≤ length (c .before .before .before .before .before .before .before .before .before .before .before .before .before .before .args .sheet .now) = omega (arith, c .before .before .before .before .before .before .before .wide .ensures, (next-roots (c .before .before .before .before .before .before .before .before .before .before .before .before .before .before .args .sheet .now) (c .before .before .before .before .before .before .before .before .before .before .before .before .before .before .args .at) (c .before .before .before .before .before .before .before .before .before .before .before .before .before .before .args .count) (c .before .before .before .before .before .before .before .before .before .before .before .before .before .before .args .scratch .now) (c .before .before .before .before .before .before .before .before .before .before .before .before .before .before .args .out .now) (c .before .before .before .before .before .before .before .before .before .before .before .before .before .before .args .n) (c .before .before .before .before .before .before .before .before .before .before .before .before .before .before .pre .0) (c .before .before .before .before .before .before .before .before .before .before .loop .scratch) (c .before .before .before .before .before .before .before .before .before .before .loop .out) (c .before .before .before .before .before .before .before .before .before .before .loop .used) (c .before .before .before .before .before .before .before .before .before .before .loop .from) (c .before .before .before .before .before .before .before .before .before .before .loop .i) (c .before .before .before .before .before .before .before .before .before .before .loop .inv) (omega arith)) .inside) in search needs
 
--- src/walk.rt:155:16
 add-from-2 : tie.Need-add-from-2 Inv-loop μ-loop
 add-from-2 c = let h : c .before .before .before .before .before .before .before .before .before .before .loop .from + (4 + c .before .before .before .before .before .before .before .wide .result) ≤ length (c .before .before .before .before .before .before .before .before .before .before .before .before .before .before .args .sheet .now) = omega (arith, c .before .before .before .before .before .before .before .wide .ensures, (next-roots (c .before .before .before .before .before .before .before .before .before .before .before .before .before .before .args .sheet .now) (c .before .before .before .before .before .before .before .before .before .before .before .before .before .before .args .at) (c .before .before .before .before .before .before .before .before .before .before .before .before .before .before .args .count) (c .before .before .before .before .before .before .before .before .before .before .before .before .before .before .args .scratch .now) (c .before .before .before .before .before .before .before .before .before .before .before .before .before .before .args .out .now) (c .before .before .before .before .before .before .before .before .before .before .before .before .before .before .args .n) (c .before .before .before .before .before .before .before .before .before .before .before .before .before .before .pre .0) (c .before .before .before .before .before .before .before .before .before .before .loop .scratch) (c .before .before .before .before .before .before .before .before .before .before .loop .out) (c .before .before .before .before .before .before .before .before .before .before .loop .used) (c .before .before .before .before .before .before .before .before .before .before .loop .from) (c .before .before .before .before .before .before .before .before .before .before .loop .i) (c .before .before .before .before .before .before .before .before .before .before .loop .inv) (omega arith)) .inside) in search needs
 
--- src/walk.rt:156:9
 add-i : tie.Need-add-i Inv-loop μ-loop
 add-i c = search needs
 
--- src/walk.rt:152:5
 loop-less : tie.Need-loop-less Inv-loop μ-loop
 loop-less c = search needs
 
--- src/walk.rt:152:5
 loop-again : tie.Need-loop-again Inv-loop μ-loop
 loop-again c = rooting-more (c .before .before .before .before .before .before .before .before .before .before .before .before .before .before .args .sheet .now) (c .before .before .before .before .before .before .before .before .before .before .before .before .before .before .args .at) (c .before .before .before .before .before .before .before .before .before .before .before .before .before .before .args .count) (c .before .before .before .before .before .before .before .before .before .before .before .before .before .before .args .scratch .now) (c .before .before .before .before .before .before .before .before .before .before .before .before .before .before .args .out .now) (c .before .before .before .before .before .before .before .before .before .before .before .before .before .before .args .n) (c .before .before .before .before .before .before .before .before .before .before .before .before .before .before .pre .0) (c .before .before .before .before .before .before .before .before .before .before .loop .scratch) (c .before .before .before .before .before .before .before .before .before .before .loop .out) (c .before .before .before .before .before .before .before .before .before .before .loop .used) (c .before .before .before .before .before .before .before .before .before .before .loop .from) (c .before .before .before .before .before .before .before .before .before .before .loop .i) (c .before .before .before .before .before .before .before .before .before .before .loop .inv) (omega arith) (c .before .before .before .before .add-interaction .last .1 .1 .0) (c .before .before .before .before .add-interaction .last .1 .1 .1 .0) (c .before .before .before .before .add-interaction .result) _ (omega (arith, c .before .before .before .before .before .before .before .wide .ensures)) (c .before .before .before .before .add-interaction .kept .1 .1 .1 .0) (c .before .before .before .before .add-interaction .ensures)
 
--- src/walk.rt:145:1
 same-length : tie.Need-same-length Inv-loop μ-loop
 same-length c = rooting-length (c .before .before .before .before .before .args .sheet .now) (c .before .before .before .before .before .args .at) (c .before .before .before .before .before .args .count) (c .before .before .before .before .before .args .scratch .now) (c .before .before .before .before .before .args .out .now) (c .before .before .before .before .before .args .n) (c .before .before .before .before .before .pre .0) (c .before .loop .scratch) (c .before .loop .out) (c .before .loop .used) (c .before .loop .from) (c .before .loop .i) (c .before .loop .inv)
 
--- src/walk.rt:145:1
 same-length-2 : tie.Need-same-length-2 Inv-loop μ-loop
 same-length-2 c = c .before .loop .inv .out-length
 
--- src/walk.rt:145:1
 returns : tie.Need-returns Inv-loop μ-loop
 returns c = rooting-done (c .before .before .before .before .before .args .sheet .now) (c .before .before .before .before .before .args .at) (c .before .before .before .before .before .args .count) (c .before .before .before .before .before .args .scratch .now) (c .before .before .before .before .before .args .out .now) (c .before .before .before .before .before .args .n) (c .before .before .before .before .before .pre .0) (c .before .loop .scratch) (c .before .loop .out) (c .before .loop .used) (c .before .loop .from) (c .before .loop .i) (c .before .loop .inv) (c .loop-test .left)
 

@@ -10,81 +10,58 @@ use Rattle.dag.proofs.Steps as steps
 use Rattle.dag.proofs.Adds.{few-records, present-small, made-small, room-more, search-inside, search-none}
 use Rattle.dag.proofs.walk.add_record.Statement.{statement}
 use Rattle.dag.proofs.walk.add_record.Tie as tie
-use Rattle.dag.proofs.walk.add_record.Reads as reads
-use Rattle.dag.proofs.walk.add_record.Lts as lts
-use Rattle.dag.proofs.nodes.intern_node.Reads as intern-node-reads
-use Rattle.dag.proofs.nodes.search_from.Reads as search-from-reads
-use Rattle.dag.proofs.walk.pick_node.Reads as pick-node-reads
 
--- src/walk.rt:84:11
 pick-node-requires : tie.Need-pick-node-requires
 pick-node-requires c κs = search needs
 
--- src/walk.rt:85:23
 enum-known-k : tie.Need-enum-known-k
 enum-known-k c = search needs
 
--- src/walk.rt:86:26
 add-scratch : tie.Need-add-scratch
 add-scratch c = let a = c .before .before .before .before .before .before .before .before .before .args in let p = c .before .before .before .before .before .before .before .before .before .pre in omega (arith, present-small (a .sheet .now) (p .ready .checked) (a .r) (p .ready .inside) (p .ready .done) (p .ready .order) (p .new) (p .there) (c .before .k .given .0 .0) (sym (ap pickOf (c .before .k .given .1)) ∙ c .before .before .before .pick-node .ensures (p .ready .done) (p .ready .order) (p .there) (a .n) (p .ready .holds)), few-records (a .sheet .now) (p .ready .checked))
 
--- src/walk.rt:86:13
 mul-scratch : tie.Need-mul-scratch
 mul-scratch c = search needs
 
--- src/walk.rt:86:13
 slice-write-scratch : tie.Need-slice-write-scratch
 slice-write-scratch c = let a = c .before .before .before .before .before .before .before .before .before .args in let p = c .before .before .before .before .before .before .before .before .before .pre in omega (arith, p .ready .inside, steps.scratch-length (a .sheet .now) (p .ready .done) (a .scratch .now) (a .out .now) (a .n) (p .ready .holds))
 
--- src/walk.rt:89:20
 enum-known-q : tie.Need-enum-known-q
 enum-known-q c = search needs
 
--- src/walk.rt:90:24
 search-from-requires : tie.Need-search-from-requires
 search-from-requires c κs = search needs
 
--- src/walk.rt:91:24
 intern-node-requires : tie.Need-intern-node-requires
 intern-node-requires c κs = let a = c .before .before .before .before .before .before .before .before .before .before .before .args in let p = c .before .before .before .before .before .before .before .before .before .before .before .pre in let q = fiveWords (c .before .before .before .q .given .0 .0) in let e = sym (ap pickOf (c .before .before .before .q .given .1)) ∙ c .before .before .before .before .before .pick-node .ensures (p .ready .done) (p .ready .order) (p .there) (a .n) (p .ready .holds) in (search-inside (a .sheet .now) (p .ready .checked) (a .r) (p .ready .inside) (p .ready .done) (p .ready .order) (p .new) (p .there) q e _ (c .before .search-from .ensures) (a .n) (p .ready .holds .count-is), room-more (a .sheet .now) (p .ready .checked) (a .r) (p .ready .inside) (p .ready .done) (p .ready .order) (p .new) (p .there) (a .scratch .now) (a .out .now) (a .n) (p .ready .holds) (p .ready .room))
 
--- src/walk.rt:91:26
 cast-scratch : tie.Need-cast-scratch
 cast-scratch c = let a = c .before .before .before .before .before .before .before .before .before .before .before .before .before .before .before .args in let p = c .before .before .before .before .before .before .before .before .before .before .before .before .before .before .before .pre in let q = fiveWords (c .before .before .before .before .before .before .before .q .given .0 .0) in let e = sym (ap pickOf (c .before .before .before .before .before .before .before .q .given .1)) ∙ c .before .before .before .before .before .before .before .before .before .pick-node .ensures (p .ready .done) (p .ready .order) (p .there) (a .n) (p .ready .holds) in let i = c .before .before .before .intern-node .ensures (builtOf (a .sheet .now) (p .ready .done) .nodes) (p .ready .holds .out-is) (p .ready .holds .count-is) (search-none (a .sheet .now) (p .ready .checked) (a .r) (p .ready .inside) (p .ready .done) (p .ready .order) (p .new) (p .there) q e _ (c .before .before .before .before .before .search-from .ensures)) in omega (arith, i .0, made-small (a .sheet .now) (p .ready .checked) (a .r) (p .ready .inside) (p .ready .done) (p .ready .order) (p .new) (p .there) q e, few-records (a .sheet .now) (p .ready .checked))
 
--- src/walk.rt:91:26
 add-scratch-2 : tie.Need-add-scratch-2
 add-scratch-2 c = let a = c .before .before .before .before .before .before .before .before .before .before .before .before .before .before .before .args in let p = c .before .before .before .before .before .before .before .before .before .before .before .before .before .before .before .pre in let q = fiveWords (c .before .before .before .before .before .before .before .q .given .0 .0) in let e = sym (ap pickOf (c .before .before .before .before .before .before .before .q .given .1)) ∙ c .before .before .before .before .before .before .before .before .before .pick-node .ensures (p .ready .done) (p .ready .order) (p .there) (a .n) (p .ready .holds) in let i = c .before .before .before .intern-node .ensures (builtOf (a .sheet .now) (p .ready .done) .nodes) (p .ready .holds .out-is) (p .ready .holds .count-is) (search-none (a .sheet .now) (p .ready .checked) (a .r) (p .ready .inside) (p .ready .done) (p .ready .order) (p .new) (p .there) q e _ (c .before .before .before .before .before .search-from .ensures)) in omega (arith, i .0, made-small (a .sheet .now) (p .ready .checked) (a .r) (p .ready .inside) (p .ready .done) (p .ready .order) (p .new) (p .there) q e, few-records (a .sheet .now) (p .ready .checked))
 
--- src/walk.rt:91:13
 mul-scratch-2 : tie.Need-mul-scratch-2
 mul-scratch-2 c = search needs
 
--- src/walk.rt:91:13
 slice-write-scratch-2 : tie.Need-slice-write-scratch-2
 slice-write-scratch-2 c = let a = c .before .before .before .before .before .before .before .before .before .before .before .before .before .before .before .args in let p = c .before .before .before .before .before .before .before .before .before .before .before .before .before .before .before .pre in omega (arith, p .ready .inside, steps.scratch-length (a .sheet .now) (p .ready .done) (a .scratch .now) (a .out .now) (a .n) (p .ready .holds))
 
--- src/walk.rt:80:1
 same-length : tie.Need-same-length
 same-length c = search needs
 
--- src/walk.rt:80:1
 same-length-2 : tie.Need-same-length-2
 same-length-2 c = search needs
 
--- src/walk.rt:80:1
 returns : tie.Need-returns
 returns c = λ done o new there h. let a = c .before .before .before .before .before .before .before .before .before .args in let p = c .before .before .before .before .before .before .before .before .before .pre in subst (λ (j : ℕ). Holds (a .sheet .now) (a .r ∷ done) (set (a .scratch .now) (a .r) j) (a .out .now) (a .n)) (omega arith) (steps.holds-present (a .sheet .now) done (a .scratch .now) (a .out .now) (a .n) h (a .r) (p .ready .inside) (c .before .k .given .0 .0) (sym (sym (ap pickOf (c .before .k .given .1)) ∙ c .before .before .before .pick-node .ensures done o there (a .n) h)))
 
--- src/walk.rt:80:1
 same-length-3 : tie.Need-same-length-3
 same-length-3 c = search needs
 
--- src/walk.rt:80:1
 same-length-4 : tie.Need-same-length-4
 same-length-4 c = search needs
 
--- src/walk.rt:80:1
 returns-2 : tie.Need-returns-2
 returns-2 c = λ done o new there h. let a = c .before .before .before .before .before .before .before .before .before .before .before .before .before .before .before .args in let p = c .before .before .before .before .before .before .before .before .before .before .before .before .before .before .before .pre in let q = fiveWords (c .before .before .before .before .before .before .before .q .given .0 .0) in let e = sym (ap pickOf (c .before .before .before .before .before .before .before .q .given .1)) ∙ c .before .before .before .before .before .before .before .before .before .pick-node .ensures done o there (a .n) h in let v = c .before .before .before .intern-node in let i = v .ensures (builtOf (a .sheet .now) done .nodes) (h .out-is) (h .count-is) (search-none (a .sheet .now) (p .ready .checked) (a .r) (p .ready .inside) done o new there q e _ (c .before .before .before .before .before .search-from .ensures)) in subst (λ (j : ℕ). Holds (a .sheet .now) (a .r ∷ done) (set (a .scratch .now) (a .r) j) (v .last .0) (v .result .count)) (omega arith) (steps.holds-made (a .sheet .now) done (a .scratch .now) (a .out .now) (a .n) h (a .r) (p .ready .inside) q (sym e) (v .last .0) (v .result .index) (v .result .count) (v .kept .0) (i .0) (i .1) (i .2))
 
