@@ -17,7 +17,10 @@ zero-all-requires-2 c κs = search needs
 
 build-clear-requires : tie.Need-build-clear-requires
 unfolding zeros
-build-clear-requires c κs = (c .before .before .before .before .before .before .before .before .zero-all .ensures ∙ ap (λ (k : ℕ). replicate k 0) (sym (c .before .before .before .before .before .before .before .before .zero-all .kept .0)), c .before .before .before .before .zero-all2 .ensures ∙ ap (λ (k : ℕ). replicate k 0) (sym (c .before .before .before .before .zero-all2 .kept .0)))
+build-clear-requires c κs =
+    let zero-all = c .before .before .before .before .before .before .before .before .zero-all in
+    let zero-all2 = c .before .before .before .before .zero-all2 in
+    (zero-all .ensures ∙ ap (λ (k : ℕ). replicate k 0) (sym (zero-all .kept .0)), zero-all2 .ensures ∙ ap (λ (k : ℕ). replicate k 0) (sym (zero-all2 .kept .0)))
 
 zero-all-requires-3 : tie.Need-zero-all-requires-3
 zero-all-requires-3 c κs = search needs
@@ -30,7 +33,9 @@ same-length-2 c = search needs
 
 returns : tie.Need-returns
 unfolding zeros
-returns c = ap (λ (l : List ℕ). builtOutcome (c .before .before .before .before .before .before .before .before .build-clear .result) l (c .before .before .before .before .before .before .before .before .build-clear .last .1 .1 .0)) (c .before .before .zero-all3 .ensures ∙ ap (λ (k : ℕ). replicate k 0) (c .before .before .before .before .before .before .before .before .build-clear .kept .1 .0)) ∙ c .before .before .before .before .before .before .before .before .build-clear .ensures ∙ (λ i. builderCall prime (c .before .before .before .before .before .before .before .before .before .before .before .before .before .before .before .before .before .before .before .before .before .before .args .s .now) (c .before .before .before .before .before .before .before .before .before .before .before .before .before .before .before .before .before .zero-all .kept .0 i) (c .before .before .before .before .before .before .before .before .before .before .before .before .before .zero-all2 .kept .0 i))
+returns c =
+    let build-clear = c .before .before .before .before .before .before .before .before .build-clear in
+    ap (λ (l : List ℕ). builtOutcome (build-clear .result) l (build-clear .last .1 .1 .0)) (c .before .before .zero-all3 .ensures ∙ ap (λ (k : ℕ). replicate k 0) (build-clear .kept .1 .0)) ∙ build-clear .ensures ∙ (λ i. builderCall prime (c .before .before .before .before .before .before .before .before .before .before .before .before .before .before .before .before .before .before .before .before .before .before .args .s .now) (c .before .before .before .before .before .before .before .before .before .before .before .before .before .before .before .before .before .zero-all .kept .0 i) (c .before .before .before .before .before .before .before .before .before .before .before .before .before .zero-all2 .kept .0 i))
 
 pub build-spec : {M : Type 1} → statement M
 build-spec =

@@ -20,7 +20,11 @@ enum-known-head : tie.Need-enum-known-head
 enum-known-head c = search needs
 
 build-checked-requires : tie.Need-build-checked-requires
-build-checked-requires c κs = let t = found (check prime (c .before .before .before .before .before .before .before .before .before .args .s .now)) (c .before .before .before .before .before .check-sheet .ensures) (c .before .before .before .head .given .1) in clear-found (c .before .before .before .before .before .before .before .before .before .args .s .now) (t .0) (t .1) _ _ (ap (λ (h : Head). h .records) (t .2)) (ap (λ (h : Head). h .words) (t .2)) (c .before .before .before .before .before .before .before .before .before .args .scratch .now) (c .before .before .before .before .before .before .before .before .before .args .out .now) (c .before .before .before .before .before .before .before .before .before .pre .0) (c .before .before .before .before .before .before .before .before .before .pre .1)
+build-checked-requires c κs =
+    let a = c .before .before .before .before .before .before .before .before .before .args in
+    let p = c .before .before .before .before .before .before .before .before .before .pre in
+    let t = found (check prime (a .s .now)) (c .before .before .before .before .before .check-sheet .ensures) (c .before .before .before .head .given .1) in
+    clear-found (a .s .now) (t .0) (t .1) _ _ (ap (λ (h : Head). h .records) (t .2)) (ap (λ (h : Head). h .words) (t .2)) (a .scratch .now) (a .out .now) (p .0) (p .1)
 
 enum-known-r : tie.Need-enum-known-r
 enum-known-r c = search needs
@@ -35,7 +39,10 @@ returns : tie.Need-returns
 returns c = search needs
 
 returns-2 : tie.Need-returns-2
-returns-2 c = ap (builtOutcome (Refused (c .before .r .given .0 .0)) (zeros (length (c .before .before .before .before .before .before .before .args .scratch .now)))) (c .before .before .before .before .before .before .before .pre .1) ∙ call-refused (c .before .before .before .before .before .before .before .args .s .now) (length (c .before .before .before .before .before .before .before .args .scratch .now)) (length (c .before .before .before .before .before .before .before .args .out .now)) (c .before .before .before .check-sheet .ensures) (c .before .r .given .1)
+returns-2 c =
+    let a = c .before .before .before .before .before .before .before .args in
+    let r = c .before .r in
+    ap (builtOutcome (Refused (r .given .0 .0)) (zeros (length (a .scratch .now)))) (c .before .before .before .before .before .before .before .pre .1) ∙ call-refused (a .s .now) (length (a .scratch .now)) (length (a .out .now)) (c .before .before .before .check-sheet .ensures) (r .given .1)
 
 pub build-clear-spec : {M : Type 1} → statement M
 build-clear-spec =

@@ -17,7 +17,9 @@ slice-read-word c = search needs
 
 returns : tie.Need-returns
 unfolding flagWord
-returns c = sym (ap (λ (b : Bool). set (c .before .before .args .scratch .now) (c .before .before .args .node) (cond b (getD (c .before .before .args .scratch .now) (c .before .before .args .node) 0) (getD (c .before .before .args .scratch .now) (c .before .before .args .node) 0 + 65536))) (le-leb 65536 (getD (c .before .before .args .scratch .now) (c .before .before .args .node) 0) (c .if1 .taken)) ∙ set-getD (c .before .before .args .scratch .now) (c .before .before .args .node) 0)
+returns c =
+    let a = c .before .before .args in
+    sym (ap (λ (b : Bool). set (a .scratch .now) (a .node) (cond b (getD (a .scratch .now) (a .node) 0) (getD (a .scratch .now) (a .node) 0 + 65536))) (le-leb 65536 (getD (a .scratch .now) (a .node) 0) (c .if1 .taken)) ∙ set-getD (a .scratch .now) (a .node) 0)
 
 add-scratch : tie.Need-add-scratch
 add-scratch c = search needs
@@ -33,7 +35,9 @@ same-length c = search needs
 
 returns-2 : tie.Need-returns-2
 unfolding flagWord
-returns-2 c = sym (ap (λ (b : Bool). set (c .before .before .args .scratch .now) (c .before .before .args .node) (cond b (getD (c .before .before .args .scratch .now) (c .before .before .args .node) 0) (getD (c .before .before .args .scratch .now) (c .before .before .args .node) 0 + 65536))) (lt-leb 65536 (getD (c .before .before .args .scratch .now) (c .before .before .args .node) 0) (c .if1 .left)))
+returns-2 c =
+    let a = c .before .before .args in
+    sym (ap (λ (b : Bool). set (a .scratch .now) (a .node) (cond b (getD (a .scratch .now) (a .node) 0) (getD (a .scratch .now) (a .node) 0 + 65536))) (lt-leb 65536 (getD (a .scratch .now) (a .node) 0) (c .if1 .left)))
 
 pub flag-node-spec : {M : Type 1} → statement M
 flag-node-spec =

@@ -17,7 +17,9 @@ slice-read-word c = search needs
 
 returns : tie.Need-returns
 unfolding plainWord
-returns c = (sym (lt-leb 65536 (getD (c .before .before .args .scratch .now) (c .before .before .args .node) 0) (c .if1 .taken)), sym (ap (λ (b : Bool). set (c .before .before .args .scratch .now) (c .before .before .args .node) (cond b (getD (c .before .before .args .scratch .now) (c .before .before .args .node) 0 - 65536) (getD (c .before .before .args .scratch .now) (c .before .before .args .node) 0))) (lt-leb 65536 (getD (c .before .before .args .scratch .now) (c .before .before .args .node) 0) (c .if1 .taken)) ∙ set-getD (c .before .before .args .scratch .now) (c .before .before .args .node) 0))
+returns c =
+    let a = c .before .before .args in
+    (sym (lt-leb 65536 (getD (a .scratch .now) (a .node) 0) (c .if1 .taken)), sym (ap (λ (b : Bool). set (a .scratch .now) (a .node) (cond b (getD (a .scratch .now) (a .node) 0 - 65536) (getD (a .scratch .now) (a .node) 0))) (lt-leb 65536 (getD (a .scratch .now) (a .node) 0) (c .if1 .taken)) ∙ set-getD (a .scratch .now) (a .node) 0))
 
 mul-scratch : tie.Need-mul-scratch
 mul-scratch c = search needs
@@ -30,7 +32,9 @@ same-length c = search needs
 
 returns-2 : tie.Need-returns-2
 unfolding plainWord
-returns-2 c = (sym (le-leb 65536 (getD (c .before .before .args .scratch .now) (c .before .before .args .node) 0) (c .if1 .left)), sym (ap (λ (b : Bool). set (c .before .before .args .scratch .now) (c .before .before .args .node) (cond b (getD (c .before .before .args .scratch .now) (c .before .before .args .node) 0 - 65536) (getD (c .before .before .args .scratch .now) (c .before .before .args .node) 0))) (le-leb 65536 (getD (c .before .before .args .scratch .now) (c .before .before .args .node) 0) (c .if1 .left))))
+returns-2 c =
+    let a = c .before .before .args in
+    (sym (le-leb 65536 (getD (a .scratch .now) (a .node) 0) (c .if1 .left)), sym (ap (λ (b : Bool). set (a .scratch .now) (a .node) (cond b (getD (a .scratch .now) (a .node) 0 - 65536) (getD (a .scratch .now) (a .node) 0))) (le-leb 65536 (getD (a .scratch .now) (a .node) 0) (c .if1 .left))))
 
 pub unflag-node-spec : {M : Type 1} → statement M
 unflag-node-spec =

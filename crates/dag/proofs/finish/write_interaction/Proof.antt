@@ -49,7 +49,9 @@ mul-out-4 : tie.Need-mul-out-4
 mul-out-4 c = search needs
 
 slice-write-out-2 : tie.Need-slice-write-out-2
-slice-write-out-2 c = rw (length-set (c .before .before .before .before .before .before .before .args .out .now) (c .before .before .before .before .before .before .before .args .to) (getD (c .before .before .before .before .before .before .before .args .sheet .now) (c .before .before .before .before .before .before .before .args .at) 0)) (omega (arith, c .before .before .before .before .before .before .before .pre .1))
+slice-write-out-2 c =
+    let a = c .before .before .before .before .before .before .before .args in
+    rw (length-set (a .out .now) (a .to) (getD (a .sheet .now) (a .at) 0)) (omega (arith, c .before .before .before .before .before .before .before .pre .1))
 
 add-write-names : tie.Need-add-write-names
 add-write-names c = search needs
@@ -58,7 +60,10 @@ add-write-names-2 : tie.Need-add-write-names-2
 add-write-names-2 c = search needs
 
 write-names-requires : tie.Need-write-names-requires
-write-names-requires c κs = (c .before .before .before .before .before .before .before .before .pre .0 .count, omega (arith, c .before .before .before .before .before .before .before .before .pre .1, length-two (c .before .before .before .before .before .before .before .before .args .sheet .now) (c .before .before .before .before .before .before .before .before .args .at) (c .before .before .before .before .before .before .before .before .args .scratch .now) (c .before .before .before .before .before .before .before .before .pre .0) (c .before .before .before .before .before .before .before .before .args .out .now) (c .before .before .before .before .before .before .before .before .args .to) (c .before .before .before .before .before .before .before .before .pre .1)))
+write-names-requires c κs =
+    let a = c .before .before .before .before .before .before .before .before .args in
+    let p = c .before .before .before .before .before .before .before .before .pre in
+    (p .0 .count, omega (arith, p .1, length-two (a .sheet .now) (a .at) (a .scratch .now) (p .0) (a .out .now) (a .to) (p .1)))
 
 add-out-3 : tie.Need-add-out-3
 add-out-3 c = search needs
@@ -76,7 +81,10 @@ mul-out-6 : tie.Need-mul-out-6
 mul-out-6 c = search needs
 
 slice-write-out-3 : tie.Need-slice-write-out-3
-slice-write-out-3 c = omega (arith, c .before .before .before .before .before .before .before .before .before .before .before .before .pre .1, length-three (c .before .before .before .before .before .before .before .before .before .before .before .before .args .sheet .now) (c .before .before .before .before .before .before .before .before .before .before .before .before .args .at) (c .before .before .before .before .before .before .before .before .before .before .before .before .args .scratch .now) (c .before .before .before .before .before .before .before .before .before .before .before .before .pre .0) (c .before .before .before .before .before .before .before .before .before .before .before .before .args .out .now) (c .before .before .before .before .before .before .before .before .before .before .before .before .args .to) (c .before .before .before .before .before .before .before .before .before .before .before .before .pre .1) _ (c .before .before .before .write-names .ensures))
+slice-write-out-3 c =
+    let a = c .before .before .before .before .before .before .before .before .before .before .before .before .args in
+    let p = c .before .before .before .before .before .before .before .before .before .before .before .before .pre in
+    omega (arith, p .1, length-three (a .sheet .now) (a .at) (a .scratch .now) (p .0) (a .out .now) (a .to) (p .1) _ (c .before .before .before .write-names .ensures))
 
 add-write-names-3 : tie.Need-add-write-names-3
 add-write-names-3 c = search needs
@@ -85,7 +93,12 @@ add-write-names-4 : tie.Need-add-write-names-4
 add-write-names-4 c = search needs
 
 write-names-requires-2 : tie.Need-write-names-requires-2
-write-names-requires-2 c κs = (subst (λ (n : ℕ). Named (c .before .before .before .before .before .before .before .before .before .before .before .before .before .args .sheet .now) ((c .before .before .before .before .before .before .before .before .before .before .before .before .before .args .at) + 4) n (c .before .before .before .before .before .before .before .before .before .before .before .before .before .args .scratch .now)) (sym (c .before .before .before .before .before .before .before .before .wide .ensures)) (c .before .before .before .before .before .before .before .before .before .before .before .before .before .pre .0 .message), omega (arith, c .before .before .before .before .before .before .before .before .before .before .before .before .before .pre .1, c .before .before .before .before .before .before .before .before .wide .ensures, length-set (c .before .before .before .before .write-names .last .1 .1 .1 .1 .0) ((c .before .before .before .before .before .before .before .before .before .before .before .before .before .args .to) + 3) (getD (c .before .before .before .before .before .before .before .before .before .before .before .before .before .args .sheet .now) ((c .before .before .before .before .before .before .before .before .before .before .before .before .before .args .at) + 3) 0), length-three (c .before .before .before .before .before .before .before .before .before .before .before .before .before .args .sheet .now) (c .before .before .before .before .before .before .before .before .before .before .before .before .before .args .at) (c .before .before .before .before .before .before .before .before .before .before .before .before .before .args .scratch .now) (c .before .before .before .before .before .before .before .before .before .before .before .before .before .pre .0) (c .before .before .before .before .before .before .before .before .before .before .before .before .before .args .out .now) (c .before .before .before .before .before .before .before .before .before .before .before .before .before .args .to) (c .before .before .before .before .before .before .before .before .before .before .before .before .before .pre .1) _ (c .before .before .before .before .write-names .ensures)))
+write-names-requires-2 c κs =
+    let a = c .before .before .before .before .before .before .before .before .before .before .before .before .before .args in
+    let p = c .before .before .before .before .before .before .before .before .before .before .before .before .before .pre in
+    let wide = c .before .before .before .before .before .before .before .before .wide in
+    let write-names = c .before .before .before .before .write-names in
+    (subst (λ (n : ℕ). Named (a .sheet .now) ((a .at) + 4) n (a .scratch .now)) (sym (wide .ensures)) (p .0 .message), omega (arith, p .1, wide .ensures, length-set (write-names .last .1 .1 .1 .1 .0) ((a .to) + 3) (getD (a .sheet .now) ((a .at) + 3) 0), length-three (a .sheet .now) (a .at) (a .scratch .now) (p .0) (a .out .now) (a .to) (p .1) _ (write-names .ensures)))
 
 add-result : tie.Need-add-result
 add-result c = search needs

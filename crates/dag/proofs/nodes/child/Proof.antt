@@ -30,7 +30,10 @@ shared-slice-read-t10 : tie.Need-shared-slice-read-t10
 shared-slice-read-t10 c = search needs
 
 returns : tie.Need-returns
-returns c = (refl, ap (λ (n : ℕ). getD (c .before .before .before .before .args .out .now) (4 + 5 * n) 0) (c .before .before .wide .ensures), ap (λ (n : ℕ). getD (c .before .before .before .before .args .out .now) (4 + 5 * n + 1) 0) (c .before .before .wide .ensures))
+returns c =
+    let a = c .before .before .before .before .args in
+    let wide = c .before .before .wide in
+    (refl, ap (λ (n : ℕ). getD (a .out .now) (4 + 5 * n) 0) (wide .ensures), ap (λ (n : ℕ). getD (a .out .now) (4 + 5 * n + 1) 0) (wide .ensures))
 
 pub child-spec : {M : Type 1} → statement M
 child-spec =

@@ -23,7 +23,9 @@ same-node-requires : tie.Need-same-node-requires Inv-loop μ-loop
 same-node-requires c κs = search needs
 
 returns : tie.Need-returns Inv-loop μ-loop
-returns c = record { above = c .before .before .before .loop .inv .0; inside = c .before .before .before .loop .inv .1; skipped = c .before .before .before .loop .inv .2; found = λ _. sym (c .before .same-node .ensures) ∙ c .if1 .taken }
+returns c =
+    let loop = c .before .before .before .loop in
+    record { above = loop .inv .0; inside = loop .inv .1; skipped = loop .inv .2; found = λ _. sym (c .before .same-node .ensures) ∙ c .if1 .taken }
 
 add-i : tie.Need-add-i Inv-loop μ-loop
 add-i c = search needs
@@ -32,7 +34,10 @@ loop-less : tie.Need-loop-less Inv-loop μ-loop
 loop-less c = search needs
 
 loop-again : tie.Need-loop-again Inv-loop μ-loop
-loop-again c = (omega arith, omega arith, skips (λ k. equalRecords (fiveWords (c .before .before .before .before .before .args .r)) (nodeIn (c .before .before .before .before .before .args .out .now) k) ≡ false) (c .before .before .before .before .before .args .from) (c .before .before .before .loop .i) (c .before .before .before .loop .inv .2) (sym (c .before .same-node .ensures) ∙ c .if1 .left))
+loop-again c =
+    let a = c .before .before .before .before .before .args in
+    let loop = c .before .before .before .loop in
+    (omega arith, omega arith, skips (λ k. equalRecords (fiveWords (a .r)) (nodeIn (a .out .now) k) ≡ false) (a .from) (loop .i) (loop .inv .2) (sym (c .before .same-node .ensures) ∙ c .if1 .left))
 
 returns-2 : tie.Need-returns-2 Inv-loop μ-loop
 returns-2 c = record { above = c .before .loop .inv .0; inside = c .before .loop .inv .1; skipped = c .before .loop .inv .2; found = λ h. absurd (omega arith) }

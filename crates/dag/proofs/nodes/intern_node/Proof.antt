@@ -11,7 +11,10 @@ same-length : tie.Need-same-length
 same-length c = search needs
 
 returns : tie.Need-returns
-returns c = λ ns e z none. is-there (c .before .before .before .before .args .out .now) ns e (c .before .before .before .before .args .n) z (c .before .before .before .before .args .from) (fiveWords (c .before .before .before .before .args .r)) none (c .before .find-node .result) (c .before .find-node .ensures) (c .if1 .taken)
+returns c =
+    let a = c .before .before .before .before .args in
+    let find-node = c .before .find-node in
+    λ ns e z none. is-there (a .out .now) ns e (a .n) z (a .from) (fiveWords (a .r)) none (find-node .result) (find-node .ensures) (c .if1 .taken)
 
 put-node-requires : tie.Need-put-node-requires
 put-node-requires c κs = search needs
@@ -23,7 +26,10 @@ same-length-2 : tie.Need-same-length-2
 same-length-2 c = search needs
 
 returns-2 : tie.Need-returns-2
-returns-2 c = λ ns e z none. is-new (c .before .before .before .before .before .before .before .before .args .out .now) ns e (c .before .before .before .before .before .before .before .before .args .n) z (c .before .before .before .before .before .before .before .before .args .from) (fiveWords (c .before .before .before .before .before .before .before .before .args .r)) none (c .before .before .before .before .before .find-node .result) (c .before .before .before .before .before .find-node .ensures) (c .before .before .before .before .if1 .left) (c .before .before .before .before .before .before .before .before .pre .1) _ (c .before .before .put-node .ensures)
+returns-2 c =
+    let a = c .before .before .before .before .before .before .before .before .args in
+    let find-node = c .before .before .before .before .before .find-node in
+    λ ns e z none. is-new (a .out .now) ns e (a .n) z (a .from) (fiveWords (a .r)) none (find-node .result) (find-node .ensures) (c .before .before .before .before .if1 .left) (c .before .before .before .before .before .before .before .before .pre .1) _ (c .before .before .put-node .ensures)
 
 pub intern-node-spec : {M : Type 1} → statement M
 intern-node-spec =

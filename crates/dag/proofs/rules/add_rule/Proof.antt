@@ -44,13 +44,17 @@ make-node-requires-2 : tie.Need-make-node-requires-2
 make-node-requires-2 c κs = search needs
 
 returns-4 : tie.Need-returns-4
-returns-4 c = c .make-node2 .ensures ∙ passed _ _ (c .before .before .before .before .before .before .before .before .before .both-constant .ensures) (c .before .before .before .before .before .before .before .before .if1 .left) (passed _ _ (c .before .before .before .before .before .before .before .is-const .ensures) (c .before .before .before .before .before .before .if2 .left) (passed _ _ (c .before .before .before .before .before .is-const2 .ensures) (c .before .before .before .before .if3 .left) (neg-none (λ (y : ℕ). make (recordOf 7 (c .before .before .before .before .before .before .before .before .before .before .args .l .number) y (c .before .before .before .before .before .before .before .before .before .before .args .g) 0)) (make (recordOf 6 (c .before .before .before .before .before .before .before .before .before .before .args .l .number) (c .before .before .before .before .before .before .before .before .before .before .args .r .number) (c .before .before .before .before .before .before .before .before .before .before .args .g) 0)) _ (c .before .before .before .get-neg-child .ensures) (c .before .enum-told .given .1)))) ∙ sym (add-is _ _ _ _ _ _)
+returns-4 c =
+    let a = c .before .before .before .before .before .before .before .before .before .before .args in
+    c .make-node2 .ensures ∙ passed _ _ (c .before .before .before .before .before .before .before .before .before .both-constant .ensures) (c .before .before .before .before .before .before .before .before .if1 .left) (passed _ _ (c .before .before .before .before .before .before .before .is-const .ensures) (c .before .before .before .before .before .before .if2 .left) (passed _ _ (c .before .before .before .before .before .is-const2 .ensures) (c .before .before .before .before .if3 .left) (neg-none (λ (y : ℕ). make (recordOf 7 (a .l .number) y (a .g) 0)) (make (recordOf 6 (a .l .number) (a .r .number) (a .g) 0)) _ (c .before .before .before .get-neg-child .ensures) (c .before .enum-told .given .1)))) ∙ sym (add-is _ _ _ _ _ _)
 
 make-node-requires-3 : tie.Need-make-node-requires-3
 make-node-requires-3 c κs = search needs
 
 returns-5 : tie.Need-returns-5
-returns-5 c = c .make-node3 .ensures ∙ passed _ _ (c .before .before .before .before .before .before .before .before .before .before .both-constant .ensures) (c .before .before .before .before .before .before .before .before .before .if1 .left) (passed _ _ (c .before .before .before .before .before .before .before .before .is-const .ensures) (c .before .before .before .before .before .before .before .if2 .left) (passed _ _ (c .before .before .before .before .before .before .is-const2 .ensures) (c .before .before .before .before .before .if3 .left) (neg-some (λ (y : ℕ). make (recordOf 7 (c .before .before .before .before .before .before .before .before .before .before .before .args .l .number) y (c .before .before .before .before .before .before .before .before .before .before .before .args .g) 0)) (make (recordOf 6 (c .before .before .before .before .before .before .before .before .before .before .before .args .l .number) (c .before .before .before .before .before .before .before .before .before .before .before .args .r .number) (c .before .before .before .before .before .before .before .before .before .before .before .args .g) 0)) _ (c .before .before .before .before .get-neg-child .ensures) (c .before .before .y .given .1)))) ∙ sym (add-is _ _ _ _ _ _)
+returns-5 c =
+    let a = c .before .before .before .before .before .before .before .before .before .before .before .args in
+    c .make-node3 .ensures ∙ passed _ _ (c .before .before .before .before .before .before .before .before .before .before .both-constant .ensures) (c .before .before .before .before .before .before .before .before .before .if1 .left) (passed _ _ (c .before .before .before .before .before .before .before .before .is-const .ensures) (c .before .before .before .before .before .before .before .if2 .left) (passed _ _ (c .before .before .before .before .before .before .is-const2 .ensures) (c .before .before .before .before .before .if3 .left) (neg-some (λ (y : ℕ). make (recordOf 7 (a .l .number) y (a .g) 0)) (make (recordOf 6 (a .l .number) (a .r .number) (a .g) 0)) _ (c .before .before .before .before .get-neg-child .ensures) (c .before .before .y .given .1)))) ∙ sym (add-is _ _ _ _ _ _)
 
 pub add-rule-spec : {M : Type 1} → statement M
 add-rule-spec =
