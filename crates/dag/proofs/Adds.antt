@@ -1,32 +1,34 @@
 -- Adding a record, and a visit of one.
 use mathlib.Core.Path.{_≡_, refl, sym, ap, subst, _∙_}
 use mathlib.Core.Logic.{_⊎_, inl, inr, ⊎-elim}
-use mathlib.Core.Bool.{Bool, true, false, cond, true≢false, _&&_}
-use mathlib.Core.List.{List, [], _∷_, _++_}
-use Prim.Native.Nat.{ℕ, zero, suc, _+_, _*_, _-_, _≤_, _<_}
+use mathlib.Core.Bool.{false}
+use mathlib.Core.List.{List, [], _∷_}
+use Prim.Native.Nat.{ℕ, suc, _+_, _*_, _-_, _≤_, _<_}
 use native.Mathlib.Omega.{arith}
-use lib.Dec.{eqb, leb}
-use lib.ListN.{length, getD, set}
-use borrow.Author.Tests.{eqb-true, eqb-false, eq-eqb, leb-true}
+use lib.Dec.{eqb}
+use lib.ListN.{length}
+use borrow.Author.Tests.{eq-eqb}
 use Rattle.semantics.specs.Arithmetic.{prime}
 use Rattle.semantics.specs.Answer.{good}
-use Rattle.semantics.specs.Sheet.{Record}
+use Rattle.semantics.specs.Sheet.{Record, Each, GoodRecord}
 use Rattle.semantics.specs.Check.{readSheet, check}
 use Rattle.semantics.specs.Value.{nodeOf, recordAt}
 use Rattle.semantics.specs.Walk.{children, childrenAt, member, visit, Reaches}
 use Rattle.semantics.specs.Graph as graph
 use Rattle.semantics.specs.Graph.{Built, setNum, takeIn, addRecord, build, find, intern}
-use Rattle.semantics.proofs.Basics.{and-true, cond-true}
-use Rattle.semantics.proofs.Members.{Mem, mem-here, mem-there, mem-cases, not-in}
+use Rattle.semantics.proofs.Basics.{cond-true}
+use Rattle.semantics.proofs.Members.{Mem, mem-here, mem-cases, not-in}
+use Rattle.semantics.proofs.Records.{LowRecord, each-low}
 use Rattle.semantics.proofs.Encoding.{head-limits}
 use Rattle.semantics.proofs.Walks.{visit-reach, reach-le, visit-old, visit-has}
 use Rattle.semantics.proofs.Orders.{distinct-length, not-mem}
 use Rattle.dag.specs.declared.Record as declared
 use Rattle.dag.specs.Picks.{fiveWords}
-use Rattle.dag.specs.Nodes.{nodeIn, NoneBefore}
-use Rattle.dag.specs.Memory.{recordsOf, builtOf, nodesOut, Holds, Order, Ready, Adding, There, pickOfRecord}
+use Rattle.dag.specs.Nodes.{nodeIn, NoneBefore, aboveAll}
+use Rattle.dag.specs.Memory.{recordsOf, builtOf, Holds, Order, Ready, Adding, There, pickOfRecord}
 use Rattle.dag.proofs.Steps as steps
-use Rattle.dag.proofs.Visits.{kind-two, kind-neg, kind-flat, kind-limits, visit-seen, visit-none, visit-one, visit-two}
+use Rattle.dag.proofs.Visits.{kind-two, kind-neg, kind-flat, kind-limits}
+use Rattle.dag.proofs.Searches.{from-inside, from-none}
 use Rattle.dag.proofs.Picking.{kind-is, a-is, b-is}
 
 -- The number that a record gets.
@@ -38,9 +40,6 @@ module _ (b : Built) (r : ℕ) where
   num-made : (q : Record) → takeIn b r (graph.make q) .num r ≡ find q (b .nodes)
   unfolding takeIn setNum
   num-made q = cond-true (eqb r r) (find q (b .nodes)) (b .num r) (eq-eqb r r refl)
-
-pub none-before : (q : Record) (ns : List Record) → NoneBefore 0 q ns
-none-before q ns i h = absurd (omega arith)
 
 module _ (ws : List ℕ) (checked : check prime ws ≡ good (readSheet ws)) where
   abbrev E : ℕ
@@ -70,6 +69,26 @@ module _ (ws : List ℕ) (checked : check prime ws ≡ good (readSheet ws)) wher
       unfolding builtOf build addRecord
       made-small q e = subst (λ (j : ℕ). j < E) (ap (λ (q : graph.Pick). takeIn (builtOf ws done) r q .num r) (sym e) ∙ num-made (builtOf ws done) r q) num-next
 
+      -- Where the search for its node begins.
+      module _ (q : Record) (e : graph.make q ≡ pickOfRecord ws r done) (from : ℕ) (f : from ≡ aboveAll (children (nodeOf q))) where
+        ns : List Record
+        ns = builtOf ws done .nodes
+
+        lows : Each LowRecord 0 (intern q ns)
+        unfolding ns builtOf build addRecord takeIn
+        lows =
+            each-low prime 0 (intern q ns)
+            (subst (λ (x : graph.Pick). Each (GoodRecord prime) 0 (takeIn (builtOf ws done) r x .nodes)) (sym e)
+            (steps.kept ws checked (r ∷ done) (steps.order-more ws checked done r o l new there) .good))
+
+        pub search-inside : (n : ℕ) → n ≡ length (builtOf ws done .nodes) → from ≤ n
+        unfolding ns
+        search-inside n z = omega (arith, from-inside q ns lows from f)
+
+        pub search-none : NoneBefore from q (builtOf ws done .nodes)
+        unfolding ns
+        search-none = from-none q ns lows from f
+
       -- Room for its node.
       pub room-more : (scratch out : List ℕ) (n : ℕ) → Holds ws done scratch out n → 4 + 5 * E ≤ length out → 4 + 5 * (n + 1) ≤ length out
       room-more scratch out n h room = omega (arith, h .count-is, steps.few-nodes ws checked done r o l new)
@@ -81,7 +100,7 @@ module _ (ws : List ℕ) (checked : check prime ws ≡ good (readSheet ws)) wher
 
       pub none-is : q .kind < 6 → ch r ≡ []
       unfolding childrenAt
-      none-is h = kind-flat R (omega (arith, kind-is ws checked r l q e))
+      none-is h = kind-flat R (λ g. omega (arith, kind-is ws checked r l q e))
 
       pub one-is : q .kind ≡ 8 → (x : ℕ) → x ≡ q .a → ch r ≡ x ∷ []
       unfolding childrenAt

@@ -1,22 +1,22 @@
 -- The words of the finished graph.
 use mathlib.Core.Path.{_≡_, refl, sym, ap, _∙_}
 use mathlib.Core.Bool.{Bool, true, false, cond}
-use mathlib.Core.List.{List, [], _∷_, _++_, map, flatMap, append-assoc}
+use mathlib.Core.List.{List, [], _∷_, _++_, flatMap, append-assoc}
 use Prim.Native.Nat.{ℕ, zero, suc, _+_, _*_, _≤_, _<_}
 use native.Mathlib.Omega.{arith}
 use lib.Dec.{ltb, leb, lit<}
-use lib.ListN.{length, set, length-append, length-map}
+use lib.ListN.{length, set, length-append}
 use borrow.Author.Tests.{ltb-false, le-leb, lt-leb}
 use Rattle.semantics.specs.Arithmetic.{prime}
 use Rattle.semantics.specs.Answer.{good}
-use Rattle.semantics.specs.Sheet.{Interaction, Sheet, recordWords, interactionWords, headWords, encode, lengthOf}
+use Rattle.semantics.specs.Sheet.{Sheet, recordWords, interactionWords, headWords, encode, lengthOf}
 use Rattle.semantics.specs.Check.{readSheet, check}
 use Rattle.semantics.specs.Walk.{member}
-use Rattle.semantics.specs.Graph.{sortedOnce, renamed, graphOf}
+use Rattle.semantics.specs.Graph.{sortedOnce, graphOf}
 use Rattle.semantics.specs.Call.{zeros, padded}
 use Rattle.semantics.proofs.Members.{Below}
 use Rattle.semantics.proofs.Encoding.{records-length, sheet-length, check-inside}
-use Rattle.semantics.proofs.GraphSheets.{sorted-length, graph-shorter}
+use Rattle.semantics.proofs.GraphSheets.{graph-shorter}
 use Rattle.dag.specs.Memory.{tabulate, nodesOut, put, flagged, ascending, marksOf, plainWord, plainBelow, chosen, flaggedAmong}
 use Rattle.dag.proofs.Marks.{tabulate-length, tabulate-from, tabulate-same}
 use Rattle.dag.proofs.Flags.{ascending-sorts, table-of}
@@ -70,17 +70,6 @@ graph-words lent g h =
 
     start : 4 + 5 * length (g .records) ≡ length W
     start = sym (length-append (zeros 4) R ∙ unfold zeros in (omega (arith, records-length (g .records))))
-
--- Lengths.
-pub sorted-short : (nums : List ℕ) → length (sortedOnce nums) ≤ length nums
-sorted-short = sorted-length
-
-pub renamed-long : (num : ℕ → ℕ) (xs : List Interaction) → length (flatMap interactionWords (map (renamed num) xs)) ≡ length (flatMap interactionWords xs)
-unfolding flatMap interactionWords renamed
-renamed-long num [] = refl
-renamed-long num (x ∷ xs) =
-    let ih = renamed-long num xs in
-    simp (length-append, length-map, ih)
 
 -- The graph is no longer than its source.
 pub graph-fits : (ws : List ℕ) → check prime ws ≡ good (readSheet ws) → length (encode (graphOf prime (readSheet ws))) ≤ lengthOf (readSheet ws)

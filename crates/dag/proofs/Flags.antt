@@ -1,19 +1,16 @@
 -- Flagging nodes and taking the flagged in ascending order sorts node numbers and drops repeats.
-use mathlib.Core.Path.{_≡_, refl, sym, ap, subst, _∙_}
-use mathlib.Core.Logic.{_⊎_, inl, inr}
-use mathlib.Core.Bool.{Bool, true, false, cond, true≢false}
-use mathlib.Core.List.{List, [], _∷_, _++_, map, append-assoc, append-nil, map-append}
-use Prim.Native.Nat.{ℕ, zero, suc, pred, _+_, _*_, _%_, _≤_, _<_}
+use mathlib.Core.Path.{_≡_, refl, sym, ap, _∙_}
+use mathlib.Core.Bool.{Bool, true, false, cond}
+use mathlib.Core.List.{List, [], _∷_, _++_, map-append}
+use Prim.Native.Nat.{ℕ, zero, suc, pred, _+_, _%_, _≤_, _<_}
 use native.Mathlib.Omega.{arith}
-use native.Mathlib.Numerals.{add-one}
-use lib.Dec.{eqb, ltb, leb}
-use lib.ListN.{length, getD, set, take, drop, length-drop}
-use lib.Seq.{take-suc, getD-drop, ext-getD}
-use borrow.Author.Tests.{eqb-true, eqb-false, eq-eqb, ne-eqb, ltb-true, ltb-false, lt-ltb, le-ltb, leb-true, leb-false, le-leb, lt-leb}
+use lib.Dec.{eqb}
+use lib.ListN.{length, getD, set}
+use lib.Seq.{ext-getD}
+use borrow.Author.Tests.{eqb-true, eqb-false, ne-eqb, lt-ltb, le-ltb, le-leb, lt-leb}
 use Rattle.semantics.specs.Walk.{member}
 use Rattle.semantics.specs.Graph.{setNum, insertOnce, sortedOnce}
-use Rattle.semantics.proofs.Basics.{by-test, not-both}
-use Rattle.semantics.proofs.Members.{Mem, mem-here, mem-there, mem-cases, mem-either, mem-left, mem-right, not-in, Below}
+use Rattle.semantics.proofs.Members.{mem-here, mem-there, Below}
 use Rattle.dag.specs.Memory.{tabulate, flagWord, flagged, ascending, part, nodeNumbers, marksOf, Named}
 use Rattle.dag.proofs.Marks.{tabulate-length, tabulate-from, tabulate-same, tabulate-set}
 use Rattle.dag.proofs.Parts.{part-more}

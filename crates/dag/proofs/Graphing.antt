@@ -1,29 +1,27 @@
 -- The graph in the output, from the state when all records are added.
 use mathlib.Core.Path.{_≡_, refl, sym, ap, subst, _∙_}
-use mathlib.Core.Bool.{Bool, true, false, cond}
-use mathlib.Core.List.{List, [], _∷_, _++_, map, flatMap}
-use Prim.Native.Nat.{ℕ, zero, suc, pred, _+_, _*_, _-_, _≤_, _<_}
+use mathlib.Core.List.{List, _++_, map, flatMap}
+use Prim.Native.Nat.{ℕ, suc, pred, _+_, _*_, _-_, _≤_, _<_}
 use native.Mathlib.Omega.{arith}
-use lib.ListN.{length, getD, set, take, drop, length-map, length-append}
+use lib.ListN.{length, getD, set, drop, length-map, length-append}
 use Rattle.semantics.specs.Arithmetic.{prime}
-use Rattle.semantics.specs.Answer.{good}
-use Rattle.semantics.specs.Sheet.{Sheet, Interaction, interactionWords, encode, headWords, recordWords, lengthOf}
-use Rattle.semantics.specs.Check.{readSheet, check}
-use Rattle.semantics.specs.Walk.{childrenAt, member, order}
-use Rattle.semantics.specs.Graph.{Built, built, build, graphRoots, graphOf, sortedOnce, renamed}
+use Rattle.semantics.specs.Sheet.{Sheet, interactionWords, encode, headWords, lengthOf}
+use Rattle.semantics.specs.Check.{readSheet}
+use Rattle.semantics.specs.Walk.{member}
+use Rattle.semantics.specs.Graph.{Built, built, graphRoots, graphOf, sortedOnce, renamed}
 use Rattle.semantics.proofs.Basics.{by-test}
 use Rattle.semantics.proofs.Members.{Mem, mem-left, mem-right, mem-getD, Below, map-below}
 use Rattle.semantics.proofs.Encoding.{records-length, head-limits}
 use Rattle.semantics.proofs.Access.{constraint-word, words-count}
 use Rattle.semantics.proofs.Orders.{order-closed, order-roots, order-below, order-distinct, distinct-length}
-use Rattle.semantics.proofs.GraphSheets.{graph-roots}
-use Rattle.dag.specs.Memory.{tabulate, mark, nodesOut, recordsOf, builtOf, Holds, Order, Finishing, allAdded, graphOut, graphLength, flagged, flaggedAmong, plainBelow, marksOf, nodeNumbers, part, put, renamedAll, Named, NamedInteractions}
+use Rattle.semantics.proofs.GraphSheets.{graph-roots, sorted-length}
+use Rattle.dag.specs.Memory.{tabulate, mark, nodesOut, recordsOf, builtOf, Order, Finishing, allAdded, graphOut, graphLength, flagged, flaggedAmong, plainBelow, marksOf, nodeNumbers, part, put, renamedAll, Named, NamedInteractions}
 use Rattle.dag.proofs.Steps as steps
 use Rattle.dag.proofs.Marks.{tabulate-length}
 use Rattle.dag.proofs.Sweeps.{put-length}
 use Rattle.dag.proofs.Adds.{few-records, num-small}
 use Rattle.dag.proofs.Reading.{roots, map-same, constraints-are, interactions-stand, renamed-are, named-are}
-use Rattle.dag.proofs.Closing.{plain-again, flagged-are, graph-words, graph-fits, sorted-short}
+use Rattle.dag.proofs.Closing.{plain-again, flagged-are, graph-words, graph-fits}
 
 pub encode-long : (g : Sheet) → length (encode g) ≡ 4 + (5 * length (g .records) + (length (g .constraints) + length (flatMap interactionWords (g .interactions))))
 unfolding encode headWords
@@ -218,7 +216,7 @@ module _ (ws scratch out : List ℕ) (n : ℕ) (f : Finishing ws scratch out n) 
             sorted-few : length (g .constraints) ≤ 1024
             sorted-few =
                 let k : length nums ≡ length (s .constraints) = length-map (s .constraints) (B .num) in
-                omega (arith, ap length sorted-are, sorted-short nums, lists-small .0)
+                omega (arith, ap length sorted-are, sorted-length nums, lists-small .0)
 
         pub graph-written : set (set (set (set out₂ 0 1) 1 n) 2 (next - (4 + 5 * n))) 3 ints ≡ graphOut (length out) ws
         graph-written =

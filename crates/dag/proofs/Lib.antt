@@ -3,6 +3,7 @@ pub mod NodeLaws
 pub mod Marks
 pub mod Steps
 pub mod Visits
+pub mod Searches
 pub mod Parts
 pub mod Flags
 pub mod Sweeps
@@ -15,3 +16,4 @@ pub mod Closing
 pub mod Graphing
 pub mod Starts
 pub mod Outcomes
+pub mod Demands

@@ -1,18 +1,16 @@
 -- Scratch as a table of marks, and what one more record changes.
-use mathlib.Core.Path.{_≡_, refl, sym, ap, subst, _∙_}
-use mathlib.Core.Bool.{Bool, true, false, cond, true≢false}
-use mathlib.Core.List.{List, [], _∷_, _++_}
-use Prim.Native.Nat.{ℕ, zero, suc, _+_, _*_, _≤_, _<_}
+use mathlib.Core.Path.{_≡_, refl, sym, ap, _∙_}
+use mathlib.Core.Bool.{Bool, true, false, cond}
+use mathlib.Core.List.{List, _∷_}
+use Prim.Native.Nat.{ℕ, zero, suc, _+_, _<_}
 use native.Mathlib.Omega.{arith}
 use native.Mathlib.Nat.{zero-add}
 use lib.Dec.{eqb}
 use lib.ListN.{length, getD, set, length-set}
 use lib.Seq.{ext-getD, getD-set-same, getD-set-other}
-use borrow.Author.Tests.{eqb-true, eqb-false, eq-eqb, ne-eqb}
-use Rattle.semantics.specs.Sheet.{Record}
+use borrow.Author.Tests.{eqb-true, eqb-false}
 use Rattle.semantics.specs.Walk.{member}
 use Rattle.semantics.specs.Graph.{Built, setNum}
-use Rattle.semantics.proofs.Basics.{by-test, not-both}
 use Rattle.dag.specs.Memory.{tabulate, mark}
 
 pub tabulate-length : (k n : ℕ) (f : ℕ → ℕ) → length (tabulate k n f) ≡ n

@@ -1,10 +1,9 @@
 -- Names turned into node numbers in the output.
 use mathlib.Core.Path.{_≡_, refl, sym, ap, subst, _∙_}
-use mathlib.Core.List.{List, [], _∷_, _++_, map, append-assoc, append-nil, map-append}
-use Prim.Native.Nat.{ℕ, zero, suc, pred, _+_, _*_, _-_, _%_, _≤_, _<_}
+use mathlib.Core.List.{List, [], _∷_, _++_, append-assoc, append-nil, map-append}
+use Prim.Native.Nat.{ℕ, suc, pred, _+_, _-_, _%_, _≤_, _<_}
 use native.Mathlib.Omega.{arith}
 use native.Mathlib.Nat.{mod-eq-of-lt}
-use lib.Dec.{lit<}
 use lib.ListN.{length, getD, set, length-append, length-set}
 use Rattle.dag.specs.Memory.{put, part, nodeNumbers, marksOf, Named, NamedInteraction, NamedInteractions, messageLength, renamedWords, renamedAll}
 use Rattle.dag.proofs.Parts.{part-more, numbers-length}

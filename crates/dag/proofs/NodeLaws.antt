@@ -10,17 +10,13 @@ use lib.Dec.{eqb, ltb}
 use lib.ListN.{length, getD, drop, replicate, set, length-append, length-replicate}
 use lib.Seq.{getD-append-add, drop-append-add, take-at, sets, sets-eq}
 use borrow.Author.Tests.{ltb-true, ltb-false, lt-ltb, le-ltb}
-use Rattle.semantics.specs.Sheet.{Record, recordOf, recordWords, Each, GoodRecord}
+use Rattle.semantics.specs.Sheet.{Record, recordOf, recordWords}
 use Rattle.semantics.specs.Value.{nodeOf, noRecord, recordAt}
-use Rattle.semantics.specs.Walk.{children, childrenAt, member}
 use Rattle.semantics.specs.Graph.{equalRecords, find, intern}
 use Rattle.semantics.specs.Call.{zeros, padded}
 use Rattle.semantics.proofs.Basics.{cond-true, cond-false}
 use Rattle.semantics.proofs.Encoding.{records-length}
-use Rattle.semantics.proofs.Records.{each-low}
 use Rattle.semantics.proofs.Access.{word-at}
-use Rattle.semantics.proofs.Orders.{low}
-use Rattle.semantics.proofs.Graphs.{equal-is}
 use Rattle.dag.specs.declared.rules.Child.{Child}
 use Rattle.dag.specs.Picks.{viewOf}
 use Rattle.dag.specs.Memory.{nodesOut}
@@ -151,14 +147,3 @@ module _ (ws : List ℕ) (ns : List Record) (e : ws ≡ nodesOut (length ws) ns)
         w ∙ (λ i. sets (e i) (4 + 5 * z i) (recordWords q)) ∙ nodes-more (length ws) ns q (omega arith) ∙ ap (nodesOut (length ws)) more,
         ap (λ (k : ℕ). k + 1) z ∙ sym (length-append ns (q ∷ [])) ∙ ap length more,
       )
-
--- A node stands above its children, so that the search may begin above any of them.
-pub none-below : (p : ℕ) (ns : List Record) (q : Record) → Each (GoodRecord p) 0 ns → (from c : ℕ) → member c (children (nodeOf q)) ≡ true → from ≤ suc c → NoneBefore from q ns
-unfolding childrenAt
-none-below p ns q ok from c m h i l = go (equalRecords q (recordAt ns i)) refl
-  where
-    go : (t : Bool) → equalRecords q (recordAt ns i) ≡ t → t ≡ false
-    go false e = refl
-    go true e =
-        let b : c < i = low ns (each-low p 0 ns ok) i c (subst (λ (r : Record). member c (children (nodeOf r)) ≡ true) (equal-is q (recordAt ns i) e) m) in
-        absurd (omega arith)

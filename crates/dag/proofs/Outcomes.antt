@@ -1,7 +1,6 @@
 -- The outcomes of the builder's call.
-use mathlib.Core.Path.{_≡_, refl, sym, ap, subst, _∙_}
-use mathlib.Core.Bool.{cond}
-use mathlib.Core.List.{List, [], _∷_, map, _++_}
+use mathlib.Core.Path.{_≡_, refl, sym, ap, _∙_}
+use mathlib.Core.List.{List, [], _∷_}
 use Prim.Native.Nat.{ℕ, _+_, _-_, _≤_, _<_}
 use native.Mathlib.Omega.{arith}
 use lib.Dec.{leb}
@@ -9,18 +8,18 @@ use lib.ListN.{length, take, replicate, length-replicate, replicate-append-repli
 use lib.Seq.{take-at}
 use borrow.Author.Tests.{le-leb, lt-leb}
 use Rattle.semantics.specs.Arithmetic.{prime}
-use Rattle.semantics.specs.Answer.{Answer, good, refused, andThen}
+use Rattle.semantics.specs.Answer.{Answer, good, refused}
 use Rattle.semantics.specs.Sheet.{Sheet, encode, lengthOf}
 use Rattle.semantics.specs.Check.{readSheet, check}
 use Rattle.semantics.specs.Graph.{graphOf}
-use Rattle.semantics.specs.Call.{Result, Outcome, outcome, needs, result, onSheet, builderCall, zeros, padded, paddedAll}
+use Rattle.semantics.specs.Call.{Result, outcome, needs, result, builderCall, zeros, paddedAll}
 use Rattle.semantics.proofs.Basics.{cond-true, cond-false}
 use Rattle.semantics.proofs.Encoding.{check-sound, sheet-back}
 use Rattle.sheet.specs.declared.Refusal.{Refusal}
 use Rattle.sheet.specs.declared.Checked.{Checked}
 use Rattle.sheet.specs.declared.Checked.the-variants as checked
 use Rattle.sheet.specs.declared.Written.the-variants.{Words, Refused}
-use Rattle.sheet.specs.Scans.{checkedOf, headOf}
+use Rattle.sheet.specs.Scans.{checkedOf}
 use Rattle.sheet.proofs.Answers.{on-found, on-refused}
 use Rattle.dag.specs.Calls.{builtOutcome, Clear}
 use Rattle.dag.specs.Memory.{Starting, graphOut, graphLength}

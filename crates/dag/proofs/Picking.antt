@@ -1,18 +1,18 @@
 -- The rule for a record, from the words of the sheet, scratch and output.
 use mathlib.Core.Path.{_≡_, refl, sym, ap, subst, _∙_}
 use mathlib.Core.Bool.{Bool, true, false, cond}
-use mathlib.Core.List.{List, [], _∷_, _++_}
-use Prim.Native.Nat.{ℕ, zero, suc, _+_, _*_, _-_, _≤_, _<_}
+use mathlib.Core.List.{List, [], _∷_}
+use Prim.Native.Nat.{ℕ, suc, _+_, _*_, _-_, _≤_, _<_}
 use native.Mathlib.Omega.{arith}
 use lib.Dec.{eqb}
 use lib.ListN.{length, getD}
 use borrow.Author.Tests.{eqb-true, eqb-false}
 use Rattle.semantics.specs.Arithmetic.{prime}
 use Rattle.semantics.specs.Answer.{good}
-use Rattle.semantics.specs.Sheet.{Record, recordOf}
+use Rattle.semantics.specs.Sheet.{Record}
 use Rattle.semantics.specs.Check.{readSheet, check}
-use Rattle.semantics.specs.Value.{Node, leaf, const, add, sub, neg, mul, nodeOf, recordAt}
-use Rattle.semantics.specs.Walk.{children, childrenAt, member}
+use Rattle.semantics.specs.Value.{Node, nodeOf, recordAt}
+use Rattle.semantics.specs.Walk.{children, childrenAt}
 use Rattle.semantics.specs.Graph as graph
 use Rattle.semantics.specs.Graph.{Built, nodeFor, pick, addRule, subRule, negRule, mulRule}
 use Rattle.semantics.proofs.Basics.{by-test}
@@ -23,9 +23,9 @@ use Rattle.dag.specs.declared.Record as declared
 use Rattle.dag.specs.declared.rules.Child.{Child}
 use Rattle.dag.specs.Picks.{fiveWords, viewOf}
 use Rattle.dag.specs.Nodes.{nodeIn}
-use Rattle.dag.specs.Memory.{recordsOf, builtOf, Holds, Order, Ready, Adding, There, pickOfRecord}
+use Rattle.dag.specs.Memory.{recordsOf, builtOf, Holds, Order, There, pickOfRecord}
 use Rattle.dag.proofs.RuleLaws.{seen, view-add, view-sub, view-mul, view-neg}
-use Rattle.dag.proofs.NodeLaws.{node-in}
+use Rattle.dag.proofs.NodeLaws.{child-sees}
 use Rattle.dag.proofs.Steps as steps
 use Rattle.dag.proofs.Visits.{kind-two, kind-neg, kind-limits, kind-word, a-word, b-word, c-word, d-word}
 
@@ -153,12 +153,10 @@ module _ (ws : List ℕ) (checked : check prime ws ≡ good (readSheet ws)) (r :
           child-number : x .number ≡ B .num c
           child-number = f .0 ∙ at-num
 
-          node-is : nodeIn out (getD scratch c 0 - 1) ≡ recordAt (B .nodes) (B .num c)
-          node-is = ap (nodeIn out) at-num ∙ node-in out (length out) (B .nodes) (h .out-is) (B .num c) (steps.num-below ws checked done o c (there c m))
-
           child-view : viewOf x ≡ seen (recordAt (B .nodes) (B .num c))
           child-view =
-              (λ i. nodeOf (recordOf (f .1 i) (f .2 i) 0 0 0)) ∙ ap seen node-is
+              child-sees out (length out) (B .nodes) (h .out-is) (B .num c) (steps.num-below ws checked done o c (there c m)) x
+              (f .1 ∙ ap (λ (k : ℕ). nodeIn out k .kind) at-num) (f .2 ∙ ap (λ (k : ℕ). nodeIn out k .a) at-num)
 
       pub picks-flat : q .kind < 6 → graph.make (fiveWords q) ≡ pickOfRecord ws r done
       picks-flat k = ap graph.make is ∙ sym (flat-pick prime B R (omega (arith, kind-is)))

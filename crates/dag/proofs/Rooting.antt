@@ -1,19 +1,18 @@
 -- Adding the records that some words name.
 use mathlib.Core.Path.{_≡_, refl, sym, ap, subst, _∙_}
-use mathlib.Core.Bool.{Bool, true, false, cond}
 use mathlib.Core.List.{List, [], _∷_, _++_, append-assoc, append-nil}
 use Prim.Native.Nat.{ℕ, zero, suc, _+_, _*_, _-_, _≤_, _<_}
 use native.Mathlib.Omega.{arith}
-use lib.ListN.{length, getD, take, drop}
+use lib.ListN.{length, getD}
 use Rattle.semantics.specs.Arithmetic.{prime}
 use Rattle.semantics.specs.Answer.{good}
 use Rattle.semantics.specs.Check.{readSheet, check}
-use Rattle.semantics.specs.Walk.{childrenAt, member, foldLeft, visit}
+use Rattle.semantics.specs.Walk.{childrenAt, foldLeft, visit}
 use Rattle.semantics.proofs.Walks.{visit-fuel}
 use Rattle.semantics.proofs.Members.{Mem, mem-here, mem-there, not-in, Below, cons-below, append-below}
 use Rattle.dag.specs.Memory.{recordsOf, part, Holds, Order, Ready, Walking, Walks, NamesInside, RootsInside, AllRootsInside, messageLength, rootWords}
 use Rattle.dag.proofs.Steps as steps
-use Rattle.dag.proofs.Parts.{part-more, part-length}
+use Rattle.dag.proofs.Parts.{part-more}
 
 fold-append : {S : Type 0} (f : S → ℕ → S) (s : S) (xs ys : List ℕ) → foldLeft f s (xs ++ ys) ≡ foldLeft f (foldLeft f s xs) ys
 unfolding foldLeft

@@ -9,6 +9,8 @@ use Rattle.semantics.specs.Sheet.{Record, recordOf}
 use Rattle.semantics.specs.Value.{Leaf, Node, leaf, const, add, sub, neg, mul, leafOf, nodeOf}
 use Rattle.semantics.specs.Graph.{present, make, ifConstants, isConst, ifNeg, addRule, subRule, negRule, mulRule}
 use Rattle.semantics.proofs.Basics.{by-test, cond-true, cond-false}
+use Rattle.dag.specs.declared.rules.Option.{Option}
+use Rattle.dag.specs.declared.rules.Option.the-variants.{Some, None}
 
 -- A choice that treats all nodes alike but constants and Neg.
 module _ {X : Type 0} (H : Node → X) (x : X) (on-leaf : (v : Leaf) → H (leaf v) ≡ x) (on-add : (l r : ℕ) → H (add l r) ≡ x)
@@ -62,7 +64,10 @@ module _ {X : Type 0} where
       (by-kind (λ k. ifConstants (const (m .a)) k f x) x (λ v. refl) (λ l r. refl) (λ l r. refl) (λ l r. refl) n)
       ∙ simp (none, both)
 
-  neg-is : (m : Record) (f : ℕ → X) (x : X) → ifNeg (nodeOf m) f x ≡ cond (eqb (m .kind) 8) (f (m .a)) x
+  pub const-one : (m : Record) (f : ℕ → ℕ → X) (x : X) → ifConstants (nodeOf m) (nodeOf m) f x ≡ cond (eqb (m .kind) 5) (f (m .a) (m .a)) x
+  const-one m f x = constants-is m m f x ∙ same (eqb (m .kind) 5) (f (m .a) (m .a)) x
+
+  pub neg-is : (m : Record) (f : ℕ → X) (x : X) → ifNeg (nodeOf m) f x ≡ cond (eqb (m .kind) 8) (f (m .a)) x
   unfolding ifNeg
   neg-is m f x = by-kind (λ k. ifNeg k f x) x (λ v. refl) (λ l r. refl) (λ l r. refl) (λ l r. refl) m ∙ second (m .kind) (f (m .a)) x
 
@@ -71,16 +76,16 @@ module _ (p l r : ℕ) (m n : Record) (g : ℕ) where
   pub add-is : addRule p l r (nodeOf m) (nodeOf n) g
       ≡ cond (eqb (m .kind) 5 && eqb (n .kind) 5) (make (recordOf 5 (addM p (m .a) (n .a)) 0 0 0))
       (cond (isConst 0 (nodeOf m)) (present r) (cond (isConst 0 (nodeOf n)) (present l)
-      (cond (eqb (n .kind) 8) (make (recordOf 7 l (n .a) g 0)) (make (recordOf 6 l r g 0)))))
+      (ifNeg (nodeOf n) (λ y. make (recordOf 7 l y g 0)) (make (recordOf 6 l r g 0)))))
   unfolding addRule
-  add-is = rw (constants-is, neg-is)
+  add-is = rw constants-is
 
   pub sub-is : subRule p l r (nodeOf m) (nodeOf n) g
       ≡ cond (eqb (m .kind) 5 && eqb (n .kind) 5) (make (recordOf 5 (subM p (m .a) (n .a)) 0 0 0))
       (cond (isConst 0 (nodeOf n)) (present l)
-      (cond (eqb (n .kind) 8) (make (recordOf 6 l (n .a) g 0)) (make (recordOf 7 l r g 0))))
+      (ifNeg (nodeOf n) (λ y. make (recordOf 6 l y g 0)) (make (recordOf 7 l r g 0))))
   unfolding subRule
-  sub-is = rw (constants-is, neg-is)
+  sub-is = rw constants-is
 
   pub mul-is : mulRule p l r (nodeOf m) (nodeOf n) g
       ≡ cond (eqb (m .kind) 5 && eqb (n .kind) 5) (make (recordOf 5 (mulM p (m .a) (n .a)) 0 0 0))
@@ -89,10 +94,55 @@ module _ (p l r : ℕ) (m n : Record) (g : ℕ) where
   unfolding mulRule
   mul-is = simp (constants-is, either)
 
-pub neg-rule-is : (p x : ℕ) (m : Record) (g : ℕ) → negRule p x (nodeOf m) g
-    ≡ cond (eqb (m .kind) 5) (make (recordOf 5 (negM p (m .a)) 0 0 0)) (make (recordOf 8 x 0 g 0))
-unfolding negRule
-neg-rule-is p x m g = rw (constants-is, same)
+-- What follows from the answers of `get_neg_child` and `get_const`.
+module _ {X : Type 0} (f : ℕ → X) (z : X) where
+  abbrev orElse : Option → X
+  orElse (Some y) = f y
+  orElse None = z
+
+  module _ (n : Node) where
+    neg-through : orElse (ifNeg n Some None) ≡ ifNeg n f z
+    unfolding ifNeg
+    neg-through = elim n [
+      | leaf x ↦ refl
+      | const k ↦ refl
+      | add l r ↦ refl
+      | sub l r ↦ refl
+      | neg x ↦ refl
+      | mul l r ↦ refl
+    ]
+
+    pub neg-some : {v : Option} → v ≡ ifNeg n Some None → {y : ℕ} → v ≡ Some y → f y ≡ ifNeg n f z
+    neg-some e h = ap orElse (sym h ∙ e) ∙ neg-through
+
+    pub neg-none : {v : Option} → v ≡ ifNeg n Some None → v ≡ None → z ≡ ifNeg n f z
+    neg-none e h = ap orElse (sym h ∙ e) ∙ neg-through
+
+    const-through : orElse (ifConstants n n (λ a b. Some a) None) ≡ ifConstants n n (λ a b. f a) z
+    unfolding ifConstants
+    const-through = elim n [
+      | leaf x ↦ refl
+      | const k ↦ refl
+      | add l r ↦ refl
+      | sub l r ↦ refl
+      | neg x ↦ refl
+      | mul l r ↦ refl
+    ]
+
+    const-some : {v : Option} → v ≡ ifConstants n n (λ a b. Some a) None → {a : ℕ} → v ≡ Some a → f a ≡ ifConstants n n (λ a b. f a) z
+    const-some e h = ap orElse (sym h ∙ e) ∙ const-through
+
+    const-none : {v : Option} → v ≡ ifConstants n n (λ a b. Some a) None → v ≡ None → z ≡ ifConstants n n (λ a b. f a) z
+    const-none e h = ap orElse (sym h ∙ e) ∙ const-through
+
+module _ (p x : ℕ) (n : Node) (g : ℕ) {v : Option} (e : v ≡ ifConstants n n (λ a b. Some a) None) where
+  pub neg-folds : {a : ℕ} → v ≡ Some a → make (recordOf 5 (negM p a) 0 0 0) ≡ negRule p x n g
+  unfolding negRule
+  neg-folds h = const-some (λ (a : ℕ). make (recordOf 5 (negM p a) 0 0 0)) (make (recordOf 8 x 0 g 0)) n e h
+
+  pub neg-stays : v ≡ None → make (recordOf 8 x 0 g 0) ≡ negRule p x n g
+  unfolding negRule
+  neg-stays h = const-none (λ (a : ℕ). make (recordOf 5 (negM p a) 0 0 0)) (make (recordOf 8 x 0 g 0)) n e h
 
 -- What the rules say of a node is what they say of its kind and its word a.
 abbrev pub seen : Record → Node
@@ -100,16 +150,17 @@ seen m = nodeOf (recordOf (m .kind) (m .a) 0 0 0)
 
 module _ (p l r : ℕ) (m n : Record) (g : ℕ) where
   pub view-add : addRule p l r (seen m) (seen n) g ≡ addRule p l r (nodeOf m) (nodeOf n) g
-  view-add = simp (add-is, const-is)
+  view-add = simp (add-is, const-is, neg-is)
 
   pub view-sub : subRule p l r (seen m) (seen n) g ≡ subRule p l r (nodeOf m) (nodeOf n) g
-  view-sub = simp (sub-is, const-is)
+  view-sub = simp (sub-is, const-is, neg-is)
 
   pub view-mul : mulRule p l r (seen m) (seen n) g ≡ mulRule p l r (nodeOf m) (nodeOf n) g
   view-mul = simp (mul-is, const-is)
 
 pub view-neg : (p x : ℕ) (m : Record) (g : ℕ) → negRule p x (seen m) g ≡ negRule p x (nodeOf m) g
-view-neg p x m g = simp neg-rule-is
+unfolding negRule
+view-neg p x m g = simp const-one
 
 -- A test t that the code makes as b: the first choice, or what follows from the second.
 module _ {X : Type 0} {b t : Bool} (x y : X) (e : b ≡ t) where

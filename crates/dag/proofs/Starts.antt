@@ -1,26 +1,23 @@
 -- From an empty scratch and output to the state when all records are added.
 use mathlib.Core.Path.{_≡_, refl, sym, ap, subst, _∙_}
-use mathlib.Core.Bool.{Bool, true, false, cond}
-use mathlib.Core.List.{List, [], _∷_, _++_, map, flatMap}
+use mathlib.Core.List.{List, [], _∷_, _++_, flatMap}
 use Prim.Native.Nat.{ℕ, zero, suc, _+_, _*_, _-_, _≤_, _<_}
 use native.Mathlib.Omega.{arith}
-use lib.ListN.{length, getD, take, drop, replicate, replicate-append-replicate}
+use lib.ListN.{length, getD, drop, replicate, replicate-append-replicate}
 use Rattle.semantics.specs.Arithmetic.{prime}
-use Rattle.semantics.specs.Answer.{good}
-use Rattle.semantics.specs.Sheet.{Sheet, interactionWords, encode, headWords, lengthOf}
-use Rattle.semantics.specs.Check.{readSheet, check}
+use Rattle.semantics.specs.Sheet.{Sheet, interactionWords, lengthOf}
+use Rattle.semantics.specs.Check.{readSheet}
 use Rattle.semantics.specs.Walk.{childrenAt, member, foldLeft, visit, order}
-use Rattle.semantics.specs.Graph.{Built, build, graphRoots}
+use Rattle.semantics.specs.Graph.{build, graphRoots}
 use Rattle.semantics.specs.Call.{zeros, padded}
-use Rattle.semantics.proofs.Members.{Mem, mem-left, mem-getD, not-in, Below}
+use Rattle.semantics.proofs.Members.{mem-getD, not-in}
 use Rattle.semantics.proofs.Access.{constraint-word, words-count, count-words}
 use Rattle.semantics.proofs.Encoding.{head-limits}
 use Rattle.semantics.proofs.GraphSheets.{graph-roots, constraint-root}
-use Rattle.dag.specs.Memory.{tabulate, mark, nodesOut, recordsOf, builtOf, Holds, Order, Walking, Walks, NamesInside, AllRootsInside, Starting, Finishing, allAdded, part, rootWords}
+use Rattle.dag.specs.Memory.{tabulate, mark, nodesOut, recordsOf, builtOf, Holds, Order, Walking, Walks, NamesInside, AllRootsInside, Starting, Finishing, part, rootWords}
 use Rattle.dag.proofs.Steps as steps
 use Rattle.dag.proofs.Graphing.{encode-long}
-use Rattle.dag.proofs.Adds.{few-records}
-use Rattle.dag.proofs.Reading.{roots, constraints-are, interactions-stand, roots-are, roots-inside}
+use Rattle.dag.proofs.Reading.{constraints-are, interactions-stand, roots-are, roots-inside}
 
 table-zeros : (k n : ℕ) (f : ℕ → ℕ) → ((i : ℕ) → f i ≡ 0) → replicate n 0 ≡ tabulate k n f
 unfolding tabulate

@@ -1,31 +1,27 @@
 -- What one step of the walk asks and changes.
-use mathlib.Core.Path.{_≡_, refl, sym, ap, subst, _∙_}
+use mathlib.Core.Path.{_≡_, sym, ap, _∙_}
 use mathlib.Core.Logic.{_⊎_, inl, inr}
-use mathlib.Core.Bool.{Bool, true, false, cond, true≢false, _&&_}
-use mathlib.Core.List.{List, [], _∷_, _++_}
-use Prim.Native.Nat.{ℕ, zero, suc, _+_, _*_, _≤_, _<_}
+use mathlib.Core.Bool.{true, false}
+use mathlib.Core.List.{List, _∷_}
+use Prim.Native.Nat.{ℕ, suc, _<_}
 use native.Mathlib.Omega.{arith}
-use lib.Dec.{eqb, lit<}
+use lib.Dec.{lit<}
 use lib.ListN.{length, getD, set}
-use borrow.Author.Tests.{eqb-true, eqb-false}
 use Rattle.semantics.specs.Arithmetic.{prime}
 use Rattle.semantics.specs.Answer.{good}
-use Rattle.semantics.specs.Sheet.{Record, recordOf, recordWords, Each, GoodRecord, Inside}
+use Rattle.semantics.specs.Sheet.{Record, Each, Inside}
 use Rattle.semantics.specs.Check.{readSheet, check}
-use Rattle.semantics.specs.Value.{Leaf, Node, leaf, const, add, sub, neg, mul, nodeOf, noRecord, recordAt}
-use Rattle.semantics.specs.Walk.{children, childrenAt, member, foldLeft, visit, Distinct}
+use Rattle.semantics.specs.Value.{nodeOf, recordAt}
+use Rattle.semantics.specs.Walk.{children, childrenAt, member, visit}
 use Rattle.semantics.specs.Graph as graph
-use Rattle.semantics.specs.Graph.{Built, setNum, nodeFor, pick, takeIn, addRecord, build, find, intern}
-use Rattle.semantics.proofs.Basics.{by-test, and-true, not-both}
-use Rattle.semantics.proofs.Lists.{each-zero}
-use Rattle.semantics.proofs.Members.{Mem, mem-here, mem-there, mem-cases, not-in, Below, cons-below}
-use Rattle.semantics.proofs.Records.{LowRecord, each-low, isKind, kind-good, good-low}
+use Rattle.semantics.specs.Graph.{Built, pick, takeIn, addRecord, build, find, intern}
+use Rattle.semantics.proofs.Members.{Mem, cons-below}
+use Rattle.semantics.proofs.Records.{LowRecord, each-low}
 use Rattle.semantics.proofs.Encoding.{check-inside}
-use Rattle.semantics.proofs.Access.{record-word}
-use Rattle.semantics.proofs.Walks.{Closed, visit-closed, visit-distinct, visit-reach, reach-le, visit-old, visit-has}
-use Rattle.semantics.proofs.Orders.{low, distinct-length, not-mem}
+use Rattle.semantics.proofs.Walks.{visit-closed, visit-distinct, visit-reach, reach-le}
+use Rattle.semantics.proofs.Orders.{low, distinct-length}
 use Rattle.semantics.proofs.Graphs.{Done, Good, build-good}
-use Rattle.dag.specs.Memory.{tabulate, mark, nodesOut, recordsOf, builtOf, Holds, Order, Ready}
+use Rattle.dag.specs.Memory.{tabulate, mark, nodesOut, recordsOf, builtOf, Holds, Order}
 use Rattle.dag.proofs.Marks.{tabulate-length, tabulate-from, mark-new, mark-old, mark-is, mark-more}
 
 module _ (ws : List ℕ) (checked : check prime ws ≡ good (readSheet ws)) where

@@ -1,21 +1,21 @@
 -- The ways through a visit, by the kind of the record, and the words that say which.
 use mathlib.Core.Path.{_≡_, refl, sym, ap, subst, _∙_}
-use mathlib.Core.Bool.{Bool, true, false, cond, true≢false, _&&_}
-use mathlib.Core.List.{List, [], _∷_, _++_}
-use Prim.Native.Nat.{ℕ, zero, suc, _+_, _*_, _≤_, _<_}
+use mathlib.Core.Bool.{true, false}
+use mathlib.Core.List.{List, [], _∷_}
+use Prim.Native.Nat.{ℕ, suc, _+_, _*_, _≤_, _<_}
 use native.Mathlib.Omega.{arith}
 use lib.Dec.{eqb, leb}
 use lib.ListN.{length, getD}
-use borrow.Author.Tests.{eqb-true, eqb-false, eq-eqb, ne-eqb, leb-true}
+use borrow.Author.Tests.{eqb-true, eqb-false, leb-true}
 use Rattle.semantics.specs.Arithmetic.{prime}
 use Rattle.semantics.specs.Answer.{good}
-use Rattle.semantics.specs.Sheet.{Record, recordWords, GoodRecord, Each}
+use Rattle.semantics.specs.Sheet.{Record, recordWords, GoodRecord}
 use Rattle.semantics.specs.Check.{readSheet, check}
-use Rattle.semantics.specs.Value.{Node, leaf, const, add, sub, neg, mul, nodeOf, noRecord, recordAt}
+use Rattle.semantics.specs.Value.{Node, nodeOf, noRecord, recordAt}
 use Rattle.semantics.specs.Walk.{children, childrenAt, member, foldLeft, visit}
 use Rattle.semantics.proofs.Basics.{by-test, and-true}
 use Rattle.semantics.proofs.Lists.{each-zero}
-use Rattle.semantics.proofs.Members.{Mem, mem-here, mem-there, mem-cases, not-in}
+use Rattle.semantics.proofs.Members.{Mem, mem-here, mem-there}
 use Rattle.semantics.proofs.Records.{isKind, kind-good}
 use Rattle.semantics.proofs.Access.{record-word}
 use Rattle.semantics.proofs.Walks.{visit-fuel}
@@ -38,15 +38,17 @@ pub kind-neg : (r : Record) → r .kind ≡ 8 → children (nodeOf r) ≡ r .a �
 unfolding nodeOf children
 kind-neg r e = rw e
 
-pub kind-flat : (r : Record) → r .kind < 6 → children (nodeOf r) ≡ []
+pub kind-flat : (r : Record) → (6 ≤ r .kind → 9 < r .kind) → children (nodeOf r) ≡ []
 unfolding nodeOf children
 kind-flat r h =
     let P : Node → Type 0 = λ k. children k ≡ [] in
+    let not : (k : ℕ) → 6 ≤ k → k ≤ 9 → eqb (r .kind) k ≡ true → ⊥ =
+    λ k l m e. absurd (omega (arith, eqb-true (r .kind) k e, h (omega (arith, eqb-true (r .kind) k e)))) in
     by-test P (eqb (r .kind) 5) (λ e. refl)
-    (λ _. by-test P (eqb (r .kind) 6) (λ e. absurd (omega (arith, eqb-true (r .kind) 6 e)))
-    (λ _. by-test P (eqb (r .kind) 7) (λ e. absurd (omega (arith, eqb-true (r .kind) 7 e)))
-    (λ _. by-test P (eqb (r .kind) 8) (λ e. absurd (omega (arith, eqb-true (r .kind) 8 e)))
-    (λ _. by-test P (eqb (r .kind) 9) (λ e. absurd (omega (arith, eqb-true (r .kind) 9 e))) (λ _. refl)))))
+    (λ _. by-test P (eqb (r .kind) 6) (λ e. absurd (not 6 (omega arith) (omega arith) e))
+    (λ _. by-test P (eqb (r .kind) 7) (λ e. absurd (not 7 (omega arith) (omega arith) e))
+    (λ _. by-test P (eqb (r .kind) 8) (λ e. absurd (not 8 (omega arith) (omega arith) e))
+    (λ _. by-test P (eqb (r .kind) 9) (λ e. absurd (not 9 (omega arith) (omega arith) e)) (λ _. refl)))))
 
 module _ (ws : List ℕ) (checked : check prime ws ≡ good (readSheet ws)) (r : ℕ) (l : r < length (recordsOf ws)) where
   pub record-good : GoodRecord prime r (recordAt (recordsOf ws) r)

@@ -1,6 +1,4 @@
 -- What the rules' answers mean.
-use mathlib.Core.List.{List}
-use Prim.Native.Nat.{ℕ}
 use Rattle.semantics.specs.Sheet as semantics
 use Rattle.semantics.specs.Sheet.{recordOf}
 use Rattle.semantics.specs.Value.{Node, nodeOf}

@@ -6,10 +6,12 @@ ghost use lib.ListN.{length};
 ghost use lib.Seq.{sets};
 ghost use Rattle.semantics.specs.Sheet as semantics;
 ghost use Rattle.semantics.specs.Sheet.{recordWords};
+ghost use Rattle.semantics.specs.Value.{nodeOf};
+ghost use Rattle.semantics.specs.Walk.{children};
 ghost use Rattle.semantics.specs.Graph.{equalRecords, find, intern};
 ghost use Rattle.dag.specs.Picks.{fiveWords};
 ghost use Rattle.dag.specs.Memory.{nodesOut};
-ghost use Rattle.dag.specs.Nodes.{nodeIn, NoneBefore, FirstEqual};
+ghost use Rattle.dag.specs.Nodes.{nodeIn, NoneBefore, FirstEqual, aboveAll};
 use crate::Record;
 use crate::rules::Child;
 
@@ -19,7 +21,8 @@ pub struct Interned {
     pub count: usize,
 }
 
-fn wide(w: u32) -> usize
+// A word as a place or a count.
+pub fn wide(w: u32) -> usize
     ensures { λ x. ⌜ x ≡ w ⌝ }
 {
     w as usize
@@ -57,6 +60,25 @@ pub fn same_node(out: &[u32], i: usize, r: Record) -> bool
         return false;
     }
     r.d == out[at + 4]
+}
+
+// Where the search for a node begins: above its children.
+pub fn search_from(r: Record) -> usize
+    ensures { λ x. ⌜ x ≡ aboveAll (children (nodeOf (fiveWords r))) ⌝ }
+{
+    if r.kind < 6 {
+        return 0;
+    }
+    if 9 < r.kind {
+        return 0;
+    }
+    if r.kind == 8 {
+        return wide(r.a) + 1;
+    }
+    if r.a < r.b {
+        return wide(r.b) + 1;
+    }
+    wide(r.a) + 1
 }
 
 // The first node from `from` on that is equal, or the number of nodes.

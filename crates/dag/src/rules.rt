@@ -4,7 +4,8 @@ ghost use mathlib.Core.Bool.{_&&_};
 ghost use lib.Dec.{eqb};
 ghost use Rattle.semantics.specs.Arithmetic.{prime};
 ghost use Rattle.semantics.specs.Sheet.{recordOf};
-ghost use Rattle.semantics.specs.Graph.{isConst, make, addRule, subRule, negRule, mulRule};
+ghost use Rattle.semantics.specs.Graph.{isConst, ifConstants, ifNeg, make, addRule, subRule, negRule, mulRule};
+ghost use Rattle.dag.specs.declared.rules.Option.the-variants.{Some, None};
 ghost use Rattle.dag.specs.Picks.{pickOf, viewOf};
 use crate::Record;
 
@@ -19,6 +20,12 @@ pub struct Child {
 pub enum Pick {
     Present(u32),
     Make(Record),
+}
+
+// What a node has, or not.
+pub enum Option {
+    Some(u32),
+    None,
 }
 
 // A node to look for or append, which has no word d.
@@ -52,6 +59,26 @@ fn is_const(c: Child, value: u32) -> bool
     c.a == value
 }
 
+// The value of a node that is a constant.
+fn get_const(c: Child) -> Option
+    ensures { λ x. ⌜ x ≡ ifConstants (viewOf c) (viewOf c) (λ a b. Some a) None ⌝ }
+{
+    if c.kind != 5 {
+        return Option::None;
+    }
+    Option::Some(c.a)
+}
+
+// The child of a node that is Neg.
+fn get_neg_child(c: Child) -> Option
+    ensures { λ x. ⌜ x ≡ ifNeg (viewOf c) Some None ⌝ }
+{
+    if c.kind != 8 {
+        return Option::None;
+    }
+    Option::Some(c.a)
+}
+
 pub fn add_rule(l: Child, r: Child, g: u32) -> Pick
     ensures { λ x. ⌜ pickOf x ≡ addRule prime (l .number) (r .number) (viewOf l) (viewOf r) g ⌝ }
 {
@@ -64,10 +91,10 @@ pub fn add_rule(l: Child, r: Child, g: u32) -> Pick
     if is_const(r, 0) {
         return Pick::Present(l.number);
     }
-    if r.kind == 8 {
-        return make_node(7, l.number, r.a, g);
-    }
-    make_node(6, l.number, r.number, g)
+    let Option::Some(y) = get_neg_child(r) else {
+        return make_node(6, l.number, r.number, g);
+    };
+    make_node(7, l.number, y, g)
 }
 
 pub fn sub_rule(l: Child, r: Child, g: u32) -> Pick
@@ -79,19 +106,19 @@ pub fn sub_rule(l: Child, r: Child, g: u32) -> Pick
     if is_const(r, 0) {
         return Pick::Present(l.number);
     }
-    if r.kind == 8 {
-        return make_node(6, l.number, r.a, g);
-    }
-    make_node(7, l.number, r.number, g)
+    let Option::Some(y) = get_neg_child(r) else {
+        return make_node(7, l.number, r.number, g);
+    };
+    make_node(6, l.number, y, g)
 }
 
 pub fn neg_rule(x: Child, g: u32) -> Pick
     ensures { λ y. ⌜ pickOf y ≡ negRule prime (x .number) (viewOf x) g ⌝ }
 {
-    if x.kind == 5 {
-        return make_node(5, field::neg(x.a), 0, 0);
-    }
-    make_node(8, x.number, 0, g)
+    let Option::Some(a) = get_const(x) else {
+        return make_node(8, x.number, 0, g);
+    };
+    make_node(5, field::neg(a), 0, 0)
 }
 
 pub fn mul_rule(l: Child, r: Child, g: u32) -> Pick

@@ -7,7 +7,6 @@ ghost use lib.Dec.{eqb};
 ghost use lib.ListN.{length, getD};
 ghost use Rattle.semantics.specs.Arithmetic.{prime};
 ghost use Rattle.semantics.specs.Graph.{addRule, subRule, mulRule};
-ghost use Rattle.semantics.specs.Value.{recordAt};
 ghost use Rattle.semantics.specs.Walk.{member, visit, childrenAt};
 ghost use Rattle.dag.specs.Picks.{fiveWords, pickOf, viewOf};
 ghost use Rattle.dag.specs.Nodes.{nodeIn};
@@ -17,12 +16,6 @@ use crate::nodes;
 use crate::rules;
 use crate::rules::Child;
 use crate::rules::Pick;
-
-fn wide(w: u32) -> usize
-    ensures { λ r. ⌜ r ≡ w ⌝ }
-{
-    w as usize
-}
 
 // The five words of record r.
 fn record_at(sheet: &[u32], r: usize) -> Record
@@ -69,11 +62,11 @@ fn pick_node(sheet: &[u32], scratch: &[u32], out: &[u32], r: usize) -> Pick
     if q.kind < 6 {
         return Pick::Make(q);
     }
-    let l = built_child(scratch, out, wide(q.a));
+    let l = built_child(scratch, out, nodes::wide(q.a));
     if q.kind == 8 {
         return rules::neg_rule(l, q.c);
     }
-    two_rule(q.kind, l, built_child(scratch, out, wide(q.b)), q.c)
+    two_rule(q.kind, l, built_child(scratch, out, nodes::wide(q.b)), q.c)
 }
 
 // Adds a record whose children are added, and hands back the number of nodes.
@@ -87,7 +80,8 @@ fn add_record(sheet: &[u32], scratch: &mut [u32], out: &mut [u32], r: usize, n: 
             n
         }
         Pick::Make(q) => {
-            let node = nodes::intern_node(out, n, 0, q);
+            let from = nodes::search_from(q);
+            let node = nodes::intern_node(out, n, from, q);
             scratch[r] = node.index as u32 + 1;
             node.count
         }
@@ -106,12 +100,12 @@ fn add_expr(sheet: &[u32], scratch: &mut [u32], out: &mut [u32], r: usize, n: us
     if q.kind < 6 {
         return add_record(sheet, scratch, out, r, n);
     }
-    let left = wide(q.a);
+    let left = nodes::wide(q.a);
     let one = add_expr(sheet, scratch, out, left, n);
     if q.kind == 8 {
         return add_record(sheet, scratch, out, r, one);
     }
-    let right = wide(q.b);
+    let right = nodes::wide(q.b);
     let two = add_expr(sheet, scratch, out, right, one);
     add_record(sheet, scratch, out, r, two)
 }
@@ -131,7 +125,7 @@ pub fn add_names(
     let mut used = n;
     let mut j: usize = 0;
     while j < count {
-        let r = wide(sheet[at + j]);
+        let r = nodes::wide(sheet[at + j]);
         used = add_expr(sheet, scratch, out, r, used);
         j += 1;
     }
@@ -149,7 +143,7 @@ fn add_interaction(
     requires { ⌜ Walking (now sheet) (now scratch) (now out) n × RootsInside (length (recordsOf (now sheet))) (now sheet) at ⌝ }
     ensures { λ u. ⌜ Walks (now (sheet .entry)) (part (at + 4) (messageLength (now (sheet .entry)) at) (now (sheet .entry)) ++ part (at + 2) 1 (now (sheet .entry))) (now (scratch .entry)) (now (out .entry)) n (now (scratch .exit)) (now (out .exit)) u ⌝ }
 {
-    let message = wide(sheet[at + 3]);
+    let message = nodes::wide(sheet[at + 3]);
     let fields = add_names(sheet, at + 4, message, scratch, out, n);
     add_names(sheet, at + 2, 1, scratch, out, fields)
 }
@@ -170,7 +164,7 @@ pub fn add_interactions(
     let mut from = at;
     let mut i: usize = 0;
     while i < count {
-        let message = wide(sheet[from + 3]);
+        let message = nodes::wide(sheet[from + 3]);
         used = add_interaction(sheet, from, scratch, out, used);
         from = from + 4 + message;
         i += 1;

@@ -1,49 +1,41 @@
-use mathlib.Core.Path.{_≡_, refl, sym, ap, subst, _∙_}
-use mathlib.Core.Bool.{Bool, true, false, cond}
-use mathlib.Core.List.{List, [], _∷_, _++_}
-use Prim.Native.Nat.{ℕ, zero, suc, _+_, _*_, _-_, _/_, _%_, _≤_, _<_}
-use native.Mathlib.Omega.{arith}
+use mathlib.Core.Path.{sym, ap, _∙_}
+use mathlib.Core.List.{List}
+use Prim.Native.Nat.{ℕ, _-_, _/_}
 use borrow.Author.Needs.{needs}
-use lib.ListN.{length, getD, take, drop, replicate, set, length-set}
+use lib.ListN.{replicate}
 use Rattle.semantics.specs.Arithmetic.{prime}
 use Rattle.semantics.specs.Call.{builderCall, zeros}
 use Rattle.dag.specs.Calls.{builtOutcome}
 use Rattle.dag.proofs.build.Statement.{statement}
 use Rattle.dag.proofs.build.Tie as tie
-use Rattle.dag.proofs.build.Reads as reads
-use Rattle.dag.proofs.build.Lts as lts
-use Rattle.dag.proofs.build_clear.Reads as build-clear-reads
-use Rattle.slices.proofs.zero_all.Reads as zero-all-reads
 
--- src/lib.rt:63:5
 zero-all-requires : tie.Need-zero-all-requires
 zero-all-requires c κs = search needs
 
--- src/lib.rt:64:5
 zero-all-requires-2 : tie.Need-zero-all-requires-2
 zero-all-requires-2 c κs = search needs
 
--- src/lib.rt:65:9
 build-clear-requires : tie.Need-build-clear-requires
 unfolding zeros
-build-clear-requires c κs = (c .before .before .before .before .before .before .before .before .zero-all .ensures ∙ ap (λ (k : ℕ). replicate k 0) (sym (c .before .before .before .before .before .before .before .before .zero-all .kept .0)), c .before .before .before .before .zero-all2 .ensures ∙ ap (λ (k : ℕ). replicate k 0) (sym (c .before .before .before .before .zero-all2 .kept .0)))
+build-clear-requires c κs =
+    let zero-all = c .before .before .before .before .before .before .before .before .zero-all in
+    let zero-all2 = c .before .before .before .before .zero-all2 in
+    (zero-all .ensures ∙ ap (λ (k : ℕ). replicate k 0) (sym (zero-all .kept .0)), zero-all2 .ensures ∙ ap (λ (k : ℕ). replicate k 0) (sym (zero-all2 .kept .0)))
 
--- src/lib.rt:66:5
 zero-all-requires-3 : tie.Need-zero-all-requires-3
 zero-all-requires-3 c κs = search needs
 
--- src/lib.rt:60:1
 same-length : tie.Need-same-length
 same-length c = search needs
 
--- src/lib.rt:60:1
 same-length-2 : tie.Need-same-length-2
 same-length-2 c = search needs
 
--- src/lib.rt:60:1
 returns : tie.Need-returns
 unfolding zeros
-returns c = ap (λ (l : List ℕ). builtOutcome (c .before .before .before .before .before .before .before .before .build-clear .result) l (c .before .before .before .before .before .before .before .before .build-clear .last .1 .1 .0)) (c .before .before .zero-all3 .ensures ∙ ap (λ (k : ℕ). replicate k 0) (c .before .before .before .before .before .before .before .before .build-clear .kept .1 .0)) ∙ c .before .before .before .before .before .before .before .before .build-clear .ensures ∙ (λ i. builderCall prime (c .before .before .before .before .before .before .before .before .before .before .before .before .before .before .before .before .before .before .before .before .before .before .args .s .now) (c .before .before .before .before .before .before .before .before .before .before .before .before .before .before .before .before .before .zero-all .kept .0 i) (c .before .before .before .before .before .before .before .before .before .before .before .before .before .zero-all2 .kept .0 i))
+returns c =
+    let build-clear = c .before .before .before .before .before .before .before .before .build-clear in
+    ap (λ (l : List ℕ). builtOutcome (build-clear .result) l (build-clear .last .1 .1 .0)) (c .before .before .zero-all3 .ensures ∙ ap (λ (k : ℕ). replicate k 0) (build-clear .kept .1 .0)) ∙ build-clear .ensures ∙ (λ i. builderCall prime (c .before .before .before .before .before .before .before .before .before .before .before .before .before .before .before .before .before .before .before .before .before .before .args .s .now) (c .before .before .before .before .before .before .before .before .before .before .before .before .before .before .before .before .before .zero-all .kept .0 i) (c .before .before .before .before .before .before .before .before .before .before .before .before .before .zero-all2 .kept .0 i))
 
 pub build-spec : {M : Type 1} → statement M
 build-spec =

@@ -1,10 +1,8 @@
-use mathlib.Core.Path.{_≡_, refl, sym, ap, subst, _∙_}
-use mathlib.Core.Bool.{Bool, true, false, cond}
-use mathlib.Core.List.{List, [], _∷_, _++_}
-use Prim.Native.Nat.{ℕ, zero, suc, _+_, _*_, _-_, _/_, _%_, _≤_, _<_}
+use mathlib.Core.Path.{ap, _∙_}
+use Prim.Native.Nat.{_-_, _/_}
 use native.Mathlib.Omega.{arith}
 use borrow.Author.Needs.{needs}
-use lib.ListN.{length, getD, take, drop, replicate, set, length-set}
+use lib.ListN.{length}
 use lib.ListN.{length-take}
 use Rattle.semantics.specs.Call.{zeros}
 use Rattle.sheet.specs.declared.Written.the-variants.{Refused}
@@ -12,41 +10,43 @@ use Rattle.dag.specs.Calls.{builtOutcome}
 use Rattle.dag.proofs.Outcomes.{scratch-short, out-short, graph-built, starting}
 use Rattle.dag.proofs.build_checked.Statement.{statement}
 use Rattle.dag.proofs.build_checked.Tie as tie
-use Rattle.dag.proofs.build_checked.Reads as reads
-use Rattle.dag.proofs.build_checked.Lts as lts
-use Rattle.dag.proofs.graph.build_graph.Reads as build-graph-reads
 
--- src/lib.rt:33:9
 returns : tie.Need-returns
-returns c = ap (builtOutcome (Refused (record { number = 14; place = (c .before .before .before .before .args .records) })) (zeros (length (c .before .before .before .before .args .scratch .now)))) (c .before .before .before .before .pre .out-is) ∙ scratch-short (c .before .before .before .before .args .s .now) (length (c .before .before .before .before .args .scratch .now)) (length (c .before .before .before .before .args .out .now)) (c .before .before .before .before .args .records) (c .before .before .before .before .args .words) (c .before .before .before .before .args .scratch .now) (c .before .before .before .before .args .out .now) (c .before .before .before .before .pre) (c .if1 .taken)
+returns c =
+    let a = c .before .before .before .before .args in
+    let p = c .before .before .before .before .pre in
+    ap (builtOutcome (Refused (record { number = 14; place = (a .records) })) (zeros (length (a .scratch .now)))) (p .out-is) ∙ scratch-short (a .s .now) (length (a .scratch .now)) (length (a .out .now)) (a .records) (a .words) (a .scratch .now) (a .out .now) p (c .if1 .taken)
 
--- src/lib.rt:39:9
 returns-2 : tie.Need-returns-2
-returns-2 c = ap (builtOutcome (Refused (record { number = 15; place = (c .before .before .before .before .before .args .words) })) (zeros (length (c .before .before .before .before .before .args .scratch .now)))) (c .before .before .before .before .before .pre .out-is) ∙ out-short (c .before .before .before .before .before .args .s .now) (length (c .before .before .before .before .before .args .scratch .now)) (length (c .before .before .before .before .before .args .out .now)) (c .before .before .before .before .before .args .records) (c .before .before .before .before .before .args .words) (c .before .before .before .before .before .args .scratch .now) (c .before .before .before .before .before .args .out .now) (c .before .before .before .before .before .pre) (c .before .if1 .left) (c .if2 .taken)
+returns-2 c =
+    let a = c .before .before .before .before .before .args in
+    let p = c .before .before .before .before .before .pre in
+    ap (builtOutcome (Refused (record { number = 15; place = (a .words) })) (zeros (length (a .scratch .now)))) (p .out-is) ∙ out-short (a .s .now) (length (a .scratch .now)) (length (a .out .now)) (a .records) (a .words) (a .scratch .now) (a .out .now) p (c .before .if1 .left) (c .if2 .taken)
 
--- src/lib.rt:44:41
 slice-relend-prefix-build-graph : tie.Need-slice-relend-prefix-build-graph
 slice-relend-prefix-build-graph c = search needs
 
--- src/lib.rt:44:41
 slice-aggregate-build-graph : tie.Need-slice-aggregate-build-graph
-slice-aggregate-build-graph c = omega (arith, length-take (c .before .before .before .before .before .before .args .records) (c .before .before .before .before .before .before .args .scratch .now), c .before .before .if1 .left)
+slice-aggregate-build-graph c =
+    let a = c .before .before .before .before .before .before .args in
+    omega (arith, length-take (a .records) (a .scratch .now), c .before .before .if1 .left)
 
--- src/lib.rt:44:9
 build-graph-requires : tie.Need-build-graph-requires
-build-graph-requires c κs = starting (c .before .before .before .before .before .before .before .args .s .now) (length (c .before .before .before .before .before .before .before .args .scratch .now)) (length (c .before .before .before .before .before .before .before .args .out .now)) (c .before .before .before .before .before .before .before .args .records) (c .before .before .before .before .before .before .before .args .words) (c .before .before .before .before .before .before .before .args .scratch .now) (c .before .before .before .before .before .before .before .args .out .now) (c .before .before .before .before .before .before .before .pre) (c .before .before .if2 .left) (c .before .before .before .if1 .left)
+build-graph-requires c κs =
+    let a = c .before .before .before .before .before .before .before .args in
+    starting (a .s .now) (length (a .scratch .now)) (length (a .out .now)) (a .records) (a .words) (a .scratch .now) (a .out .now) (c .before .before .before .before .before .before .before .pre) (c .before .before .if2 .left) (c .before .before .before .if1 .left)
 
--- src/lib.rt:28:1
 same-length : tie.Need-same-length
 same-length c = search needs
 
--- src/lib.rt:28:1
 same-length-2 : tie.Need-same-length-2
 same-length-2 c = search needs
 
--- src/lib.rt:28:1
 returns-3 : tie.Need-returns-3
-returns-3 c = graph-built (c .before .before .before .before .before .before .before .before .before .before .before .before .args .s .now) (length (c .before .before .before .before .before .before .before .before .before .before .before .before .args .scratch .now)) (length (c .before .before .before .before .before .before .before .before .before .before .before .before .args .out .now)) (c .before .before .before .before .before .before .before .before .before .before .before .before .args .records) (c .before .before .before .before .before .before .before .before .before .before .before .before .args .words) (c .before .before .before .before .before .before .before .before .before .before .before .before .args .scratch .now) (c .before .before .before .before .before .before .before .before .before .before .before .before .args .out .now) (c .before .before .before .before .before .before .before .before .before .before .before .before .pre) (c .before .before .before .before .before .before .before .before .if1 .left) (c .before .before .before .before .before .before .before .if2 .left) (c .before .before .before .before .build-graph .result) (c .before .before .before .before .build-graph .last .1 .1 .0) (c .before .before .before .before .build-graph .ensures .0) (c .before .before .before .before .build-graph .ensures .1)
+returns-3 c =
+    let a = c .before .before .before .before .before .before .before .before .before .before .before .before .args in
+    let build-graph = c .before .before .before .before .build-graph in
+    graph-built (a .s .now) (length (a .scratch .now)) (length (a .out .now)) (a .records) (a .words) (a .scratch .now) (a .out .now) (c .before .before .before .before .before .before .before .before .before .before .before .before .pre) (c .before .before .before .before .before .before .before .before .if1 .left) (c .before .before .before .before .before .before .before .if2 .left) (build-graph .result) (build-graph .last .1 .1 .0) (build-graph .ensures .0) (build-graph .ensures .1)
 
 pub build-checked-spec : {M : Type 1} → statement M
 build-checked-spec =

@@ -1,10 +1,7 @@
-use mathlib.Core.Path.{_≡_, refl, sym, ap, subst, _∙_}
-use mathlib.Core.Bool.{Bool, true, false, cond}
-use mathlib.Core.List.{List, [], _∷_, _++_}
-use Prim.Native.Nat.{ℕ, zero, suc, _+_, _*_, _-_, _/_, _%_, _≤_, _<_}
-use native.Mathlib.Omega.{arith}
+use mathlib.Core.Path.{ap, _∙_}
+use Prim.Native.Nat.{_-_, _/_}
 use borrow.Author.Needs.{needs}
-use lib.ListN.{length, getD, take, drop, replicate, set, length-set}
+use lib.ListN.{length}
 use Rattle.semantics.specs.Arithmetic.{prime}
 use Rattle.semantics.specs.Check.{check}
 use Rattle.semantics.specs.Call.{zeros}
@@ -15,42 +12,37 @@ use Rattle.dag.specs.Calls.{builtOutcome}
 use Rattle.dag.proofs.Outcomes.{clear-found, call-refused}
 use Rattle.dag.proofs.build_clear.Statement.{statement}
 use Rattle.dag.proofs.build_clear.Tie as tie
-use Rattle.dag.proofs.build_clear.Reads as reads
-use Rattle.dag.proofs.build_clear.Lts as lts
-use Rattle.dag.proofs.build_checked.Reads as build-checked-reads
-use Rattle.sheet.proofs.check_sheet.Reads as check-sheet-reads
 
--- src/lib.rt:53:11
 check-sheet-requires : tie.Need-check-sheet-requires
 check-sheet-requires c κs = search needs
 
--- src/lib.rt:54:24
 enum-known-head : tie.Need-enum-known-head
 enum-known-head c = search needs
 
--- src/lib.rt:54:33
 build-checked-requires : tie.Need-build-checked-requires
-build-checked-requires c κs = let t = found (check prime (c .before .before .before .before .before .before .before .before .before .args .s .now)) (c .before .before .before .before .before .check-sheet .ensures) (c .before .before .before .head .given .1) in clear-found (c .before .before .before .before .before .before .before .before .before .args .s .now) (t .0) (t .1) _ _ (ap (λ (h : Head). h .records) (t .2)) (ap (λ (h : Head). h .words) (t .2)) (c .before .before .before .before .before .before .before .before .before .args .scratch .now) (c .before .before .before .before .before .before .before .before .before .args .out .now) (c .before .before .before .before .before .before .before .before .before .pre .0) (c .before .before .before .before .before .before .before .before .before .pre .1)
+build-checked-requires c κs =
+    let a = c .before .before .before .before .before .before .before .before .before .args in
+    let p = c .before .before .before .before .before .before .before .before .before .pre in
+    let t = found (check prime (a .s .now)) (c .before .before .before .before .before .check-sheet .ensures) (c .before .before .before .head .given .1) in
+    clear-found (a .s .now) (t .0) (t .1) _ _ (ap (λ (h : Head). h .records) (t .2)) (ap (λ (h : Head). h .words) (t .2)) (a .scratch .now) (a .out .now) (p .0) (p .1)
 
--- src/lib.rt:55:26
 enum-known-r : tie.Need-enum-known-r
 enum-known-r c = search needs
 
--- src/lib.rt:49:1
 same-length : tie.Need-same-length
 same-length c = search needs
 
--- src/lib.rt:49:1
 same-length-2 : tie.Need-same-length-2
 same-length-2 c = search needs
 
--- src/lib.rt:49:1
 returns : tie.Need-returns
 returns c = search needs
 
--- src/lib.rt:49:1
 returns-2 : tie.Need-returns-2
-returns-2 c = ap (builtOutcome (Refused (c .before .r .given .0 .0)) (zeros (length (c .before .before .before .before .before .before .before .args .scratch .now)))) (c .before .before .before .before .before .before .before .pre .1) ∙ call-refused (c .before .before .before .before .before .before .before .args .s .now) (length (c .before .before .before .before .before .before .before .args .scratch .now)) (length (c .before .before .before .before .before .before .before .args .out .now)) (c .before .before .before .check-sheet .ensures) (c .before .r .given .1)
+returns-2 c =
+    let a = c .before .before .before .before .before .before .before .args in
+    let r = c .before .r in
+    ap (builtOutcome (Refused (r .given .0 .0)) (zeros (length (a .scratch .now)))) (c .before .before .before .before .before .before .before .pre .1) ∙ call-refused (a .s .now) (length (a .scratch .now)) (length (a .out .now)) (c .before .before .before .check-sheet .ensures) (r .given .1)
 
 pub build-clear-spec : {M : Type 1} → statement M
 build-clear-spec =

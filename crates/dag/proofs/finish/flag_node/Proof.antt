@@ -1,51 +1,43 @@
-use mathlib.Core.Path.{_≡_, refl, sym, ap, subst, _∙_}
-use mathlib.Core.Bool.{Bool, true, false, cond}
-use mathlib.Core.List.{List, [], _∷_, _++_}
-use Prim.Native.Nat.{ℕ, zero, suc, _+_, _*_, _-_, _/_, _%_, _≤_, _<_}
-use native.Mathlib.Omega.{arith}
+use mathlib.Core.Path.{sym, ap, _∙_}
+use mathlib.Core.Bool.{Bool, cond}
+use Prim.Native.Nat.{_+_, _-_, _/_}
 use borrow.Author.Needs.{needs}
-use lib.ListN.{length, getD, take, drop, replicate, set, length-set}
+use lib.ListN.{getD, set}
 use lib.Seq.{set-getD}
 use borrow.Author.Tests.{le-leb, lt-leb}
 use Rattle.dag.specs.Memory.{flagWord}
 use Rattle.dag.proofs.finish.flag_node.Statement.{statement}
 use Rattle.dag.proofs.finish.flag_node.Tie as tie
-use Rattle.dag.proofs.finish.flag_node.Reads as reads
-use Rattle.dag.proofs.finish.flag_node.Lts as lts
 
--- src/finish.rt:31:16
 mul-word : tie.Need-mul-word
 mul-word c = search needs
 
--- src/finish.rt:31:16
 slice-read-word : tie.Need-slice-read-word
 slice-read-word c = search needs
 
--- src/finish.rt:33:9
 returns : tie.Need-returns
 unfolding flagWord
-returns c = sym (ap (λ (b : Bool). set (c .before .before .args .scratch .now) (c .before .before .args .node) (cond b (getD (c .before .before .args .scratch .now) (c .before .before .args .node) 0) (getD (c .before .before .args .scratch .now) (c .before .before .args .node) 0 + 65536))) (le-leb 65536 (getD (c .before .before .args .scratch .now) (c .before .before .args .node) 0) (c .if1 .taken)) ∙ set-getD (c .before .before .args .scratch .now) (c .before .before .args .node) 0)
+returns c =
+    let a = c .before .before .args in
+    sym (ap (λ (b : Bool). set (a .scratch .now) (a .node) (cond b (getD (a .scratch .now) (a .node) 0) (getD (a .scratch .now) (a .node) 0 + 65536))) (le-leb 65536 (getD (a .scratch .now) (a .node) 0) (c .if1 .taken)) ∙ set-getD (a .scratch .now) (a .node) 0)
 
--- src/finish.rt:35:21
 add-scratch : tie.Need-add-scratch
 add-scratch c = search needs
 
--- src/finish.rt:35:5
 mul-scratch : tie.Need-mul-scratch
 mul-scratch c = search needs
 
--- src/finish.rt:35:5
 slice-write-scratch : tie.Need-slice-write-scratch
 slice-write-scratch c = search needs
 
--- src/finish.rt:27:1
 same-length : tie.Need-same-length
 same-length c = search needs
 
--- src/finish.rt:27:1
 returns-2 : tie.Need-returns-2
 unfolding flagWord
-returns-2 c = sym (ap (λ (b : Bool). set (c .before .before .args .scratch .now) (c .before .before .args .node) (cond b (getD (c .before .before .args .scratch .now) (c .before .before .args .node) 0) (getD (c .before .before .args .scratch .now) (c .before .before .args .node) 0 + 65536))) (lt-leb 65536 (getD (c .before .before .args .scratch .now) (c .before .before .args .node) 0) (c .if1 .left)))
+returns-2 c =
+    let a = c .before .before .args in
+    sym (ap (λ (b : Bool). set (a .scratch .now) (a .node) (cond b (getD (a .scratch .now) (a .node) 0) (getD (a .scratch .now) (a .node) 0 + 65536))) (lt-leb 65536 (getD (a .scratch .now) (a .node) 0) (c .if1 .left)))
 
 pub flag-node-spec : {M : Type 1} → statement M
 flag-node-spec =

@@ -1,20 +1,13 @@
-use mathlib.Core.Path.{_≡_, refl, sym, ap, subst, _∙_}
-use mathlib.Core.Bool.{Bool, true, false, cond}
-use mathlib.Core.List.{List, [], _∷_, _++_}
-use Prim.Native.Nat.{ℕ, zero, suc, _+_, _*_, _-_, _/_, _%_, _≤_, _<_}
+use mathlib.Core.Path.{_≡_, sym, ap, subst, _∙_}
+use Prim.Native.Nat.{ℕ, _+_, _-_, _/_, _%_, _≤_, _<_}
 use native.Mathlib.Omega.{arith}
 use borrow.Author.Needs.{needs}
-use lib.ListN.{length, getD, take, drop, replicate, set, length-set}
+use lib.ListN.{length, getD}
 use Prim.Native.Nat.{pred}
-use Rattle.dag.specs.Memory.{tabulate, flagWord, flagged, part, nodeNumbers, marksOf, Named}
+use Rattle.dag.specs.Memory.{tabulate, flagged, part, nodeNumbers, marksOf}
 use Rattle.dag.proofs.Flags.{flagging-none, flagging-length, flagging-more, next-mark, next-node}
 use Rattle.dag.proofs.finish.flag_nodes.Statement.{statement}
 use Rattle.dag.proofs.finish.flag_nodes.Tie as tie
-use Rattle.dag.proofs.finish.flag_nodes.Reads as reads
-use Rattle.dag.proofs.finish.flag_nodes.Lts as lts
-use Rattle.dag.proofs.finish.flag_node.Reads as flag-node-reads
-use Rattle.dag.proofs.finish.node_number.Reads as node-number-reads
-use Rattle.dag.proofs.finish.wide.Reads as wide-reads
 
 j-is : (j count : ℕ) → j ≤ count → count ≤ j → j ≡ count
 j-is j count h k = omega arith
@@ -25,53 +18,66 @@ Inv-loop sheet at count scratch₀ j₀ scratch j = (j ≤ count) × (scratch �
 abbrev μ-loop : tie.MeasureT-loop
 μ-loop sheet at count scratch₀ j₀ scratch j = count - j
 
--- src/finish.rt:44:5
 loop-holds : tie.Need-loop-holds Inv-loop μ-loop
-loop-holds c = (omega arith, flagging-none (c .before .before .args .sheet .now) (c .before .before .args .at) (c .before .before .args .count) (c .before .before .args .scratch .now) (c .before .before .pre))
+loop-holds c =
+    let a = c .before .before .args in
+    (omega arith, flagging-none (a .sheet .now) (a .at) (a .count) (a .scratch .now) (c .before .before .pre))
 
--- src/finish.rt:45:52
 add-wide : tie.Need-add-wide Inv-loop μ-loop
 add-wide c = omega (arith, c .before .before .before .before .before .pre .inside)
 
--- src/finish.rt:45:46
 mul-wide : tie.Need-mul-wide Inv-loop μ-loop
-mul-wide c = let h : (c .before .before .before .before .before .args .at) + c .before .before .loop .j < length (c .before .before .before .before .before .args .sheet .now) = omega (arith, c .before .before .before .before .before .pre .inside) in search needs
+mul-wide c =
+    let h : (c .before .before .before .before .before .args .at) + c .before .before .loop .j < length (c .before .before .before .before .before .args .sheet .now) = omega (arith, c .before .before .before .before .before .pre .inside) in
+    search needs
 
--- src/finish.rt:45:46
 shared-slice-read-wide : tie.Need-shared-slice-read-wide Inv-loop μ-loop
 shared-slice-read-wide c = omega (arith, c .before .before .before .before .before .before .pre .inside)
 
--- src/finish.rt:45:41
 wide-requires : tie.Need-wide-requires Inv-loop μ-loop
 wide-requires c κs = search needs
 
--- src/finish.rt:45:13
 node-number-requires : tie.Need-node-number-requires Inv-loop μ-loop
-node-number-requires c κs = let n = c .before .before .before .before .before .before .before .pre .named (c .before .before .before .before .loop .j) (omega arith) in let w = c .wide .ensures in let q = flagging-length (c .before .before .before .before .before .before .before .args .sheet .now) (c .before .before .before .before .before .before .before .args .at) (c .before .before .before .before .before .before .before .args .count) (c .before .before .before .before .before .before .before .args .scratch .now) (c .before .before .before .before .before .before .before .pre) (c .before .before .before .before .loop .scratch) (c .before .before .before .before .loop .j) (c .before .before .before .before .loop .inv .1) in (omega arith, subst (λ (x : ℕ). 0 < getD (c .before .before .before .before .loop .scratch) x 0 % 65536) (sym w) (omega (arith, next-mark (c .before .before .before .before .before .before .before .args .sheet .now) (c .before .before .before .before .before .before .before .args .at) (c .before .before .before .before .before .before .before .args .count) (c .before .before .before .before .before .before .before .args .scratch .now) (c .before .before .before .before .before .before .before .pre) (c .before .before .before .before .loop .scratch) (c .before .before .before .before .loop .j) (c .before .before .before .before .loop .inv .1) (omega arith))))
+node-number-requires c κs =
+    let a = c .before .before .before .before .before .before .before .args in
+    let p = c .before .before .before .before .before .before .before .pre in
+    let loop = c .before .before .before .before .loop in
+    let n = p .named (loop .j) (omega arith) in
+    let w = c .wide .ensures in
+    let q = flagging-length (a .sheet .now) (a .at) (a .count) (a .scratch .now) p (loop .scratch) (loop .j) (loop .inv .1) in
+    (omega arith, subst (λ (x : ℕ). 0 < getD (loop .scratch) x 0 % 65536) (sym w) (omega (arith, next-mark (a .sheet .now) (a .at) (a .count) (a .scratch .now) p (loop .scratch) (loop .j) (loop .inv .1) (omega arith))))
 
--- src/finish.rt:46:9
 flag-node-requires : tie.Need-flag-node-requires Inv-loop μ-loop
-flag-node-requires c κs = omega (arith, (c .before .node-number .ensures ∙ ap (λ (x : ℕ). pred (getD (c .before .before .before .before .before .before .loop .scratch) x 0 % 65536)) (c .before .before .wide .ensures) ∙ ap pred (next-mark (c .before .before .before .before .before .before .before .before .before .args .sheet .now) (c .before .before .before .before .before .before .before .before .before .args .at) (c .before .before .before .before .before .before .before .before .before .args .count) (c .before .before .before .before .before .before .before .before .before .args .scratch .now) (c .before .before .before .before .before .before .before .before .before .pre) (c .before .before .before .before .before .before .loop .scratch) (c .before .before .before .before .before .before .loop .j) (c .before .before .before .before .before .before .loop .inv .1) (omega arith))), next-node (c .before .before .before .before .before .before .before .before .before .args .sheet .now) (c .before .before .before .before .before .before .before .before .before .args .at) (c .before .before .before .before .before .before .before .before .before .args .count) (c .before .before .before .before .before .before .before .before .before .args .scratch .now) (c .before .before .before .before .before .before .before .before .before .pre) (c .before .before .before .before .before .before .loop .scratch) (c .before .before .before .before .before .before .loop .j) (c .before .before .before .before .before .before .loop .inv .1) (omega arith), flagging-length (c .before .before .before .before .before .before .before .before .before .args .sheet .now) (c .before .before .before .before .before .before .before .before .before .args .at) (c .before .before .before .before .before .before .before .before .before .args .count) (c .before .before .before .before .before .before .before .before .before .args .scratch .now) (c .before .before .before .before .before .before .before .before .before .pre) (c .before .before .before .before .before .before .loop .scratch) (c .before .before .before .before .before .before .loop .j) (c .before .before .before .before .before .before .loop .inv .1))
+flag-node-requires c κs =
+    let a = c .before .before .before .before .before .before .before .before .before .args in
+    let p = c .before .before .before .before .before .before .before .before .before .pre in
+    let loop = c .before .before .before .before .before .before .loop in
+    omega (arith, (c .before .node-number .ensures ∙ ap (λ (x : ℕ). pred (getD (loop .scratch) x 0 % 65536)) (c .before .before .wide .ensures) ∙ ap pred (next-mark (a .sheet .now) (a .at) (a .count) (a .scratch .now) p (loop .scratch) (loop .j) (loop .inv .1) (omega arith))), next-node (a .sheet .now) (a .at) (a .count) (a .scratch .now) p (loop .scratch) (loop .j) (loop .inv .1) (omega arith), flagging-length (a .sheet .now) (a .at) (a .count) (a .scratch .now) p (loop .scratch) (loop .j) (loop .inv .1))
 
--- src/finish.rt:47:9
 add-j : tie.Need-add-j Inv-loop μ-loop
 add-j c = search needs
 
--- src/finish.rt:44:5
 loop-less : tie.Need-loop-less Inv-loop μ-loop
 loop-less c = search needs
 
--- src/finish.rt:44:5
 loop-again : tie.Need-loop-again Inv-loop μ-loop
-loop-again c = (omega arith, flagging-more (c .before .before .before .before .before .before .before .before .before .before .before .before .args .sheet .now) (c .before .before .before .before .before .before .before .before .before .before .before .before .args .at) (c .before .before .before .before .before .before .before .before .before .before .before .before .args .count) (c .before .before .before .before .before .before .before .before .before .before .before .before .args .scratch .now) (c .before .before .before .before .before .before .before .before .before .before .before .before .pre) (c .before .before .before .before .before .before .before .before .before .loop .scratch) (c .before .before .before .before .before .before .before .before .before .loop .j) (c .before .before .before .before .before .before .before .before .before .loop .inv .1) (omega arith) _ (c .before .before .before .before .node-number .ensures ∙ ap (λ (x : ℕ). pred (getD (c .before .before .before .before .before .before .before .before .before .loop .scratch) x 0 % 65536)) (c .before .before .before .before .before .wide .ensures) ∙ ap pred (next-mark (c .before .before .before .before .before .before .before .before .before .before .before .before .args .sheet .now) (c .before .before .before .before .before .before .before .before .before .before .before .before .args .at) (c .before .before .before .before .before .before .before .before .before .before .before .before .args .count) (c .before .before .before .before .before .before .before .before .before .before .before .before .args .scratch .now) (c .before .before .before .before .before .before .before .before .before .before .before .before .pre) (c .before .before .before .before .before .before .before .before .before .loop .scratch) (c .before .before .before .before .before .before .before .before .before .loop .j) (c .before .before .before .before .before .before .before .before .before .loop .inv .1) (omega arith))) _ (c .before .before .flag-node .ensures))
+loop-again c =
+    let a = c .before .before .before .before .before .before .before .before .before .before .before .before .args in
+    let p = c .before .before .before .before .before .before .before .before .before .before .before .before .pre in
+    let loop = c .before .before .before .before .before .before .before .before .before .loop in
+    (omega arith, flagging-more (a .sheet .now) (a .at) (a .count) (a .scratch .now) p (loop .scratch) (loop .j) (loop .inv .1) (omega arith) _ (c .before .before .before .before .node-number .ensures ∙ ap (λ (x : ℕ). pred (getD (loop .scratch) x 0 % 65536)) (c .before .before .before .before .before .wide .ensures) ∙ ap pred (next-mark (a .sheet .now) (a .at) (a .count) (a .scratch .now) p (loop .scratch) (loop .j) (loop .inv .1) (omega arith))) _ (c .before .before .flag-node .ensures))
 
--- src/finish.rt:39:1
 same-length : tie.Need-same-length Inv-loop μ-loop
-same-length c = flagging-length (c .before .before .before .before .args .sheet .now) (c .before .before .before .before .args .at) (c .before .before .before .before .args .count) (c .before .before .before .before .args .scratch .now) (c .before .before .before .before .pre) (c .before .loop .scratch) (c .before .loop .j) (c .before .loop .inv .1)
+same-length c =
+    let a = c .before .before .before .before .args in
+    let loop = c .before .loop in
+    flagging-length (a .sheet .now) (a .at) (a .count) (a .scratch .now) (c .before .before .before .before .pre) (loop .scratch) (loop .j) (loop .inv .1)
 
--- src/finish.rt:39:1
 returns : tie.Need-returns Inv-loop μ-loop
-returns c = c .before .loop .inv .1 ∙ ap (λ (k : ℕ). tabulate 0 (length (c .before .before .before .before .args .scratch .now)) (flagged (marksOf (c .before .before .before .before .args .scratch .now)) (nodeNumbers (marksOf (c .before .before .before .before .args .scratch .now)) (part (c .before .before .before .before .args .at) k (c .before .before .before .before .args .sheet .now))))) (j-is (c .before .loop .j) (c .before .before .before .before .args .count) (omega arith) (omega arith))
+returns c =
+    let a = c .before .before .before .before .args in
+    let loop = c .before .loop in
+    loop .inv .1 ∙ ap (λ (k : ℕ). tabulate 0 (length (a .scratch .now)) (flagged (marksOf (a .scratch .now)) (nodeNumbers (marksOf (a .scratch .now)) (part (a .at) k (a .sheet .now))))) (j-is (loop .j) (a .count) (omega arith) (omega arith))
 
 pub flag-nodes-spec : {M : Type 1} → statement M
 flag-nodes-spec =

@@ -1,46 +1,46 @@
-use mathlib.Core.Path.{_≡_, refl, sym, ap, subst, _∙_}
-use mathlib.Core.Bool.{Bool, true, false, cond}
-use mathlib.Core.List.{List, [], _∷_, _++_}
-use Prim.Native.Nat.{ℕ, zero, suc, _+_, _*_, _-_, _/_, _%_, _≤_, _<_}
-use native.Mathlib.Omega.{arith}
+use mathlib.Core.Path.{sym, ap, subst, _∙_}
+use mathlib.Core.Bool.{Bool}
+use Prim.Native.Nat.{_+_, _-_, _/_, _<_}
 use borrow.Author.Needs.{needs}
-use lib.ListN.{length, getD, take, drop, replicate, set, length-set}
+use lib.ListN.{length}
 use native.Mathlib.Nat.{add-zero}
 use borrow.Author.Tests.{not-true, not-false}
 use Rattle.dag.specs.Memory.{put, chosen, Wanted}
 use Rattle.dag.proofs.Sweeps.{put-none, put-one}
 use Rattle.dag.proofs.finish.put_node.Statement.{statement}
 use Rattle.dag.proofs.finish.put_node.Tie as tie
-use Rattle.dag.proofs.finish.put_node.Reads as reads
-use Rattle.dag.proofs.finish.put_node.Lts as lts
 
--- src/finish.rt:70:9
 returns : tie.Need-returns
-returns c = let e = not-true (c .before .args .wanted) (c .if1 .taken) in (sym (ap (λ (b : Bool). put (c .before .args .out .now) (c .before .args .at) (chosen b (c .before .args .node))) e ∙ put-none (c .before .args .out .now) (c .before .args .at)), sym (ap (λ (b : Bool). (c .before .args .at) + length (chosen b (c .before .args .node))) e ∙ add-zero (c .before .args .at)))
+returns c =
+    let a = c .before .args in
+    let e = not-true (a .wanted) (c .if1 .taken) in
+    (sym (ap (λ (b : Bool). put (a .out .now) (a .at) (chosen b (a .node))) e ∙ put-none (a .out .now) (a .at)), sym (ap (λ (b : Bool). (a .at) + length (chosen b (a .node))) e ∙ add-zero (a .at)))
 
--- src/finish.rt:72:15
 cast-out : tie.Need-cast-out
 cast-out c = search needs
 
--- src/finish.rt:72:5
 mul-out : tie.Need-mul-out
-mul-out c = let h : (c .before .args .at) < length (c .before .args .out .now) = subst (λ (b : Bool). Wanted b (c .before .args .at) (c .before .args .out .now)) (not-false (c .before .args .wanted) (c .if1 .left)) (c .before .pre .1) in search needs
+mul-out c =
+    let h : (c .before .args .at) < length (c .before .args .out .now) = subst (λ (b : Bool). Wanted b (c .before .args .at) (c .before .args .out .now)) (not-false (c .before .args .wanted) (c .if1 .left)) (c .before .pre .1) in
+    search needs
 
--- src/finish.rt:72:5
 slice-write-out : tie.Need-slice-write-out
 slice-write-out c = subst (λ (b : Bool). Wanted b (c .before .args .at) (c .before .args .out .now)) (not-false (c .before .args .wanted) (c .if1 .left)) (c .before .pre .1)
 
--- src/finish.rt:73:5
 add-result : tie.Need-add-result
-add-result c = let h : (c .before .args .at) < length (c .before .args .out .now) = subst (λ (b : Bool). Wanted b (c .before .args .at) (c .before .args .out .now)) (not-false (c .before .args .wanted) (c .if1 .left)) (c .before .pre .1) in search needs
+add-result c =
+    let h : (c .before .args .at) < length (c .before .args .out .now) = subst (λ (b : Bool). Wanted b (c .before .args .at) (c .before .args .out .now)) (not-false (c .before .args .wanted) (c .if1 .left)) (c .before .pre .1) in
+    search needs
 
--- src/finish.rt:65:1
 same-length : tie.Need-same-length
 same-length c = search needs
 
--- src/finish.rt:65:1
 returns-2 : tie.Need-returns-2
-returns-2 c = let e = not-false (c .before .args .wanted) (c .if1 .left) in let h : (c .before .args .at) < length (c .before .args .out .now) = subst (λ (b : Bool). Wanted b (c .before .args .at) (c .before .args .out .now)) e (c .before .pre .1) in (put-one (c .before .args .out .now) (c .before .args .at) (c .before .args .node) h ∙ ap (λ (b : Bool). put (c .before .args .out .now) (c .before .args .at) (chosen b (c .before .args .node))) (sym e), ap (λ (b : Bool). (c .before .args .at) + length (chosen b (c .before .args .node))) (sym e))
+returns-2 c =
+    let a = c .before .args in
+    let e = not-false (a .wanted) (c .if1 .left) in
+    let h : (a .at) < length (a .out .now) = subst (λ (b : Bool). Wanted b (a .at) (a .out .now)) e (c .before .pre .1) in
+    (put-one (a .out .now) (a .at) (a .node) h ∙ ap (λ (b : Bool). put (a .out .now) (a .at) (chosen b (a .node))) (sym e), ap (λ (b : Bool). (a .at) + length (chosen b (a .node))) (sym e))
 
 pub put-node-spec : {M : Type 1} → statement M
 put-node-spec =

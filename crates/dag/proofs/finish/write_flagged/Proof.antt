@@ -1,19 +1,12 @@
-use mathlib.Core.Path.{_≡_, refl, sym, ap, subst, _∙_}
-use mathlib.Core.Bool.{Bool, true, false, cond}
-use mathlib.Core.List.{List, [], _∷_, _++_}
-use Prim.Native.Nat.{ℕ, zero, suc, _+_, _*_, _-_, _/_, _%_, _≤_, _<_}
+use mathlib.Core.Path.{_≡_, sym, ap, subst, _∙_}
+use Prim.Native.Nat.{ℕ, _+_, _-_, _/_, _≤_}
 use native.Mathlib.Omega.{arith}
-use borrow.Author.Needs.{needs}
-use lib.ListN.{length, getD, take, drop, replicate, set, length-set}
+use lib.ListN.{length}
 use Rattle.dag.specs.Memory.{tabulate, put, plainBelow, flaggedAmong}
 use Rattle.dag.proofs.Marks.{tabulate-length}
 use Rattle.dag.proofs.Sweeps.{Swept, swept-none, swept-lengths, swept-wanted, swept-more, put-length}
 use Rattle.dag.proofs.finish.write_flagged.Statement.{statement}
 use Rattle.dag.proofs.finish.write_flagged.Tie as tie
-use Rattle.dag.proofs.finish.write_flagged.Reads as reads
-use Rattle.dag.proofs.finish.write_flagged.Lts as lts
-use Rattle.dag.proofs.finish.put_node.Reads as put-node-reads
-use Rattle.dag.proofs.finish.unflag_node.Reads as unflag-node-reads
 
 node-is : (nodes node : ℕ) → node ≤ nodes → nodes ≤ node → nodes ≡ node
 node-is nodes node h k = omega arith
@@ -24,41 +17,59 @@ Inv-loop scratch₀ nodes out₀ at next₀ node₀ scratch out next node = Swep
 abbrev μ-loop : tie.MeasureT-loop
 μ-loop scratch₀ nodes out₀ at next₀ node₀ scratch out next node = nodes - node
 
--- src/finish.rt:83:5
 loop-holds : tie.Need-loop-holds Inv-loop μ-loop
-loop-holds c = swept-none (c .before .before .args .scratch .now) (c .before .before .args .out .now) (c .before .before .args .at) (c .before .before .args .nodes) (c .before .before .pre .0) (c .before .before .pre .2)
+loop-holds c =
+    let a = c .before .before .args in
+    let p = c .before .before .pre in
+    swept-none (a .scratch .now) (a .out .now) (a .at) (a .nodes) (p .0) (p .2)
 
--- src/finish.rt:84:13
 unflag-node-requires : tie.Need-unflag-node-requires Inv-loop μ-loop
-unflag-node-requires c κs = omega (arith, swept-lengths (c .before .before .before .before .before .args .scratch .now) (c .before .before .before .before .before .args .out .now) (c .before .before .before .before .before .args .at) (c .before .before .before .before .before .args .nodes) (c .before .before .before .before .before .pre .0) (c .before .before .before .before .before .pre .2) (c .before .before .loop .scratch) (c .before .before .loop .out) (c .before .before .loop .next) (c .before .before .loop .node) (c .before .before .loop .inv) (omega arith) .0, c .before .before .before .before .before .pre .0)
+unflag-node-requires c κs =
+    let a = c .before .before .before .before .before .args in
+    let p = c .before .before .before .before .before .pre in
+    let loop = c .before .before .loop in
+    omega (arith, swept-lengths (a .scratch .now) (a .out .now) (a .at) (a .nodes) (p .0) (p .2) (loop .scratch) (loop .out) (loop .next) (loop .node) (loop .inv) (omega arith) .0, p .0)
 
--- src/finish.rt:85:13
 put-node-requires : tie.Need-put-node-requires Inv-loop μ-loop
-put-node-requires c κs = (omega (arith, c .before .before .before .before .before .before .before .before .before .pre .1), swept-wanted (c .before .before .before .before .before .before .before .before .before .args .scratch .now) (c .before .before .before .before .before .before .before .before .before .args .out .now) (c .before .before .before .before .before .before .before .before .before .args .at) (c .before .before .before .before .before .before .before .before .before .args .nodes) (c .before .before .before .before .before .before .before .before .before .pre .0) (c .before .before .before .before .before .before .before .before .before .pre .2) (c .before .before .before .before .before .before .loop .scratch) (c .before .before .before .before .before .before .loop .out) (c .before .before .before .before .before .before .loop .next) (c .before .before .before .before .before .before .loop .node) (c .before .before .before .before .before .before .loop .inv) (omega arith) (c .before .before .before .unflag-node .result) (c .before .before .before .unflag-node .ensures .0))
+put-node-requires c κs =
+    let a = c .before .before .before .before .before .before .before .before .before .args in
+    let p = c .before .before .before .before .before .before .before .before .before .pre in
+    let loop = c .before .before .before .before .before .before .loop in
+    let unflag-node = c .before .before .before .unflag-node in
+    (omega (arith, p .1), swept-wanted (a .scratch .now) (a .out .now) (a .at) (a .nodes) (p .0) (p .2) (loop .scratch) (loop .out) (loop .next) (loop .node) (loop .inv) (omega arith) (unflag-node .result) (unflag-node .ensures .0))
 
--- src/finish.rt:87:9
 add-node : tie.Need-add-node Inv-loop μ-loop
 add-node c = omega (arith, c .before .before .before .before .before .before .before .before .before .before .before .before .pre .1)
 
--- src/finish.rt:83:5
 loop-less : tie.Need-loop-less Inv-loop μ-loop
 loop-less c = omega arith
 
--- src/finish.rt:83:5
 loop-again : tie.Need-loop-again Inv-loop μ-loop
-loop-again c = swept-more (c .before .before .before .before .before .before .before .before .before .before .before .before .args .scratch .now) (c .before .before .before .before .before .before .before .before .before .before .before .before .args .out .now) (c .before .before .before .before .before .before .before .before .before .before .before .before .args .at) (c .before .before .before .before .before .before .before .before .before .before .before .before .args .nodes) (c .before .before .before .before .before .before .before .before .before .before .before .before .pre .0) (c .before .before .before .before .before .before .before .before .before .before .before .before .pre .2) (c .before .before .before .before .before .before .before .before .before .loop .scratch) (c .before .before .before .before .before .before .before .before .before .loop .out) (c .before .before .before .before .before .before .before .before .before .loop .next) (c .before .before .before .before .before .before .before .before .before .loop .node) (c .before .before .before .before .before .before .before .before .before .loop .inv) (omega arith) (c .before .before .before .before .before .before .unflag-node .result) (c .before .before .before .before .before .before .unflag-node .ensures .0) _ _ _ (c .before .before .before .before .before .before .unflag-node .ensures .1) (c .before .before .put-node .ensures .0) (c .before .before .put-node .ensures .1)
+loop-again c =
+    let a = c .before .before .before .before .before .before .before .before .before .before .before .before .args in
+    let p = c .before .before .before .before .before .before .before .before .before .before .before .before .pre in
+    let loop = c .before .before .before .before .before .before .before .before .before .loop in
+    let unflag-node = c .before .before .before .before .before .before .unflag-node in
+    let put-node = c .before .before .put-node in
+    swept-more (a .scratch .now) (a .out .now) (a .at) (a .nodes) (p .0) (p .2) (loop .scratch) (loop .out) (loop .next) (loop .node) (loop .inv) (omega arith) (unflag-node .result) (unflag-node .ensures .0) _ _ _ (unflag-node .ensures .1) (put-node .ensures .0) (put-node .ensures .1)
 
--- src/finish.rt:77:1
 same-length : tie.Need-same-length Inv-loop μ-loop
-same-length c = ap length (c .before .loop .inv .scratch-is) ∙ tabulate-length 0 (length (c .before .before .before .before .args .scratch .now)) (plainBelow (c .before .loop .node) (c .before .before .before .before .args .scratch .now))
+same-length c =
+    let a = c .before .before .before .before .args in
+    let loop = c .before .loop in
+    ap length (loop .inv .scratch-is) ∙ tabulate-length 0 (length (a .scratch .now)) (plainBelow (loop .node) (a .scratch .now))
 
--- src/finish.rt:77:1
 same-length-2 : tie.Need-same-length-2 Inv-loop μ-loop
-same-length-2 c = ap length (c .before .loop .inv .out-is) ∙ put-length (c .before .before .before .before .args .out .now) (c .before .before .before .before .args .at) (flaggedAmong 0 (c .before .loop .node) (c .before .before .before .before .args .scratch .now)) (subst (λ (k : ℕ). (c .before .before .before .before .args .at) + length (flaggedAmong 0 k (c .before .before .before .before .args .scratch .now)) ≤ length (c .before .before .before .before .args .out .now)) (node-is (c .before .before .before .before .args .nodes) (c .before .loop .node) (c .before .loop .inv .node-le) (c .loop-test .left)) (c .before .before .before .before .pre .2))
+same-length-2 c =
+    let a = c .before .before .before .before .args in
+    let loop = c .before .loop in
+    ap length (loop .inv .out-is) ∙ put-length (a .out .now) (a .at) (flaggedAmong 0 (loop .node) (a .scratch .now)) (subst (λ (k : ℕ). (a .at) + length (flaggedAmong 0 k (a .scratch .now)) ≤ length (a .out .now)) (node-is (a .nodes) (loop .node) (loop .inv .node-le) (c .loop-test .left)) (c .before .before .before .before .pre .2))
 
--- src/finish.rt:77:1
 returns : tie.Need-returns Inv-loop μ-loop
-returns c = (c .before .loop .inv .scratch-is ∙ ap (λ (k : ℕ). tabulate 0 (length (c .before .before .before .before .args .scratch .now)) (plainBelow k (c .before .before .before .before .args .scratch .now))) (sym (node-is (c .before .before .before .before .args .nodes) (c .before .loop .node) (c .before .loop .inv .node-le) (c .loop-test .left))), c .before .loop .inv .out-is ∙ ap (λ (k : ℕ). put (c .before .before .before .before .args .out .now) (c .before .before .before .before .args .at) (flaggedAmong 0 k (c .before .before .before .before .args .scratch .now))) (sym (node-is (c .before .before .before .before .args .nodes) (c .before .loop .node) (c .before .loop .inv .node-le) (c .loop-test .left))), c .before .loop .inv .next-is ∙ ap (λ (k : ℕ). (c .before .before .before .before .args .at) + length (flaggedAmong 0 k (c .before .before .before .before .args .scratch .now))) (sym (node-is (c .before .before .before .before .args .nodes) (c .before .loop .node) (c .before .loop .inv .node-le) (c .loop-test .left))))
+returns c =
+    let a = c .before .before .before .before .args in
+    let loop = c .before .loop in
+    (loop .inv .scratch-is ∙ ap (λ (k : ℕ). tabulate 0 (length (a .scratch .now)) (plainBelow k (a .scratch .now))) (sym (node-is (a .nodes) (loop .node) (loop .inv .node-le) (c .loop-test .left))), loop .inv .out-is ∙ ap (λ (k : ℕ). put (a .out .now) (a .at) (flaggedAmong 0 k (a .scratch .now))) (sym (node-is (a .nodes) (loop .node) (loop .inv .node-le) (c .loop-test .left))), loop .inv .next-is ∙ ap (λ (k : ℕ). (a .at) + length (flaggedAmong 0 k (a .scratch .now))) (sym (node-is (a .nodes) (loop .node) (loop .inv .node-le) (c .loop-test .left))))
 
 pub write-flagged-spec : {M : Type 1} → statement M
 write-flagged-spec =

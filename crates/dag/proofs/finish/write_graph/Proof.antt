@@ -1,87 +1,140 @@
-use mathlib.Core.Path.{_≡_, refl, sym, ap, subst, _∙_}
-use mathlib.Core.Bool.{Bool, true, false, cond}
-use mathlib.Core.List.{List, [], _∷_, _++_}
-use Prim.Native.Nat.{ℕ, zero, suc, _+_, _*_, _-_, _/_, _%_, _≤_, _<_}
+use mathlib.Core.Path.{refl}
+use Prim.Native.Nat.{_+_, _-_, _/_, _≤_}
 use native.Mathlib.Omega.{arith}
 use borrow.Author.Needs.{needs}
-use lib.ListN.{length, getD, take, drop, replicate, set, length-set}
+use lib.ListN.{length-set}
 use Rattle.dag.proofs.Adds.{few-records}
 use Rattle.dag.proofs.Graphing.{constraints-named, nodes-small, lists-small, room-flagged, interactions-named, four-words, out₂-length, list-small, end-is, graph-written}
 use Rattle.dag.proofs.finish.write_graph.Statement.{statement}
 use Rattle.dag.proofs.finish.write_graph.Tie as tie
-use Rattle.dag.proofs.finish.write_graph.Reads as reads
-use Rattle.dag.proofs.finish.write_graph.Lts as lts
-use Rattle.dag.proofs.finish.flag_nodes.Reads as flag-nodes-reads
-use Rattle.dag.proofs.finish.write_flagged.Reads as write-flagged-reads
-use Rattle.dag.proofs.finish.write_interactions.Reads as write-interactions-reads
 
--- src/finish.rt:158:5
 flag-nodes-requires : tie.Need-flag-nodes-requires
-flag-nodes-requires c κs = constraints-named (c .before .before .before .before .args .sheet .now) (c .before .before .before .before .args .scratch .now) (c .before .before .before .before .args .out .now) (c .before .before .before .before .args .n) (c .before .before .before .before .pre .0) (c .before .before .before .before .args .at) (c .before .before .before .before .args .constraints) (c .before .before .before .before .pre .1) (c .before .before .before .before .pre .2)
+flag-nodes-requires c κs =
+    let a = c .before .before .before .before .args in
+    let p = c .before .before .before .before .pre in
+    constraints-named (a .sheet .now) (a .scratch .now) (a .out .now) (a .n) (p .0) (a .at) (a .constraints) (p .1) (p .2)
 
--- src/finish.rt:159:18
 mul-to : tie.Need-mul-to
-mul-to c = let h : (c .before .before .before .before .before .before .before .args .n) ≤ 4096 = nodes-small (c .before .before .before .before .before .before .before .args .sheet .now) (c .before .before .before .before .before .before .before .args .scratch .now) (c .before .before .before .before .before .before .before .args .out .now) (c .before .before .before .before .before .before .before .args .n) (c .before .before .before .before .before .before .before .pre .0) in omega arith
+mul-to c =
+    let a = c .before .before .before .before .before .before .before .args in
+    let h : (a .n) ≤ 4096 = nodes-small (a .sheet .now) (a .scratch .now) (a .out .now) (a .n) (c .before .before .before .before .before .before .before .pre .0) in
+    omega arith
 
--- src/finish.rt:159:14
 add-to : tie.Need-add-to
-add-to c = let h : (c .before .before .before .before .before .before .before .args .n) ≤ 4096 = nodes-small (c .before .before .before .before .before .before .before .args .sheet .now) (c .before .before .before .before .before .before .before .args .scratch .now) (c .before .before .before .before .before .before .before .args .out .now) (c .before .before .before .before .before .before .before .args .n) (c .before .before .before .before .before .before .before .pre .0) in omega arith
+add-to c =
+    let a = c .before .before .before .before .before .before .before .args in
+    let h : (a .n) ≤ 4096 = nodes-small (a .sheet .now) (a .scratch .now) (a .out .now) (a .n) (c .before .before .before .before .before .before .before .pre .0) in
+    omega arith
 
--- src/finish.rt:160:9
 write-flagged-requires : tie.Need-write-flagged-requires
-write-flagged-requires c κs = room-flagged (c .before .before .before .before .before .before .before .before .before .args .sheet .now) (c .before .before .before .before .before .before .before .before .before .args .scratch .now) (c .before .before .before .before .before .before .before .before .before .args .out .now) (c .before .before .before .before .before .before .before .before .before .args .n) (c .before .before .before .before .before .before .before .before .before .pre .0) (c .before .before .before .before .before .before .before .before .before .args .at) (c .before .before .before .before .before .before .before .before .before .args .constraints) (c .before .before .before .before .before .before .before .before .before .pre .1) (c .before .before .before .before .before .before .before .before .before .pre .2) (c .before .before .before .before .flag-nodes .last .1 .1 .1 .0) (c .before .before .before .before .flag-nodes .ensures)
+write-flagged-requires c κs =
+    let a = c .before .before .before .before .before .before .before .before .before .args in
+    let p = c .before .before .before .before .before .before .before .before .before .pre in
+    let flag-nodes = c .before .before .before .before .flag-nodes in
+    room-flagged (a .sheet .now) (a .scratch .now) (a .out .now) (a .n) (p .0) (a .at) (a .constraints) (p .1) (p .2) (flag-nodes .last .1 .1 .1 .0) (flag-nodes .ensures)
 
--- src/finish.rt:161:41
 add-write-interactions : tie.Need-add-write-interactions
-add-write-interactions c = omega (arith, c .before .before .before .before .before .before .before .before .before .before .before .before .before .before .pre .1, c .before .before .before .before .before .before .before .before .before .before .before .before .before .before .pre .2, lists-small (c .before .before .before .before .before .before .before .before .before .before .before .before .before .before .args .sheet .now) (c .before .before .before .before .before .before .before .before .before .before .before .before .before .before .args .scratch .now) (c .before .before .before .before .before .before .before .before .before .before .before .before .before .before .args .out .now) (c .before .before .before .before .before .before .before .before .before .before .before .before .before .before .args .n) (c .before .before .before .before .before .before .before .before .before .before .before .before .before .before .pre .0) .0, few-records (c .before .before .before .before .before .before .before .before .before .before .before .before .before .before .args .sheet .now) (c .before .before .before .before .before .before .before .before .before .before .before .before .before .before .pre .0 .checked))
+add-write-interactions c =
+    let a = c .before .before .before .before .before .before .before .before .before .before .before .before .before .before .args in
+    let p = c .before .before .before .before .before .before .before .before .before .before .before .before .before .before .pre in
+    omega (arith, p .1, p .2, lists-small (a .sheet .now) (a .scratch .now) (a .out .now) (a .n) (p .0) .0, few-records (a .sheet .now) (p .0 .checked))
 
--- src/finish.rt:161:9
 write-interactions-requires : tie.Need-write-interactions-requires
-write-interactions-requires c κs = interactions-named (c .before .before .before .before .before .before .before .before .before .before .before .before .before .before .before .before .args .sheet .now) (c .before .before .before .before .before .before .before .before .before .before .before .before .before .before .before .before .args .scratch .now) (c .before .before .before .before .before .before .before .before .before .before .before .before .before .before .before .before .args .out .now) (c .before .before .before .before .before .before .before .before .before .before .before .before .before .before .before .before .args .n) (c .before .before .before .before .before .before .before .before .before .before .before .before .before .before .before .before .pre .0) (c .before .before .before .before .before .before .before .before .before .before .before .before .before .before .before .before .args .at) (c .before .before .before .before .before .before .before .before .before .before .before .before .before .before .before .before .args .constraints) (c .before .before .before .before .before .before .before .before .before .before .before .before .before .before .before .before .pre .1) (c .before .before .before .before .before .before .before .before .before .before .before .before .before .before .before .before .pre .2) (c .before .before .before .before .before .before .before .before .before .before .before .flag-nodes .last .1 .1 .1 .0) (c .before .before .before .before .before .before .before .before .before .before .before .flag-nodes .ensures) (c .before .before .before .before .before .before .write-flagged .last .0) (c .before .before .before .before .before .before .write-flagged .last .1 .1 .0) (c .before .before .before .before .before .before .write-flagged .result) (c .before .before .before .before .before .before .write-flagged .ensures .0) (c .before .before .before .before .before .before .write-flagged .ensures .1) (c .before .before .before .before .before .before .write-flagged .ensures .2) ((c .before .before .before .before .before .before .before .before .before .before .before .before .before .before .before .before .args .at) + (c .before .before .before .before .before .before .before .before .before .before .before .before .before .before .before .before .args .constraints)) (c .before .before .before .before .before .before .before .before .before .before .before .before .before .before .before .before .args .interactions) refl (c .before .before .before .before .before .before .before .before .before .before .before .before .before .before .before .before .pre .3)
+write-interactions-requires c κs =
+    let a = c .before .before .before .before .before .before .before .before .before .before .before .before .before .before .before .before .args in
+    let p = c .before .before .before .before .before .before .before .before .before .before .before .before .before .before .before .before .pre in
+    let flag-nodes = c .before .before .before .before .before .before .before .before .before .before .before .flag-nodes in
+    let write-flagged = c .before .before .before .before .before .before .write-flagged in
+    interactions-named (a .sheet .now) (a .scratch .now) (a .out .now) (a .n) (p .0) (a .at) (a .constraints) (p .1) (p .2) (flag-nodes .last .1 .1 .1 .0) (flag-nodes .ensures) (write-flagged .last .0) (write-flagged .last .1 .1 .0) (write-flagged .result) (write-flagged .ensures .0) (write-flagged .ensures .1) (write-flagged .ensures .2) ((a .at) + (a .constraints)) (a .interactions) refl (p .3)
 
--- src/finish.rt:162:5
 slice-write-out : tie.Need-slice-write-out
-slice-write-out c = let h = out₂-length (c .before .before .before .before .before .before .before .before .before .before .before .before .before .before .before .before .before .before .before .args .sheet .now) (c .before .before .before .before .before .before .before .before .before .before .before .before .before .before .before .before .before .before .before .args .scratch .now) (c .before .before .before .before .before .before .before .before .before .before .before .before .before .before .before .before .before .before .before .args .out .now) (c .before .before .before .before .before .before .before .before .before .before .before .before .before .before .before .before .before .before .before .args .n) (c .before .before .before .before .before .before .before .before .before .before .before .before .before .before .before .before .before .before .before .pre .0) (c .before .before .before .before .before .before .before .before .before .before .before .before .before .before .before .before .before .before .before .args .at) (c .before .before .before .before .before .before .before .before .before .before .before .before .before .before .before .before .before .before .before .args .constraints) (c .before .before .before .before .before .before .before .before .before .before .before .before .before .before .before .before .before .before .before .pre .1) (c .before .before .before .before .before .before .before .before .before .before .before .before .before .before .before .before .before .before .before .pre .2) (c .before .before .before .before .before .before .before .before .before .before .before .before .before .before .flag-nodes .last .1 .1 .1 .0) (c .before .before .before .before .before .before .before .before .before .before .before .before .before .before .flag-nodes .ensures) (c .before .before .before .before .before .before .before .before .before .write-flagged .last .0) (c .before .before .before .before .before .before .before .before .before .write-flagged .last .1 .1 .0) (c .before .before .before .before .before .before .before .before .before .write-flagged .result) (c .before .before .before .before .before .before .before .before .before .write-flagged .ensures .0) (c .before .before .before .before .before .before .before .before .before .write-flagged .ensures .1) (c .before .before .before .before .before .before .before .before .before .write-flagged .ensures .2) ((c .before .before .before .before .before .before .before .before .before .before .before .before .before .before .before .before .before .before .before .args .at) + (c .before .before .before .before .before .before .before .before .before .before .before .before .before .before .before .before .before .before .before .args .constraints)) (c .before .before .before .before .before .before .before .before .before .before .before .before .before .before .before .before .before .before .before .args .interactions) refl (c .before .before .before .before .before .before .before .before .before .before .before .before .before .before .before .before .before .before .before .pre .3) (c .before .before .write-interactions .last .1 .1 .1 .1 .0) (c .before .before .write-interactions .ensures .0) in let r = four-words (c .before .before .before .before .before .before .before .before .before .before .before .before .before .before .before .before .before .before .before .args .sheet .now) (c .before .before .before .before .before .before .before .before .before .before .before .before .before .before .before .before .before .before .before .args .scratch .now) (c .before .before .before .before .before .before .before .before .before .before .before .before .before .before .before .before .before .before .before .args .out .now) (c .before .before .before .before .before .before .before .before .before .before .before .before .before .before .before .before .before .before .before .args .n) (c .before .before .before .before .before .before .before .before .before .before .before .before .before .before .before .before .before .before .before .pre .0) in omega arith
+slice-write-out c =
+    let a = c .before .before .before .before .before .before .before .before .before .before .before .before .before .before .before .before .before .before .before .args in
+    let p = c .before .before .before .before .before .before .before .before .before .before .before .before .before .before .before .before .before .before .before .pre in
+    let flag-nodes = c .before .before .before .before .before .before .before .before .before .before .before .before .before .before .flag-nodes in
+    let write-flagged = c .before .before .before .before .before .before .before .before .before .write-flagged in
+    let write-interactions = c .before .before .write-interactions in
+    let h = out₂-length (a .sheet .now) (a .scratch .now) (a .out .now) (a .n) (p .0) (a .at) (a .constraints) (p .1) (p .2) (flag-nodes .last .1 .1 .1 .0) (flag-nodes .ensures) (write-flagged .last .0) (write-flagged .last .1 .1 .0) (write-flagged .result) (write-flagged .ensures .0) (write-flagged .ensures .1) (write-flagged .ensures .2) ((a .at) + (a .constraints)) (a .interactions) refl (p .3) (write-interactions .last .1 .1 .1 .1 .0) (write-interactions .ensures .0) in
+    let r = four-words (a .sheet .now) (a .scratch .now) (a .out .now) (a .n) (p .0) in
+    omega arith
 
--- src/finish.rt:163:14
 cast-out : tie.Need-cast-out
-cast-out c = omega (arith, nodes-small (c .before .before .before .before .before .before .before .before .before .before .before .before .before .before .before .before .before .before .before .args .sheet .now) (c .before .before .before .before .before .before .before .before .before .before .before .before .before .before .before .before .before .before .before .args .scratch .now) (c .before .before .before .before .before .before .before .before .before .before .before .before .before .before .before .before .before .before .before .args .out .now) (c .before .before .before .before .before .before .before .before .before .before .before .before .before .before .before .before .before .before .before .args .n) (c .before .before .before .before .before .before .before .before .before .before .before .before .before .before .before .before .before .before .before .pre .0))
+cast-out c =
+    let a = c .before .before .before .before .before .before .before .before .before .before .before .before .before .before .before .before .before .before .before .args in
+    omega (arith, nodes-small (a .sheet .now) (a .scratch .now) (a .out .now) (a .n) (c .before .before .before .before .before .before .before .before .before .before .before .before .before .before .before .before .before .before .before .pre .0))
 
--- src/finish.rt:163:5
 slice-write-out-2 : tie.Need-slice-write-out-2
-slice-write-out-2 c = let h = out₂-length (c .before .before .before .before .before .before .before .before .before .before .before .before .before .before .before .before .before .before .before .args .sheet .now) (c .before .before .before .before .before .before .before .before .before .before .before .before .before .before .before .before .before .before .before .args .scratch .now) (c .before .before .before .before .before .before .before .before .before .before .before .before .before .before .before .before .before .before .before .args .out .now) (c .before .before .before .before .before .before .before .before .before .before .before .before .before .before .before .before .before .before .before .args .n) (c .before .before .before .before .before .before .before .before .before .before .before .before .before .before .before .before .before .before .before .pre .0) (c .before .before .before .before .before .before .before .before .before .before .before .before .before .before .before .before .before .before .before .args .at) (c .before .before .before .before .before .before .before .before .before .before .before .before .before .before .before .before .before .before .before .args .constraints) (c .before .before .before .before .before .before .before .before .before .before .before .before .before .before .before .before .before .before .before .pre .1) (c .before .before .before .before .before .before .before .before .before .before .before .before .before .before .before .before .before .before .before .pre .2) (c .before .before .before .before .before .before .before .before .before .before .before .before .before .before .flag-nodes .last .1 .1 .1 .0) (c .before .before .before .before .before .before .before .before .before .before .before .before .before .before .flag-nodes .ensures) (c .before .before .before .before .before .before .before .before .before .write-flagged .last .0) (c .before .before .before .before .before .before .before .before .before .write-flagged .last .1 .1 .0) (c .before .before .before .before .before .before .before .before .before .write-flagged .result) (c .before .before .before .before .before .before .before .before .before .write-flagged .ensures .0) (c .before .before .before .before .before .before .before .before .before .write-flagged .ensures .1) (c .before .before .before .before .before .before .before .before .before .write-flagged .ensures .2) ((c .before .before .before .before .before .before .before .before .before .before .before .before .before .before .before .before .before .before .before .args .at) + (c .before .before .before .before .before .before .before .before .before .before .before .before .before .before .before .before .before .before .before .args .constraints)) (c .before .before .before .before .before .before .before .before .before .before .before .before .before .before .before .before .before .before .before .args .interactions) refl (c .before .before .before .before .before .before .before .before .before .before .before .before .before .before .before .before .before .before .before .pre .3) (c .before .before .write-interactions .last .1 .1 .1 .1 .0) (c .before .before .write-interactions .ensures .0) in let r = four-words (c .before .before .before .before .before .before .before .before .before .before .before .before .before .before .before .before .before .before .before .args .sheet .now) (c .before .before .before .before .before .before .before .before .before .before .before .before .before .before .before .before .before .before .before .args .scratch .now) (c .before .before .before .before .before .before .before .before .before .before .before .before .before .before .before .before .before .before .before .args .out .now) (c .before .before .before .before .before .before .before .before .before .before .before .before .before .before .before .before .before .before .before .args .n) (c .before .before .before .before .before .before .before .before .before .before .before .before .before .before .before .before .before .before .before .pre .0) in simp length-set (omega arith)
+slice-write-out-2 c =
+    let a = c .before .before .before .before .before .before .before .before .before .before .before .before .before .before .before .before .before .before .before .args in
+    let p = c .before .before .before .before .before .before .before .before .before .before .before .before .before .before .before .before .before .before .before .pre in
+    let flag-nodes = c .before .before .before .before .before .before .before .before .before .before .before .before .before .before .flag-nodes in
+    let write-flagged = c .before .before .before .before .before .before .before .before .before .write-flagged in
+    let write-interactions = c .before .before .write-interactions in
+    let h = out₂-length (a .sheet .now) (a .scratch .now) (a .out .now) (a .n) (p .0) (a .at) (a .constraints) (p .1) (p .2) (flag-nodes .last .1 .1 .1 .0) (flag-nodes .ensures) (write-flagged .last .0) (write-flagged .last .1 .1 .0) (write-flagged .result) (write-flagged .ensures .0) (write-flagged .ensures .1) (write-flagged .ensures .2) ((a .at) + (a .constraints)) (a .interactions) refl (p .3) (write-interactions .last .1 .1 .1 .1 .0) (write-interactions .ensures .0) in
+    let r = four-words (a .sheet .now) (a .scratch .now) (a .out .now) (a .n) (p .0) in
+    simp length-set (omega arith)
 
--- src/finish.rt:164:15
 sub-out : tie.Need-sub-out
 sub-out c = search needs
 
--- src/finish.rt:164:14
 cast-out-2 : tie.Need-cast-out-2
-cast-out-2 c = omega (arith, list-small (c .before .before .before .before .before .before .before .before .before .before .before .before .before .before .before .before .before .before .before .args .sheet .now) (c .before .before .before .before .before .before .before .before .before .before .before .before .before .before .before .before .before .before .before .args .scratch .now) (c .before .before .before .before .before .before .before .before .before .before .before .before .before .before .before .before .before .before .before .args .out .now) (c .before .before .before .before .before .before .before .before .before .before .before .before .before .before .before .before .before .before .before .args .n) (c .before .before .before .before .before .before .before .before .before .before .before .before .before .before .before .before .before .before .before .pre .0) (c .before .before .before .before .before .before .before .before .before .before .before .before .before .before .before .before .before .before .before .args .at) (c .before .before .before .before .before .before .before .before .before .before .before .before .before .before .before .before .before .before .before .args .constraints) (c .before .before .before .before .before .before .before .before .before .before .before .before .before .before .before .before .before .before .before .pre .1) (c .before .before .before .before .before .before .before .before .before .before .before .before .before .before .before .before .before .before .before .pre .2) (c .before .before .before .before .before .before .before .before .before .before .before .before .before .before .flag-nodes .last .1 .1 .1 .0) (c .before .before .before .before .before .before .before .before .before .before .before .before .before .before .flag-nodes .ensures) (c .before .before .before .before .before .before .before .before .before .write-flagged .last .0) (c .before .before .before .before .before .before .before .before .before .write-flagged .last .1 .1 .0) (c .before .before .before .before .before .before .before .before .before .write-flagged .result) (c .before .before .before .before .before .before .before .before .before .write-flagged .ensures .0) (c .before .before .before .before .before .before .before .before .before .write-flagged .ensures .1) (c .before .before .before .before .before .before .before .before .before .write-flagged .ensures .2) ((c .before .before .before .before .before .before .before .before .before .before .before .before .before .before .before .before .before .before .before .args .at) + (c .before .before .before .before .before .before .before .before .before .before .before .before .before .before .before .before .before .before .before .args .constraints)) (c .before .before .before .before .before .before .before .before .before .before .before .before .before .before .before .before .before .before .before .args .interactions) refl (c .before .before .before .before .before .before .before .before .before .before .before .before .before .before .before .before .before .before .before .pre .3) (c .before .before .write-interactions .last .1 .1 .1 .1 .0) (c .before .before .write-interactions .ensures .0))
+cast-out-2 c =
+    let a = c .before .before .before .before .before .before .before .before .before .before .before .before .before .before .before .before .before .before .before .args in
+    let p = c .before .before .before .before .before .before .before .before .before .before .before .before .before .before .before .before .before .before .before .pre in
+    let flag-nodes = c .before .before .before .before .before .before .before .before .before .before .before .before .before .before .flag-nodes in
+    let write-flagged = c .before .before .before .before .before .before .before .before .before .write-flagged in
+    let write-interactions = c .before .before .write-interactions in
+    omega (arith, list-small (a .sheet .now) (a .scratch .now) (a .out .now) (a .n) (p .0) (a .at) (a .constraints) (p .1) (p .2) (flag-nodes .last .1 .1 .1 .0) (flag-nodes .ensures) (write-flagged .last .0) (write-flagged .last .1 .1 .0) (write-flagged .result) (write-flagged .ensures .0) (write-flagged .ensures .1) (write-flagged .ensures .2) ((a .at) + (a .constraints)) (a .interactions) refl (p .3) (write-interactions .last .1 .1 .1 .1 .0) (write-interactions .ensures .0))
 
--- src/finish.rt:164:5
 slice-write-out-3 : tie.Need-slice-write-out-3
-slice-write-out-3 c = let h = out₂-length (c .before .before .before .before .before .before .before .before .before .before .before .before .before .before .before .before .before .before .before .args .sheet .now) (c .before .before .before .before .before .before .before .before .before .before .before .before .before .before .before .before .before .before .before .args .scratch .now) (c .before .before .before .before .before .before .before .before .before .before .before .before .before .before .before .before .before .before .before .args .out .now) (c .before .before .before .before .before .before .before .before .before .before .before .before .before .before .before .before .before .before .before .args .n) (c .before .before .before .before .before .before .before .before .before .before .before .before .before .before .before .before .before .before .before .pre .0) (c .before .before .before .before .before .before .before .before .before .before .before .before .before .before .before .before .before .before .before .args .at) (c .before .before .before .before .before .before .before .before .before .before .before .before .before .before .before .before .before .before .before .args .constraints) (c .before .before .before .before .before .before .before .before .before .before .before .before .before .before .before .before .before .before .before .pre .1) (c .before .before .before .before .before .before .before .before .before .before .before .before .before .before .before .before .before .before .before .pre .2) (c .before .before .before .before .before .before .before .before .before .before .before .before .before .before .flag-nodes .last .1 .1 .1 .0) (c .before .before .before .before .before .before .before .before .before .before .before .before .before .before .flag-nodes .ensures) (c .before .before .before .before .before .before .before .before .before .write-flagged .last .0) (c .before .before .before .before .before .before .before .before .before .write-flagged .last .1 .1 .0) (c .before .before .before .before .before .before .before .before .before .write-flagged .result) (c .before .before .before .before .before .before .before .before .before .write-flagged .ensures .0) (c .before .before .before .before .before .before .before .before .before .write-flagged .ensures .1) (c .before .before .before .before .before .before .before .before .before .write-flagged .ensures .2) ((c .before .before .before .before .before .before .before .before .before .before .before .before .before .before .before .before .before .before .before .args .at) + (c .before .before .before .before .before .before .before .before .before .before .before .before .before .before .before .before .before .before .before .args .constraints)) (c .before .before .before .before .before .before .before .before .before .before .before .before .before .before .before .before .before .before .before .args .interactions) refl (c .before .before .before .before .before .before .before .before .before .before .before .before .before .before .before .before .before .before .before .pre .3) (c .before .before .write-interactions .last .1 .1 .1 .1 .0) (c .before .before .write-interactions .ensures .0) in let r = four-words (c .before .before .before .before .before .before .before .before .before .before .before .before .before .before .before .before .before .before .before .args .sheet .now) (c .before .before .before .before .before .before .before .before .before .before .before .before .before .before .before .before .before .before .before .args .scratch .now) (c .before .before .before .before .before .before .before .before .before .before .before .before .before .before .before .before .before .before .before .args .out .now) (c .before .before .before .before .before .before .before .before .before .before .before .before .before .before .before .before .before .before .before .args .n) (c .before .before .before .before .before .before .before .before .before .before .before .before .before .before .before .before .before .before .before .pre .0) in simp length-set (omega arith)
+slice-write-out-3 c =
+    let a = c .before .before .before .before .before .before .before .before .before .before .before .before .before .before .before .before .before .before .before .args in
+    let p = c .before .before .before .before .before .before .before .before .before .before .before .before .before .before .before .before .before .before .before .pre in
+    let flag-nodes = c .before .before .before .before .before .before .before .before .before .before .before .before .before .before .flag-nodes in
+    let write-flagged = c .before .before .before .before .before .before .before .before .before .write-flagged in
+    let write-interactions = c .before .before .write-interactions in
+    let h = out₂-length (a .sheet .now) (a .scratch .now) (a .out .now) (a .n) (p .0) (a .at) (a .constraints) (p .1) (p .2) (flag-nodes .last .1 .1 .1 .0) (flag-nodes .ensures) (write-flagged .last .0) (write-flagged .last .1 .1 .0) (write-flagged .result) (write-flagged .ensures .0) (write-flagged .ensures .1) (write-flagged .ensures .2) ((a .at) + (a .constraints)) (a .interactions) refl (p .3) (write-interactions .last .1 .1 .1 .1 .0) (write-interactions .ensures .0) in
+    let r = four-words (a .sheet .now) (a .scratch .now) (a .out .now) (a .n) (p .0) in
+    simp length-set (omega arith)
 
--- src/finish.rt:165:14
 cast-out-3 : tie.Need-cast-out-3
-cast-out-3 c = omega (arith, c .before .before .before .before .before .before .before .before .before .before .before .before .before .before .before .before .before .before .before .pre .3, lists-small (c .before .before .before .before .before .before .before .before .before .before .before .before .before .before .before .before .before .before .before .args .sheet .now) (c .before .before .before .before .before .before .before .before .before .before .before .before .before .before .before .before .before .before .before .args .scratch .now) (c .before .before .before .before .before .before .before .before .before .before .before .before .before .before .before .before .before .before .before .args .out .now) (c .before .before .before .before .before .before .before .before .before .before .before .before .before .before .before .before .before .before .before .args .n) (c .before .before .before .before .before .before .before .before .before .before .before .before .before .before .before .before .before .before .before .pre .0) .1)
+cast-out-3 c =
+    let a = c .before .before .before .before .before .before .before .before .before .before .before .before .before .before .before .before .before .before .before .args in
+    let p = c .before .before .before .before .before .before .before .before .before .before .before .before .before .before .before .before .before .before .before .pre in
+    omega (arith, p .3, lists-small (a .sheet .now) (a .scratch .now) (a .out .now) (a .n) (p .0) .1)
 
--- src/finish.rt:165:5
 slice-write-out-4 : tie.Need-slice-write-out-4
-slice-write-out-4 c = let h = out₂-length (c .before .before .before .before .before .before .before .before .before .before .before .before .before .before .before .before .before .before .before .args .sheet .now) (c .before .before .before .before .before .before .before .before .before .before .before .before .before .before .before .before .before .before .before .args .scratch .now) (c .before .before .before .before .before .before .before .before .before .before .before .before .before .before .before .before .before .before .before .args .out .now) (c .before .before .before .before .before .before .before .before .before .before .before .before .before .before .before .before .before .before .before .args .n) (c .before .before .before .before .before .before .before .before .before .before .before .before .before .before .before .before .before .before .before .pre .0) (c .before .before .before .before .before .before .before .before .before .before .before .before .before .before .before .before .before .before .before .args .at) (c .before .before .before .before .before .before .before .before .before .before .before .before .before .before .before .before .before .before .before .args .constraints) (c .before .before .before .before .before .before .before .before .before .before .before .before .before .before .before .before .before .before .before .pre .1) (c .before .before .before .before .before .before .before .before .before .before .before .before .before .before .before .before .before .before .before .pre .2) (c .before .before .before .before .before .before .before .before .before .before .before .before .before .before .flag-nodes .last .1 .1 .1 .0) (c .before .before .before .before .before .before .before .before .before .before .before .before .before .before .flag-nodes .ensures) (c .before .before .before .before .before .before .before .before .before .write-flagged .last .0) (c .before .before .before .before .before .before .before .before .before .write-flagged .last .1 .1 .0) (c .before .before .before .before .before .before .before .before .before .write-flagged .result) (c .before .before .before .before .before .before .before .before .before .write-flagged .ensures .0) (c .before .before .before .before .before .before .before .before .before .write-flagged .ensures .1) (c .before .before .before .before .before .before .before .before .before .write-flagged .ensures .2) ((c .before .before .before .before .before .before .before .before .before .before .before .before .before .before .before .before .before .before .before .args .at) + (c .before .before .before .before .before .before .before .before .before .before .before .before .before .before .before .before .before .before .before .args .constraints)) (c .before .before .before .before .before .before .before .before .before .before .before .before .before .before .before .before .before .before .before .args .interactions) refl (c .before .before .before .before .before .before .before .before .before .before .before .before .before .before .before .before .before .before .before .pre .3) (c .before .before .write-interactions .last .1 .1 .1 .1 .0) (c .before .before .write-interactions .ensures .0) in let r = four-words (c .before .before .before .before .before .before .before .before .before .before .before .before .before .before .before .before .before .before .before .args .sheet .now) (c .before .before .before .before .before .before .before .before .before .before .before .before .before .before .before .before .before .before .before .args .scratch .now) (c .before .before .before .before .before .before .before .before .before .before .before .before .before .before .before .before .before .before .before .args .out .now) (c .before .before .before .before .before .before .before .before .before .before .before .before .before .before .before .before .before .before .before .args .n) (c .before .before .before .before .before .before .before .before .before .before .before .before .before .before .before .before .before .before .before .pre .0) in simp length-set (omega arith)
+slice-write-out-4 c =
+    let a = c .before .before .before .before .before .before .before .before .before .before .before .before .before .before .before .before .before .before .before .args in
+    let p = c .before .before .before .before .before .before .before .before .before .before .before .before .before .before .before .before .before .before .before .pre in
+    let flag-nodes = c .before .before .before .before .before .before .before .before .before .before .before .before .before .before .flag-nodes in
+    let write-flagged = c .before .before .before .before .before .before .before .before .before .write-flagged in
+    let write-interactions = c .before .before .write-interactions in
+    let h = out₂-length (a .sheet .now) (a .scratch .now) (a .out .now) (a .n) (p .0) (a .at) (a .constraints) (p .1) (p .2) (flag-nodes .last .1 .1 .1 .0) (flag-nodes .ensures) (write-flagged .last .0) (write-flagged .last .1 .1 .0) (write-flagged .result) (write-flagged .ensures .0) (write-flagged .ensures .1) (write-flagged .ensures .2) ((a .at) + (a .constraints)) (a .interactions) refl (p .3) (write-interactions .last .1 .1 .1 .1 .0) (write-interactions .ensures .0) in
+    let r = four-words (a .sheet .now) (a .scratch .now) (a .out .now) (a .n) (p .0) in
+    simp length-set (omega arith)
 
--- src/finish.rt:146:1
 same-length : tie.Need-same-length
 same-length c = search needs
 
--- src/finish.rt:146:1
 same-length-2 : tie.Need-same-length-2
-same-length-2 c = let h = out₂-length (c .before .before .before .before .before .before .before .before .before .before .before .before .before .before .before .before .before .before .before .args .sheet .now) (c .before .before .before .before .before .before .before .before .before .before .before .before .before .before .before .before .before .before .before .args .scratch .now) (c .before .before .before .before .before .before .before .before .before .before .before .before .before .before .before .before .before .before .before .args .out .now) (c .before .before .before .before .before .before .before .before .before .before .before .before .before .before .before .before .before .before .before .args .n) (c .before .before .before .before .before .before .before .before .before .before .before .before .before .before .before .before .before .before .before .pre .0) (c .before .before .before .before .before .before .before .before .before .before .before .before .before .before .before .before .before .before .before .args .at) (c .before .before .before .before .before .before .before .before .before .before .before .before .before .before .before .before .before .before .before .args .constraints) (c .before .before .before .before .before .before .before .before .before .before .before .before .before .before .before .before .before .before .before .pre .1) (c .before .before .before .before .before .before .before .before .before .before .before .before .before .before .before .before .before .before .before .pre .2) (c .before .before .before .before .before .before .before .before .before .before .before .before .before .before .flag-nodes .last .1 .1 .1 .0) (c .before .before .before .before .before .before .before .before .before .before .before .before .before .before .flag-nodes .ensures) (c .before .before .before .before .before .before .before .before .before .write-flagged .last .0) (c .before .before .before .before .before .before .before .before .before .write-flagged .last .1 .1 .0) (c .before .before .before .before .before .before .before .before .before .write-flagged .result) (c .before .before .before .before .before .before .before .before .before .write-flagged .ensures .0) (c .before .before .before .before .before .before .before .before .before .write-flagged .ensures .1) (c .before .before .before .before .before .before .before .before .before .write-flagged .ensures .2) ((c .before .before .before .before .before .before .before .before .before .before .before .before .before .before .before .before .before .before .before .args .at) + (c .before .before .before .before .before .before .before .before .before .before .before .before .before .before .before .before .before .before .before .args .constraints)) (c .before .before .before .before .before .before .before .before .before .before .before .before .before .before .before .before .before .before .before .args .interactions) refl (c .before .before .before .before .before .before .before .before .before .before .before .before .before .before .before .before .before .before .before .pre .3) (c .before .before .write-interactions .last .1 .1 .1 .1 .0) (c .before .before .write-interactions .ensures .0) in simp length-set (omega arith)
+same-length-2 c =
+    let a = c .before .before .before .before .before .before .before .before .before .before .before .before .before .before .before .before .before .before .before .args in
+    let p = c .before .before .before .before .before .before .before .before .before .before .before .before .before .before .before .before .before .before .before .pre in
+    let flag-nodes = c .before .before .before .before .before .before .before .before .before .before .before .before .before .before .flag-nodes in
+    let write-flagged = c .before .before .before .before .before .before .before .before .before .write-flagged in
+    let write-interactions = c .before .before .write-interactions in
+    let h = out₂-length (a .sheet .now) (a .scratch .now) (a .out .now) (a .n) (p .0) (a .at) (a .constraints) (p .1) (p .2) (flag-nodes .last .1 .1 .1 .0) (flag-nodes .ensures) (write-flagged .last .0) (write-flagged .last .1 .1 .0) (write-flagged .result) (write-flagged .ensures .0) (write-flagged .ensures .1) (write-flagged .ensures .2) ((a .at) + (a .constraints)) (a .interactions) refl (p .3) (write-interactions .last .1 .1 .1 .1 .0) (write-interactions .ensures .0) in
+    simp length-set (omega arith)
 
--- src/finish.rt:146:1
 returns : tie.Need-returns
-returns c = (graph-written (c .before .before .before .before .before .before .before .before .before .before .before .before .before .before .before .before .before .before .before .args .sheet .now) (c .before .before .before .before .before .before .before .before .before .before .before .before .before .before .before .before .before .before .before .args .scratch .now) (c .before .before .before .before .before .before .before .before .before .before .before .before .before .before .before .before .before .before .before .args .out .now) (c .before .before .before .before .before .before .before .before .before .before .before .before .before .before .before .before .before .before .before .args .n) (c .before .before .before .before .before .before .before .before .before .before .before .before .before .before .before .before .before .before .before .pre .0) (c .before .before .before .before .before .before .before .before .before .before .before .before .before .before .before .before .before .before .before .args .at) (c .before .before .before .before .before .before .before .before .before .before .before .before .before .before .before .before .before .before .before .args .constraints) (c .before .before .before .before .before .before .before .before .before .before .before .before .before .before .before .before .before .before .before .pre .1) (c .before .before .before .before .before .before .before .before .before .before .before .before .before .before .before .before .before .before .before .pre .2) (c .before .before .before .before .before .before .before .before .before .before .before .before .before .before .flag-nodes .last .1 .1 .1 .0) (c .before .before .before .before .before .before .before .before .before .before .before .before .before .before .flag-nodes .ensures) (c .before .before .before .before .before .before .before .before .before .write-flagged .last .0) (c .before .before .before .before .before .before .before .before .before .write-flagged .last .1 .1 .0) (c .before .before .before .before .before .before .before .before .before .write-flagged .result) (c .before .before .before .before .before .before .before .before .before .write-flagged .ensures .0) (c .before .before .before .before .before .before .before .before .before .write-flagged .ensures .1) (c .before .before .before .before .before .before .before .before .before .write-flagged .ensures .2) ((c .before .before .before .before .before .before .before .before .before .before .before .before .before .before .before .before .before .before .before .args .at) + (c .before .before .before .before .before .before .before .before .before .before .before .before .before .before .before .before .before .before .before .args .constraints)) (c .before .before .before .before .before .before .before .before .before .before .before .before .before .before .before .before .before .before .before .args .interactions) refl (c .before .before .before .before .before .before .before .before .before .before .before .before .before .before .before .before .before .before .before .pre .3) (c .before .before .write-interactions .last .1 .1 .1 .1 .0) (c .before .before .write-interactions .ensures .0), end-is (c .before .before .before .before .before .before .before .before .before .before .before .before .before .before .before .before .before .before .before .args .sheet .now) (c .before .before .before .before .before .before .before .before .before .before .before .before .before .before .before .before .before .before .before .args .scratch .now) (c .before .before .before .before .before .before .before .before .before .before .before .before .before .before .before .before .before .before .before .args .out .now) (c .before .before .before .before .before .before .before .before .before .before .before .before .before .before .before .before .before .before .before .args .n) (c .before .before .before .before .before .before .before .before .before .before .before .before .before .before .before .before .before .before .before .pre .0) (c .before .before .before .before .before .before .before .before .before .before .before .before .before .before .before .before .before .before .before .args .at) (c .before .before .before .before .before .before .before .before .before .before .before .before .before .before .before .before .before .before .before .args .constraints) (c .before .before .before .before .before .before .before .before .before .before .before .before .before .before .before .before .before .before .before .pre .1) (c .before .before .before .before .before .before .before .before .before .before .before .before .before .before .before .before .before .before .before .pre .2) (c .before .before .before .before .before .before .before .before .before .before .before .before .before .before .flag-nodes .last .1 .1 .1 .0) (c .before .before .before .before .before .before .before .before .before .before .before .before .before .before .flag-nodes .ensures) (c .before .before .before .before .before .before .before .before .before .write-flagged .last .0) (c .before .before .before .before .before .before .before .before .before .write-flagged .last .1 .1 .0) (c .before .before .before .before .before .before .before .before .before .write-flagged .result) (c .before .before .before .before .before .before .before .before .before .write-flagged .ensures .0) (c .before .before .before .before .before .before .before .before .before .write-flagged .ensures .1) (c .before .before .before .before .before .before .before .before .before .write-flagged .ensures .2) ((c .before .before .before .before .before .before .before .before .before .before .before .before .before .before .before .before .before .before .before .args .at) + (c .before .before .before .before .before .before .before .before .before .before .before .before .before .before .before .before .before .before .before .args .constraints)) (c .before .before .before .before .before .before .before .before .before .before .before .before .before .before .before .before .before .before .before .args .interactions) refl (c .before .before .before .before .before .before .before .before .before .before .before .before .before .before .before .before .before .before .before .pre .3) (c .before .before .write-interactions .last .1 .1 .1 .1 .0) (c .before .before .write-interactions .ensures .0) _ (c .before .before .write-interactions .ensures .1))
+returns c =
+    let a = c .before .before .before .before .before .before .before .before .before .before .before .before .before .before .before .before .before .before .before .args in
+    let p = c .before .before .before .before .before .before .before .before .before .before .before .before .before .before .before .before .before .before .before .pre in
+    let flag-nodes = c .before .before .before .before .before .before .before .before .before .before .before .before .before .before .flag-nodes in
+    let write-flagged = c .before .before .before .before .before .before .before .before .before .write-flagged in
+    let write-interactions = c .before .before .write-interactions in
+    (graph-written (a .sheet .now) (a .scratch .now) (a .out .now) (a .n) (p .0) (a .at) (a .constraints) (p .1) (p .2) (flag-nodes .last .1 .1 .1 .0) (flag-nodes .ensures) (write-flagged .last .0) (write-flagged .last .1 .1 .0) (write-flagged .result) (write-flagged .ensures .0) (write-flagged .ensures .1) (write-flagged .ensures .2) ((a .at) + (a .constraints)) (a .interactions) refl (p .3) (write-interactions .last .1 .1 .1 .1 .0) (write-interactions .ensures .0), end-is (a .sheet .now) (a .scratch .now) (a .out .now) (a .n) (p .0) (a .at) (a .constraints) (p .1) (p .2) (flag-nodes .last .1 .1 .1 .0) (flag-nodes .ensures) (write-flagged .last .0) (write-flagged .last .1 .1 .0) (write-flagged .result) (write-flagged .ensures .0) (write-flagged .ensures .1) (write-flagged .ensures .2) ((a .at) + (a .constraints)) (a .interactions) refl (p .3) (write-interactions .last .1 .1 .1 .1 .0) (write-interactions .ensures .0) _ (write-interactions .ensures .1))
 
 pub write-graph-spec : {M : Type 1} → statement M
 write-graph-spec =

@@ -1,20 +1,14 @@
 use mathlib.Core.Path.{_≡_, refl, sym, ap, subst, _∙_}
-use mathlib.Core.Bool.{Bool, true, false, cond}
-use mathlib.Core.List.{List, [], _∷_, _++_}
-use Prim.Native.Nat.{ℕ, zero, suc, _+_, _*_, _-_, _/_, _%_, _≤_, _<_}
+use Prim.Native.Nat.{ℕ, _+_, _-_, _/_, _%_, _≤_, _<_}
 use native.Mathlib.Omega.{arith}
 use borrow.Author.Needs.{needs}
-use lib.ListN.{length, getD, take, drop, replicate, set, length-set}
+use lib.ListN.{length, getD, length-set}
 use Prim.Native.Nat.{pred}
-use Rattle.dag.specs.Memory.{put, part, nodeNumbers, marksOf, Named}
+use Rattle.dag.specs.Memory.{put, part, nodeNumbers, marksOf}
 use Rattle.dag.proofs.Sweeps.{put-none}
 use Rattle.dag.proofs.Naming.{plain-mark, node-small, naming-more}
 use Rattle.dag.proofs.finish.write_names.Statement.{statement}
 use Rattle.dag.proofs.finish.write_names.Tie as tie
-use Rattle.dag.proofs.finish.write_names.Reads as reads
-use Rattle.dag.proofs.finish.write_names.Lts as lts
-use Rattle.dag.proofs.finish.node_number.Reads as node-number-reads
-use Rattle.dag.proofs.finish.wide.Reads as wide-reads
 
 j-is : (j count : ℕ) → j ≤ count → count ≤ j → j ≡ count
 j-is j count h k = omega arith
@@ -25,65 +19,71 @@ Inv-loop sheet at count scratch out₀ to j₀ out j = (j ≤ count) × (length 
 abbrev μ-loop : tie.MeasureT-loop
 μ-loop sheet at count scratch out₀ to j₀ out j = count - j
 
--- src/finish.rt:98:5
 loop-holds : tie.Need-loop-holds Inv-loop μ-loop
-loop-holds c = (omega arith, refl, sym (put-none (c .before .before .before .args .out .now) (c .before .before .before .args .to)))
+loop-holds c =
+    let a = c .before .before .before .args in
+    (omega arith, refl, sym (put-none (a .out .now) (a .to)))
 
--- src/finish.rt:99:52
 add-wide : tie.Need-add-wide Inv-loop μ-loop
 add-wide c = omega (arith, c .before .before .before .before .before .pre .0 .inside)
 
--- src/finish.rt:99:46
 mul-wide : tie.Need-mul-wide Inv-loop μ-loop
-mul-wide c = let h : (c .before .before .before .before .before .args .at) + c .before .loop .j < length (c .before .before .before .before .before .args .sheet .now) = omega (arith, c .before .before .before .before .before .pre .0 .inside) in search needs
+mul-wide c =
+    let h : (c .before .before .before .before .before .args .at) + c .before .loop .j < length (c .before .before .before .before .before .args .sheet .now) = omega (arith, c .before .before .before .before .before .pre .0 .inside) in
+    search needs
 
--- src/finish.rt:99:46
 shared-slice-read-wide : tie.Need-shared-slice-read-wide Inv-loop μ-loop
 shared-slice-read-wide c = omega (arith, c .before .before .before .before .before .before .pre .0 .inside)
 
--- src/finish.rt:99:41
 wide-requires : tie.Need-wide-requires Inv-loop μ-loop
 wide-requires c κs = search needs
 
--- src/finish.rt:99:13
 node-number-requires : tie.Need-node-number-requires Inv-loop μ-loop
-node-number-requires c κs = let n = c .before .before .before .before .before .before .before .pre .0 .named (c .before .before .before .loop .j) (omega arith) in let w = c .wide .ensures in (omega arith, subst (λ (x : ℕ). 0 < getD (c .before .before .before .before .before .before .before .args .scratch .now) x 0 % 65536) (sym w) (omega (arith, plain-mark (c .before .before .before .before .before .before .before .args .sheet .now) (c .before .before .before .before .before .before .before .args .at) (c .before .before .before .before .before .before .before .args .count) (c .before .before .before .before .before .before .before .args .scratch .now) (c .before .before .before .before .before .before .before .pre .0) (c .before .before .before .loop .j) (omega arith))))
+node-number-requires c κs =
+    let a = c .before .before .before .before .before .before .before .args in
+    let p = c .before .before .before .before .before .before .before .pre in
+    let loop = c .before .before .before .loop in
+    let n = p .0 .named (loop .j) (omega arith) in
+    let w = c .wide .ensures in
+    (omega arith, subst (λ (x : ℕ). 0 < getD (a .scratch .now) x 0 % 65536) (sym w) (omega (arith, plain-mark (a .sheet .now) (a .at) (a .count) (a .scratch .now) (p .0) (loop .j) (omega arith))))
 
--- src/finish.rt:100:23
 cast-out : tie.Need-cast-out Inv-loop μ-loop
-cast-out c = let h : c .node-number .result < 4294967296 = omega (arith, (c .node-number .ensures ∙ ap (λ (x : ℕ). pred (getD (c .before .before .before .before .before .before .before .before .args .scratch .now) x 0 % 65536)) (c .before .wide .ensures) ∙ ap pred (plain-mark (c .before .before .before .before .before .before .before .before .args .sheet .now) (c .before .before .before .before .before .before .before .before .args .at) (c .before .before .before .before .before .before .before .before .args .count) (c .before .before .before .before .before .before .before .before .args .scratch .now) (c .before .before .before .before .before .before .before .before .pre .0) (c .before .before .before .before .loop .j) (omega arith))), node-small (c .before .before .before .before .before .before .before .before .args .sheet .now) (c .before .before .before .before .before .before .before .before .args .at) (c .before .before .before .before .before .before .before .before .args .count) (c .before .before .before .before .before .before .before .before .args .scratch .now) (c .before .before .before .before .before .before .before .before .pre .0) (c .before .before .before .before .loop .j) (omega arith)) in search needs
+cast-out c =
+    let h : c .node-number .result < 4294967296 = omega (arith, (c .node-number .ensures ∙ ap (λ (x : ℕ). pred (getD (c .before .before .before .before .before .before .before .before .args .scratch .now) x 0 % 65536)) (c .before .wide .ensures) ∙ ap pred (plain-mark (c .before .before .before .before .before .before .before .before .args .sheet .now) (c .before .before .before .before .before .before .before .before .args .at) (c .before .before .before .before .before .before .before .before .args .count) (c .before .before .before .before .before .before .before .before .args .scratch .now) (c .before .before .before .before .before .before .before .before .pre .0) (c .before .before .before .before .loop .j) (omega arith))), node-small (c .before .before .before .before .before .before .before .before .args .sheet .now) (c .before .before .before .before .before .before .before .before .args .at) (c .before .before .before .before .before .before .before .before .args .count) (c .before .before .before .before .before .before .before .before .args .scratch .now) (c .before .before .before .before .before .before .before .before .pre .0) (c .before .before .before .before .loop .j) (omega arith)) in
+    search needs
 
--- src/finish.rt:100:13
 add-out : tie.Need-add-out Inv-loop μ-loop
 add-out c = omega (arith, c .before .before .before .before .before .before .before .before .pre .1)
 
--- src/finish.rt:100:9
 mul-out : tie.Need-mul-out Inv-loop μ-loop
-mul-out c = let h : (c .before .before .before .before .before .before .before .before .args .to) + c .before .before .before .before .loop .j < length (c .before .before .before .before .loop .out) = omega (arith, c .before .before .before .before .before .before .before .before .pre .1) in search needs
+mul-out c =
+    let h : (c .before .before .before .before .before .before .before .before .args .to) + c .before .before .before .before .loop .j < length (c .before .before .before .before .loop .out) = omega (arith, c .before .before .before .before .before .before .before .before .pre .1) in
+    search needs
 
--- src/finish.rt:100:9
 slice-write-out : tie.Need-slice-write-out Inv-loop μ-loop
 slice-write-out c = omega (arith, c .before .before .before .before .before .before .before .before .pre .1)
 
--- src/finish.rt:101:9
 add-j : tie.Need-add-j Inv-loop μ-loop
 add-j c = search needs
 
--- src/finish.rt:98:5
 loop-less : tie.Need-loop-less Inv-loop μ-loop
 loop-less c = search needs
 
--- src/finish.rt:98:5
 loop-again : tie.Need-loop-again Inv-loop μ-loop
-loop-again c = (omega arith, length-set (c .before .before .before .before .loop .out) _ _ ∙ c .before .before .before .before .loop .inv .1, naming-more (c .before .before .before .before .before .before .before .before .args .sheet .now) (c .before .before .before .before .before .before .before .before .args .at) (c .before .before .before .before .before .before .before .before .args .count) (c .before .before .before .before .before .before .before .before .args .scratch .now) (c .before .before .before .before .before .before .before .before .pre .0) (c .before .before .before .before .loop .j) (omega arith) (c .before .before .before .before .before .before .before .before .args .out .now) (c .before .before .before .before .loop .out) (c .before .before .before .before .before .before .before .before .args .to) _ (c .before .before .before .before .before .before .before .before .pre .1) (c .before .before .before .before .loop .inv .2) (c .node-number .ensures ∙ ap (λ (x : ℕ). pred (getD (c .before .before .before .before .before .before .before .before .args .scratch .now) x 0 % 65536)) (c .before .wide .ensures) ∙ ap pred (plain-mark (c .before .before .before .before .before .before .before .before .args .sheet .now) (c .before .before .before .before .before .before .before .before .args .at) (c .before .before .before .before .before .before .before .before .args .count) (c .before .before .before .before .before .before .before .before .args .scratch .now) (c .before .before .before .before .before .before .before .before .pre .0) (c .before .before .before .before .loop .j) (omega arith))))
+loop-again c =
+    let a = c .before .before .before .before .before .before .before .before .args in
+    let p = c .before .before .before .before .before .before .before .before .pre in
+    let loop = c .before .before .before .before .loop in
+    (omega arith, length-set (loop .out) _ _ ∙ loop .inv .1, naming-more (a .sheet .now) (a .at) (a .count) (a .scratch .now) (p .0) (loop .j) (omega arith) (a .out .now) (loop .out) (a .to) _ (p .1) (loop .inv .2) (c .node-number .ensures ∙ ap (λ (x : ℕ). pred (getD (a .scratch .now) x 0 % 65536)) (c .before .wide .ensures) ∙ ap pred (plain-mark (a .sheet .now) (a .at) (a .count) (a .scratch .now) (p .0) (loop .j) (omega arith))))
 
--- src/finish.rt:93:1
 same-length : tie.Need-same-length Inv-loop μ-loop
 same-length c = c .before .loop .inv .1
 
--- src/finish.rt:93:1
 returns : tie.Need-returns Inv-loop μ-loop
-returns c = c .before .loop .inv .2 ∙ ap (λ (k : ℕ). put (c .before .before .before .before .before .args .out .now) (c .before .before .before .before .before .args .to) (nodeNumbers (marksOf (c .before .before .before .before .before .args .scratch .now)) (part (c .before .before .before .before .before .args .at) k (c .before .before .before .before .before .args .sheet .now)))) (j-is (c .before .loop .j) (c .before .before .before .before .before .args .count) (omega arith) (omega arith))
+returns c =
+    let a = c .before .before .before .before .before .args in
+    let loop = c .before .loop in
+    loop .inv .2 ∙ ap (λ (k : ℕ). put (a .out .now) (a .to) (nodeNumbers (marksOf (a .scratch .now)) (part (a .at) k (a .sheet .now)))) (j-is (loop .j) (a .count) (omega arith) (omega arith))
 
 pub write-names-spec : {M : Type 1} → statement M
 write-names-spec =

@@ -1,81 +1,98 @@
-use mathlib.Core.Path.{_≡_, refl, sym, ap, subst, _∙_}
-use mathlib.Core.Bool.{Bool, true, false, cond}
-use mathlib.Core.List.{List, [], _∷_, _++_}
-use Prim.Native.Nat.{ℕ, zero, suc, _+_, _*_, _-_, _/_, _%_, _≤_, _<_}
+use mathlib.Core.Path.{refl, ap, _∙_}
+use Prim.Native.Nat.{ℕ, _+_, _*_, _-_, _/_, _≤_}
 use native.Mathlib.Omega.{arith}
 use borrow.Author.Needs.{needs}
-use lib.ListN.{length, getD, take, drop, replicate, set, length-set}
+use lib.ListN.{length}
 use Rattle.dag.specs.Memory.{recordsOf, graphOut}
 use Rattle.dag.proofs.Rooting.{part-below, walking-after, walks-both}
 use Rattle.dag.proofs.Starts.{start-walking, head-counts, head-inside, counts-small, constraints-inside, interactions-inside, finishing}
 use Rattle.dag.proofs.graph.build_graph.Statement.{statement}
 use Rattle.dag.proofs.graph.build_graph.Tie as tie
-use Rattle.dag.proofs.graph.build_graph.Reads as reads
-use Rattle.dag.proofs.graph.build_graph.Lts as lts
-use Rattle.dag.proofs.graph.wide.Reads as wide-reads
-use Rattle.dag.proofs.finish.write_graph.Reads as write-graph-reads
-use Rattle.dag.proofs.walk.add_interactions.Reads as add-interactions-reads
-use Rattle.dag.proofs.walk.add_names.Reads as add-names-reads
 
--- src/graph.rt:19:27
 shared-slice-read-wide : tie.Need-shared-slice-read-wide
-shared-slice-read-wide c = omega (arith, head-inside (c .before .before .before .before .args .sheet .now) (c .before .before .before .before .args .scratch .now) (c .before .before .before .before .args .out .now) (c .before .before .before .before .pre))
+shared-slice-read-wide c =
+    let a = c .before .before .before .before .args in
+    omega (arith, head-inside (a .sheet .now) (a .scratch .now) (a .out .now) (c .before .before .before .before .pre))
 
--- src/graph.rt:19:22
 wide-requires : tie.Need-wide-requires
 wide-requires c κs = search needs
 
--- src/graph.rt:19:18
 mul-at : tie.Need-mul-at
-mul-at c = let h : c .wide .result ≤ 4096 = omega (arith, c .wide .ensures, head-counts (c .before .before .before .before .before .args .sheet .now) (c .before .before .before .before .before .args .scratch .now) (c .before .before .before .before .before .args .out .now) (c .before .before .before .before .before .pre) .0, counts-small (c .before .before .before .before .before .args .sheet .now) (c .before .before .before .before .before .args .scratch .now) (c .before .before .before .before .before .args .out .now) (c .before .before .before .before .before .pre) .0) in omega arith
+mul-at c =
+    let a = c .before .before .before .before .before .args in
+    let p = c .before .before .before .before .before .pre in
+    let h : c .wide .result ≤ 4096 = omega (arith, c .wide .ensures, head-counts (a .sheet .now) (a .scratch .now) (a .out .now) p .0, counts-small (a .sheet .now) (a .scratch .now) (a .out .now) p .0) in
+    omega arith
 
--- src/graph.rt:19:14
 add-at : tie.Need-add-at
-add-at c = let h : c .wide .result ≤ 4096 = omega (arith, c .wide .ensures, head-counts (c .before .before .before .before .before .args .sheet .now) (c .before .before .before .before .before .args .scratch .now) (c .before .before .before .before .before .args .out .now) (c .before .before .before .before .before .pre) .0, counts-small (c .before .before .before .before .before .args .sheet .now) (c .before .before .before .before .before .args .scratch .now) (c .before .before .before .before .before .args .out .now) (c .before .before .before .before .before .pre) .0) in omega arith
+add-at c =
+    let a = c .before .before .before .before .before .args in
+    let p = c .before .before .before .before .before .pre in
+    let h : c .wide .result ≤ 4096 = omega (arith, c .wide .ensures, head-counts (a .sheet .now) (a .scratch .now) (a .out .now) p .0, counts-small (a .sheet .now) (a .scratch .now) (a .out .now) p .0) in
+    omega arith
 
--- src/graph.rt:20:28
 shared-slice-read-wide-2 : tie.Need-shared-slice-read-wide-2
-shared-slice-read-wide-2 c = omega (arith, head-inside (c .before .before .before .before .before .before .args .sheet .now) (c .before .before .before .before .before .before .args .scratch .now) (c .before .before .before .before .before .before .args .out .now) (c .before .before .before .before .before .before .pre))
+shared-slice-read-wide-2 c =
+    let a = c .before .before .before .before .before .before .args in
+    omega (arith, head-inside (a .sheet .now) (a .scratch .now) (a .out .now) (c .before .before .before .before .before .before .pre))
 
--- src/graph.rt:20:9
 wide-requires-2 : tie.Need-wide-requires-2
 wide-requires-2 c κs = search needs
 
--- src/graph.rt:21:29
 shared-slice-read-wide-3 : tie.Need-shared-slice-read-wide-3
-shared-slice-read-wide-3 c = omega (arith, head-inside (c .before .before .before .before .before .before .before .before .args .sheet .now) (c .before .before .before .before .before .before .before .before .args .scratch .now) (c .before .before .before .before .before .before .before .before .args .out .now) (c .before .before .before .before .before .before .before .before .pre))
+shared-slice-read-wide-3 c =
+    let a = c .before .before .before .before .before .before .before .before .args in
+    omega (arith, head-inside (a .sheet .now) (a .scratch .now) (a .out .now) (c .before .before .before .before .before .before .before .before .pre))
 
--- src/graph.rt:21:9
 wide-requires-3 : tie.Need-wide-requires-3
 wide-requires-3 c κs = search needs
 
--- src/graph.rt:22:9
 add-names-requires : tie.Need-add-names-requires
-add-names-requires c κs = (start-walking (c .before .before .before .before .before .before .before .before .before .before .before .args .sheet .now) (c .before .before .before .before .before .before .before .before .before .before .before .args .scratch .now) (c .before .before .before .before .before .before .before .before .before .before .before .args .out .now) (c .before .before .before .before .before .before .before .before .before .before .before .pre), constraints-inside (c .before .before .before .before .before .before .before .before .before .before .before .args .sheet .now) (c .before .before .before .before .before .before .before .before .before .before .before .args .scratch .now) (c .before .before .before .before .before .before .before .before .before .before .before .args .out .now) (c .before .before .before .before .before .before .before .before .before .before .before .pre) (4 + 5 * c .before .before .before .before .before .before .wide .result) (c .before .before .before .before .wide2 .result) (c .before .before .wide3 .result) (ap (λ (x : ℕ). 4 + 5 * x) (c .before .before .before .before .before .before .wide .ensures ∙ head-counts (c .before .before .before .before .before .before .before .before .before .before .before .args .sheet .now) (c .before .before .before .before .before .before .before .before .before .before .before .args .scratch .now) (c .before .before .before .before .before .before .before .before .before .before .before .args .out .now) (c .before .before .before .before .before .before .before .before .before .before .before .pre) .0)) (c .before .before .before .before .wide2 .ensures ∙ head-counts (c .before .before .before .before .before .before .before .before .before .before .before .args .sheet .now) (c .before .before .before .before .before .before .before .before .before .before .before .args .scratch .now) (c .before .before .before .before .before .before .before .before .before .before .before .args .out .now) (c .before .before .before .before .before .before .before .before .before .before .before .pre) .1) (c .before .before .wide3 .ensures ∙ head-counts (c .before .before .before .before .before .before .before .before .before .before .before .args .sheet .now) (c .before .before .before .before .before .before .before .before .before .before .before .args .scratch .now) (c .before .before .before .before .before .before .before .before .before .before .before .args .out .now) (c .before .before .before .before .before .before .before .before .before .before .before .pre) .2))
+add-names-requires c κs =
+    let a = c .before .before .before .before .before .before .before .before .before .before .before .args in
+    let p = c .before .before .before .before .before .before .before .before .before .before .before .pre in
+    let wide = c .before .before .before .before .before .before .wide in
+    let wide2 = c .before .before .before .before .wide2 in
+    let wide3 = c .before .before .wide3 in
+    (start-walking (a .sheet .now) (a .scratch .now) (a .out .now) p, constraints-inside (a .sheet .now) (a .scratch .now) (a .out .now) p (4 + 5 * wide .result) (wide2 .result) (wide3 .result) (ap (λ (x : ℕ). 4 + 5 * x) (wide .ensures ∙ head-counts (a .sheet .now) (a .scratch .now) (a .out .now) p .0)) (wide2 .ensures ∙ head-counts (a .sheet .now) (a .scratch .now) (a .out .now) p .1) (wide3 .ensures ∙ head-counts (a .sheet .now) (a .scratch .now) (a .out .now) p .2))
 
--- src/graph.rt:23:43
 add-add-interactions : tie.Need-add-add-interactions
-add-add-interactions c = omega (arith, c .before .before .before .before .before .before .before .before .before .before .before .wide .ensures, head-counts (c .before .before .before .before .before .before .before .before .before .before .before .before .before .before .before .before .args .sheet .now) (c .before .before .before .before .before .before .before .before .before .before .before .before .before .before .before .before .args .scratch .now) (c .before .before .before .before .before .before .before .before .before .before .before .before .before .before .before .before .args .out .now) (c .before .before .before .before .before .before .before .before .before .before .before .before .before .before .before .before .pre) .0, counts-small (c .before .before .before .before .before .before .before .before .before .before .before .before .before .before .before .before .args .sheet .now) (c .before .before .before .before .before .before .before .before .before .before .before .before .before .before .before .before .args .scratch .now) (c .before .before .before .before .before .before .before .before .before .before .before .before .before .before .before .before .args .out .now) (c .before .before .before .before .before .before .before .before .before .before .before .before .before .before .before .before .pre) .0, (c .before .before .before .before .before .before .before .before .before .wide2 .ensures ∙ head-counts (c .before .before .before .before .before .before .before .before .before .before .before .before .before .before .before .before .args .sheet .now) (c .before .before .before .before .before .before .before .before .before .before .before .before .before .before .before .before .args .scratch .now) (c .before .before .before .before .before .before .before .before .before .before .before .before .before .before .before .before .args .out .now) (c .before .before .before .before .before .before .before .before .before .before .before .before .before .before .before .before .pre) .1), counts-small (c .before .before .before .before .before .before .before .before .before .before .before .before .before .before .before .before .args .sheet .now) (c .before .before .before .before .before .before .before .before .before .before .before .before .before .before .before .before .args .scratch .now) (c .before .before .before .before .before .before .before .before .before .before .before .before .before .before .before .before .args .out .now) (c .before .before .before .before .before .before .before .before .before .before .before .before .before .before .before .before .pre) .1)
+add-add-interactions c =
+    let a = c .before .before .before .before .before .before .before .before .before .before .before .before .before .before .before .before .args in
+    let p = c .before .before .before .before .before .before .before .before .before .before .before .before .before .before .before .before .pre in
+    omega (arith, c .before .before .before .before .before .before .before .before .before .before .before .wide .ensures, head-counts (a .sheet .now) (a .scratch .now) (a .out .now) p .0, counts-small (a .sheet .now) (a .scratch .now) (a .out .now) p .0, (c .before .before .before .before .before .before .before .before .before .wide2 .ensures ∙ head-counts (a .sheet .now) (a .scratch .now) (a .out .now) p .1), counts-small (a .sheet .now) (a .scratch .now) (a .out .now) p .1)
 
--- src/graph.rt:23:9
 add-interactions-requires : tie.Need-add-interactions-requires
-add-interactions-requires c κs = (walking-after (c .before .before .before .before .before .before .before .before .before .before .before .before .before .before .before .before .before .before .args .sheet .now) _ (part-below (length (recordsOf (c .before .before .before .before .before .before .before .before .before .before .before .before .before .before .before .before .before .before .args .sheet .now))) (c .before .before .before .before .before .before .before .before .before .before .before .before .before .before .before .before .before .before .args .sheet .now) (4 + 5 * c .before .before .before .before .before .before .before .before .before .before .before .before .before .wide .result) (c .before .before .before .before .before .before .before .before .before .before .before .wide2 .result) (constraints-inside (c .before .before .before .before .before .before .before .before .before .before .before .before .before .before .before .before .before .before .args .sheet .now) (c .before .before .before .before .before .before .before .before .before .before .before .before .before .before .before .before .before .before .args .scratch .now) (c .before .before .before .before .before .before .before .before .before .before .before .before .before .before .before .before .before .before .args .out .now) (c .before .before .before .before .before .before .before .before .before .before .before .before .before .before .before .before .before .before .pre) (4 + 5 * c .before .before .before .before .before .before .before .before .before .before .before .before .before .wide .result) (c .before .before .before .before .before .before .before .before .before .before .before .wide2 .result) (c .before .before .before .before .before .before .before .before .before .wide3 .result) (ap (λ (x : ℕ). 4 + 5 * x) (c .before .before .before .before .before .before .before .before .before .before .before .before .before .wide .ensures ∙ head-counts (c .before .before .before .before .before .before .before .before .before .before .before .before .before .before .before .before .before .before .args .sheet .now) (c .before .before .before .before .before .before .before .before .before .before .before .before .before .before .before .before .before .before .args .scratch .now) (c .before .before .before .before .before .before .before .before .before .before .before .before .before .before .before .before .before .before .args .out .now) (c .before .before .before .before .before .before .before .before .before .before .before .before .before .before .before .before .before .before .pre) .0)) (c .before .before .before .before .before .before .before .before .before .before .before .wide2 .ensures ∙ head-counts (c .before .before .before .before .before .before .before .before .before .before .before .before .before .before .before .before .before .before .args .sheet .now) (c .before .before .before .before .before .before .before .before .before .before .before .before .before .before .before .before .before .before .args .scratch .now) (c .before .before .before .before .before .before .before .before .before .before .before .before .before .before .before .before .before .before .args .out .now) (c .before .before .before .before .before .before .before .before .before .before .before .before .before .before .before .before .before .before .pre) .1) (c .before .before .before .before .before .before .before .before .before .wide3 .ensures ∙ head-counts (c .before .before .before .before .before .before .before .before .before .before .before .before .before .before .before .before .before .before .args .sheet .now) (c .before .before .before .before .before .before .before .before .before .before .before .before .before .before .before .before .before .before .args .scratch .now) (c .before .before .before .before .before .before .before .before .before .before .before .before .before .before .before .before .before .before .args .out .now) (c .before .before .before .before .before .before .before .before .before .before .before .before .before .before .before .before .before .before .pre) .2) .inside) (constraints-inside (c .before .before .before .before .before .before .before .before .before .before .before .before .before .before .before .before .before .before .args .sheet .now) (c .before .before .before .before .before .before .before .before .before .before .before .before .before .before .before .before .before .before .args .scratch .now) (c .before .before .before .before .before .before .before .before .before .before .before .before .before .before .before .before .before .before .args .out .now) (c .before .before .before .before .before .before .before .before .before .before .before .before .before .before .before .before .before .before .pre) (4 + 5 * c .before .before .before .before .before .before .before .before .before .before .before .before .before .wide .result) (c .before .before .before .before .before .before .before .before .before .before .before .wide2 .result) (c .before .before .before .before .before .before .before .before .before .wide3 .result) (ap (λ (x : ℕ). 4 + 5 * x) (c .before .before .before .before .before .before .before .before .before .before .before .before .before .wide .ensures ∙ head-counts (c .before .before .before .before .before .before .before .before .before .before .before .before .before .before .before .before .before .before .args .sheet .now) (c .before .before .before .before .before .before .before .before .before .before .before .before .before .before .before .before .before .before .args .scratch .now) (c .before .before .before .before .before .before .before .before .before .before .before .before .before .before .before .before .before .before .args .out .now) (c .before .before .before .before .before .before .before .before .before .before .before .before .before .before .before .before .before .before .pre) .0)) (c .before .before .before .before .before .before .before .before .before .before .before .wide2 .ensures ∙ head-counts (c .before .before .before .before .before .before .before .before .before .before .before .before .before .before .before .before .before .before .args .sheet .now) (c .before .before .before .before .before .before .before .before .before .before .before .before .before .before .before .before .before .before .args .scratch .now) (c .before .before .before .before .before .before .before .before .before .before .before .before .before .before .before .before .before .before .args .out .now) (c .before .before .before .before .before .before .before .before .before .before .before .before .before .before .before .before .before .before .pre) .1) (c .before .before .before .before .before .before .before .before .before .wide3 .ensures ∙ head-counts (c .before .before .before .before .before .before .before .before .before .before .before .before .before .before .before .before .before .before .args .sheet .now) (c .before .before .before .before .before .before .before .before .before .before .before .before .before .before .before .before .before .before .args .scratch .now) (c .before .before .before .before .before .before .before .before .before .before .before .before .before .before .before .before .before .before .args .out .now) (c .before .before .before .before .before .before .before .before .before .before .before .before .before .before .before .before .before .before .pre) .2) .below)) (c .before .before .before .before .before .before .before .before .before .before .before .before .before .before .before .before .before .before .args .scratch .now) (c .before .before .before .before .before .before .before .before .before .before .before .before .before .before .before .before .before .before .args .out .now) 0 (c .before .before .before .before .before .before .add-names .last .1 .1 .1 .0) (c .before .before .before .before .before .before .add-names .last .1 .1 .1 .1 .0) (c .before .before .before .before .before .before .add-names .result) (start-walking (c .before .before .before .before .before .before .before .before .before .before .before .before .before .before .before .before .before .before .args .sheet .now) (c .before .before .before .before .before .before .before .before .before .before .before .before .before .before .before .before .before .before .args .scratch .now) (c .before .before .before .before .before .before .before .before .before .before .before .before .before .before .before .before .before .before .args .out .now) (c .before .before .before .before .before .before .before .before .before .before .before .before .before .before .before .before .before .before .pre)) (c .before .before .before .before .before .before .add-names .kept .1 .1 .1 .1 .0) (c .before .before .before .before .before .before .add-names .ensures), interactions-inside (c .before .before .before .before .before .before .before .before .before .before .before .before .before .before .before .before .before .before .args .sheet .now) (c .before .before .before .before .before .before .before .before .before .before .before .before .before .before .before .before .before .before .args .scratch .now) (c .before .before .before .before .before .before .before .before .before .before .before .before .before .before .before .before .before .before .args .out .now) (c .before .before .before .before .before .before .before .before .before .before .before .before .before .before .before .before .before .before .pre) (4 + 5 * c .before .before .before .before .before .before .before .before .before .before .before .before .before .wide .result) (c .before .before .before .before .before .before .before .before .before .before .before .wide2 .result) (c .before .before .before .before .before .before .before .before .before .wide3 .result) (ap (λ (x : ℕ). 4 + 5 * x) (c .before .before .before .before .before .before .before .before .before .before .before .before .before .wide .ensures ∙ head-counts (c .before .before .before .before .before .before .before .before .before .before .before .before .before .before .before .before .before .before .args .sheet .now) (c .before .before .before .before .before .before .before .before .before .before .before .before .before .before .before .before .before .before .args .scratch .now) (c .before .before .before .before .before .before .before .before .before .before .before .before .before .before .before .before .before .before .args .out .now) (c .before .before .before .before .before .before .before .before .before .before .before .before .before .before .before .before .before .before .pre) .0)) (c .before .before .before .before .before .before .before .before .before .before .before .wide2 .ensures ∙ head-counts (c .before .before .before .before .before .before .before .before .before .before .before .before .before .before .before .before .before .before .args .sheet .now) (c .before .before .before .before .before .before .before .before .before .before .before .before .before .before .before .before .before .before .args .scratch .now) (c .before .before .before .before .before .before .before .before .before .before .before .before .before .before .before .before .before .before .args .out .now) (c .before .before .before .before .before .before .before .before .before .before .before .before .before .before .before .before .before .before .pre) .1) (c .before .before .before .before .before .before .before .before .before .wide3 .ensures ∙ head-counts (c .before .before .before .before .before .before .before .before .before .before .before .before .before .before .before .before .before .before .args .sheet .now) (c .before .before .before .before .before .before .before .before .before .before .before .before .before .before .before .before .before .before .args .scratch .now) (c .before .before .before .before .before .before .before .before .before .before .before .before .before .before .before .before .before .before .args .out .now) (c .before .before .before .before .before .before .before .before .before .before .before .before .before .before .before .before .before .before .pre) .2) ((4 + 5 * c .before .before .before .before .before .before .before .before .before .before .before .before .before .wide .result) + c .before .before .before .before .before .before .before .before .before .before .before .wide2 .result) refl)
+add-interactions-requires c κs =
+    let a = c .before .before .before .before .before .before .before .before .before .before .before .before .before .before .before .before .before .before .args in
+    let p = c .before .before .before .before .before .before .before .before .before .before .before .before .before .before .before .before .before .before .pre in
+    let wide = c .before .before .before .before .before .before .before .before .before .before .before .before .before .wide in
+    let wide2 = c .before .before .before .before .before .before .before .before .before .before .before .wide2 in
+    let wide3 = c .before .before .before .before .before .before .before .before .before .wide3 in
+    let add-names = c .before .before .before .before .before .before .add-names in
+    (walking-after (a .sheet .now) _ (part-below (length (recordsOf (a .sheet .now))) (a .sheet .now) (4 + 5 * wide .result) (wide2 .result) (constraints-inside (a .sheet .now) (a .scratch .now) (a .out .now) p (4 + 5 * wide .result) (wide2 .result) (wide3 .result) (ap (λ (x : ℕ). 4 + 5 * x) (wide .ensures ∙ head-counts (a .sheet .now) (a .scratch .now) (a .out .now) p .0)) (wide2 .ensures ∙ head-counts (a .sheet .now) (a .scratch .now) (a .out .now) p .1) (wide3 .ensures ∙ head-counts (a .sheet .now) (a .scratch .now) (a .out .now) p .2) .inside) (constraints-inside (a .sheet .now) (a .scratch .now) (a .out .now) p (4 + 5 * wide .result) (wide2 .result) (wide3 .result) (ap (λ (x : ℕ). 4 + 5 * x) (wide .ensures ∙ head-counts (a .sheet .now) (a .scratch .now) (a .out .now) p .0)) (wide2 .ensures ∙ head-counts (a .sheet .now) (a .scratch .now) (a .out .now) p .1) (wide3 .ensures ∙ head-counts (a .sheet .now) (a .scratch .now) (a .out .now) p .2) .below)) (a .scratch .now) (a .out .now) 0 (add-names .last .1 .1 .1 .0) (add-names .last .1 .1 .1 .1 .0) (add-names .result) (start-walking (a .sheet .now) (a .scratch .now) (a .out .now) p) (add-names .kept .1 .1 .1 .1 .0) (add-names .ensures), interactions-inside (a .sheet .now) (a .scratch .now) (a .out .now) p (4 + 5 * wide .result) (wide2 .result) (wide3 .result) (ap (λ (x : ℕ). 4 + 5 * x) (wide .ensures ∙ head-counts (a .sheet .now) (a .scratch .now) (a .out .now) p .0)) (wide2 .ensures ∙ head-counts (a .sheet .now) (a .scratch .now) (a .out .now) p .1) (wide3 .ensures ∙ head-counts (a .sheet .now) (a .scratch .now) (a .out .now) p .2) ((4 + 5 * wide .result) + wide2 .result) refl)
 
--- src/graph.rt:24:5
 write-graph-requires : tie.Need-write-graph-requires
-write-graph-requires c κs = (finishing (c .before .before .before .before .before .before .before .before .before .before .before .before .before .before .before .before .before .before .before .before .before .before .before .before .before .args .sheet .now) (c .before .before .before .before .before .before .before .before .before .before .before .before .before .before .before .before .before .before .before .before .before .before .before .before .before .args .scratch .now) (c .before .before .before .before .before .before .before .before .before .before .before .before .before .before .before .before .before .before .before .before .before .before .before .before .before .args .out .now) (c .before .before .before .before .before .before .before .before .before .before .before .before .before .before .before .before .before .before .before .before .before .before .before .before .before .pre) (4 + 5 * c .before .before .before .before .before .before .before .before .before .before .before .before .before .before .before .before .before .before .before .before .wide .result) (c .before .before .before .before .before .before .before .before .before .before .before .before .before .before .before .before .before .before .wide2 .result) (c .before .before .before .before .before .before .before .before .before .before .before .before .before .before .before .before .wide3 .result) (ap (λ (x : ℕ). 4 + 5 * x) (c .before .before .before .before .before .before .before .before .before .before .before .before .before .before .before .before .before .before .before .before .wide .ensures ∙ head-counts (c .before .before .before .before .before .before .before .before .before .before .before .before .before .before .before .before .before .before .before .before .before .before .before .before .before .args .sheet .now) (c .before .before .before .before .before .before .before .before .before .before .before .before .before .before .before .before .before .before .before .before .before .before .before .before .before .args .scratch .now) (c .before .before .before .before .before .before .before .before .before .before .before .before .before .before .before .before .before .before .before .before .before .before .before .before .before .args .out .now) (c .before .before .before .before .before .before .before .before .before .before .before .before .before .before .before .before .before .before .before .before .before .before .before .before .before .pre) .0)) (c .before .before .before .before .before .before .before .before .before .before .before .before .before .before .before .before .before .before .wide2 .ensures ∙ head-counts (c .before .before .before .before .before .before .before .before .before .before .before .before .before .before .before .before .before .before .before .before .before .before .before .before .before .args .sheet .now) (c .before .before .before .before .before .before .before .before .before .before .before .before .before .before .before .before .before .before .before .before .before .before .before .before .before .args .scratch .now) (c .before .before .before .before .before .before .before .before .before .before .before .before .before .before .before .before .before .before .before .before .before .before .before .before .before .args .out .now) (c .before .before .before .before .before .before .before .before .before .before .before .before .before .before .before .before .before .before .before .before .before .before .before .before .before .pre) .1) (c .before .before .before .before .before .before .before .before .before .before .before .before .before .before .before .before .wide3 .ensures ∙ head-counts (c .before .before .before .before .before .before .before .before .before .before .before .before .before .before .before .before .before .before .before .before .before .before .before .before .before .args .sheet .now) (c .before .before .before .before .before .before .before .before .before .before .before .before .before .before .before .before .before .before .before .before .before .before .before .before .before .args .scratch .now) (c .before .before .before .before .before .before .before .before .before .before .before .before .before .before .before .before .before .before .before .before .before .before .before .before .before .args .out .now) (c .before .before .before .before .before .before .before .before .before .before .before .before .before .before .before .before .before .before .before .before .before .before .before .before .before .pre) .2) ((4 + 5 * c .before .before .before .before .before .before .before .before .before .before .before .before .before .before .before .before .before .before .before .before .wide .result) + c .before .before .before .before .before .before .before .before .before .before .before .before .before .before .before .before .before .before .wide2 .result) refl (c .before .before .before .before .before .before .add-interactions .last .1 .1 .1 .0) (c .before .before .before .before .before .before .add-interactions .last .1 .1 .1 .1 .0) (c .before .before .before .before .before .before .add-interactions .result) (walks-both (c .before .before .before .before .before .before .before .before .before .before .before .before .before .before .before .before .before .before .before .before .before .before .before .before .before .args .sheet .now) (c .before .before .before .before .before .before .before .before .before .before .before .before .before .before .before .before .before .before .before .before .before .before .before .before .before .pre .checked) _ _ (part-below (length (recordsOf (c .before .before .before .before .before .before .before .before .before .before .before .before .before .before .before .before .before .before .before .before .before .before .before .before .before .args .sheet .now))) (c .before .before .before .before .before .before .before .before .before .before .before .before .before .before .before .before .before .before .before .before .before .before .before .before .before .args .sheet .now) (4 + 5 * c .before .before .before .before .before .before .before .before .before .before .before .before .before .before .before .before .before .before .before .before .wide .result) (c .before .before .before .before .before .before .before .before .before .before .before .before .before .before .before .before .before .before .wide2 .result) (constraints-inside (c .before .before .before .before .before .before .before .before .before .before .before .before .before .before .before .before .before .before .before .before .before .before .before .before .before .args .sheet .now) (c .before .before .before .before .before .before .before .before .before .before .before .before .before .before .before .before .before .before .before .before .before .before .before .before .before .args .scratch .now) (c .before .before .before .before .before .before .before .before .before .before .before .before .before .before .before .before .before .before .before .before .before .before .before .before .before .args .out .now) (c .before .before .before .before .before .before .before .before .before .before .before .before .before .before .before .before .before .before .before .before .before .before .before .before .before .pre) (4 + 5 * c .before .before .before .before .before .before .before .before .before .before .before .before .before .before .before .before .before .before .before .before .wide .result) (c .before .before .before .before .before .before .before .before .before .before .before .before .before .before .before .before .before .before .wide2 .result) (c .before .before .before .before .before .before .before .before .before .before .before .before .before .before .before .before .wide3 .result) (ap (λ (x : ℕ). 4 + 5 * x) (c .before .before .before .before .before .before .before .before .before .before .before .before .before .before .before .before .before .before .before .before .wide .ensures ∙ head-counts (c .before .before .before .before .before .before .before .before .before .before .before .before .before .before .before .before .before .before .before .before .before .before .before .before .before .args .sheet .now) (c .before .before .before .before .before .before .before .before .before .before .before .before .before .before .before .before .before .before .before .before .before .before .before .before .before .args .scratch .now) (c .before .before .before .before .before .before .before .before .before .before .before .before .before .before .before .before .before .before .before .before .before .before .before .before .before .args .out .now) (c .before .before .before .before .before .before .before .before .before .before .before .before .before .before .before .before .before .before .before .before .before .before .before .before .before .pre) .0)) (c .before .before .before .before .before .before .before .before .before .before .before .before .before .before .before .before .before .before .wide2 .ensures ∙ head-counts (c .before .before .before .before .before .before .before .before .before .before .before .before .before .before .before .before .before .before .before .before .before .before .before .before .before .args .sheet .now) (c .before .before .before .before .before .before .before .before .before .before .before .before .before .before .before .before .before .before .before .before .before .before .before .before .before .args .scratch .now) (c .before .before .before .before .before .before .before .before .before .before .before .before .before .before .before .before .before .before .before .before .before .before .before .before .before .args .out .now) (c .before .before .before .before .before .before .before .before .before .before .before .before .before .before .before .before .before .before .before .before .before .before .before .before .before .pre) .1) (c .before .before .before .before .before .before .before .before .before .before .before .before .before .before .before .before .wide3 .ensures ∙ head-counts (c .before .before .before .before .before .before .before .before .before .before .before .before .before .before .before .before .before .before .before .before .before .before .before .before .before .args .sheet .now) (c .before .before .before .before .before .before .before .before .before .before .before .before .before .before .before .before .before .before .before .before .before .before .before .before .before .args .scratch .now) (c .before .before .before .before .before .before .before .before .before .before .before .before .before .before .before .before .before .before .before .before .before .before .before .before .before .args .out .now) (c .before .before .before .before .before .before .before .before .before .before .before .before .before .before .before .before .before .before .before .before .before .before .before .before .before .pre) .2) .inside) (constraints-inside (c .before .before .before .before .before .before .before .before .before .before .before .before .before .before .before .before .before .before .before .before .before .before .before .before .before .args .sheet .now) (c .before .before .before .before .before .before .before .before .before .before .before .before .before .before .before .before .before .before .before .before .before .before .before .before .before .args .scratch .now) (c .before .before .before .before .before .before .before .before .before .before .before .before .before .before .before .before .before .before .before .before .before .before .before .before .before .args .out .now) (c .before .before .before .before .before .before .before .before .before .before .before .before .before .before .before .before .before .before .before .before .before .before .before .before .before .pre) (4 + 5 * c .before .before .before .before .before .before .before .before .before .before .before .before .before .before .before .before .before .before .before .before .wide .result) (c .before .before .before .before .before .before .before .before .before .before .before .before .before .before .before .before .before .before .wide2 .result) (c .before .before .before .before .before .before .before .before .before .before .before .before .before .before .before .before .wide3 .result) (ap (λ (x : ℕ). 4 + 5 * x) (c .before .before .before .before .before .before .before .before .before .before .before .before .before .before .before .before .before .before .before .before .wide .ensures ∙ head-counts (c .before .before .before .before .before .before .before .before .before .before .before .before .before .before .before .before .before .before .before .before .before .before .before .before .before .args .sheet .now) (c .before .before .before .before .before .before .before .before .before .before .before .before .before .before .before .before .before .before .before .before .before .before .before .before .before .args .scratch .now) (c .before .before .before .before .before .before .before .before .before .before .before .before .before .before .before .before .before .before .before .before .before .before .before .before .before .args .out .now) (c .before .before .before .before .before .before .before .before .before .before .before .before .before .before .before .before .before .before .before .before .before .before .before .before .before .pre) .0)) (c .before .before .before .before .before .before .before .before .before .before .before .before .before .before .before .before .before .before .wide2 .ensures ∙ head-counts (c .before .before .before .before .before .before .before .before .before .before .before .before .before .before .before .before .before .before .before .before .before .before .before .before .before .args .sheet .now) (c .before .before .before .before .before .before .before .before .before .before .before .before .before .before .before .before .before .before .before .before .before .before .before .before .before .args .scratch .now) (c .before .before .before .before .before .before .before .before .before .before .before .before .before .before .before .before .before .before .before .before .before .before .before .before .before .args .out .now) (c .before .before .before .before .before .before .before .before .before .before .before .before .before .before .before .before .before .before .before .before .before .before .before .before .before .pre) .1) (c .before .before .before .before .before .before .before .before .before .before .before .before .before .before .before .before .wide3 .ensures ∙ head-counts (c .before .before .before .before .before .before .before .before .before .before .before .before .before .before .before .before .before .before .before .before .before .before .before .before .before .args .sheet .now) (c .before .before .before .before .before .before .before .before .before .before .before .before .before .before .before .before .before .before .before .before .before .before .before .before .before .args .scratch .now) (c .before .before .before .before .before .before .before .before .before .before .before .before .before .before .before .before .before .before .before .before .before .before .before .before .before .args .out .now) (c .before .before .before .before .before .before .before .before .before .before .before .before .before .before .before .before .before .before .before .before .before .before .before .before .before .pre) .2) .below)) (c .before .before .before .before .before .before .before .before .before .before .before .before .before .before .before .before .before .before .before .before .before .before .before .before .before .args .scratch .now) (c .before .before .before .before .before .before .before .before .before .before .before .before .before .before .before .before .before .before .before .before .before .before .before .before .before .args .out .now) 0 (c .before .before .before .before .before .before .before .before .before .before .before .before .before .add-names .last .1 .1 .1 .0) (c .before .before .before .before .before .before .before .before .before .before .before .before .before .add-names .last .1 .1 .1 .1 .0) (c .before .before .before .before .before .before .before .before .before .before .before .before .before .add-names .result) (c .before .before .before .before .before .before .add-interactions .last .1 .1 .1 .0) (c .before .before .before .before .before .before .add-interactions .last .1 .1 .1 .1 .0) (c .before .before .before .before .before .before .add-interactions .result) (c .before .before .before .before .before .before .before .before .before .before .before .before .before .add-names .ensures) (c .before .before .before .before .before .before .add-interactions .ensures)) ((c .before .before .before .before .before .before .add-interactions .kept .1 .1 .1 .1 .0) ∙ (c .before .before .before .before .before .before .before .before .before .before .before .before .before .add-names .kept .1 .1 .1 .1 .0)), (ap (λ (x : ℕ). 4 + 5 * x) (c .before .before .before .before .before .before .before .before .before .before .before .before .before .before .before .before .before .before .before .before .wide .ensures ∙ head-counts (c .before .before .before .before .before .before .before .before .before .before .before .before .before .before .before .before .before .before .before .before .before .before .before .before .before .args .sheet .now) (c .before .before .before .before .before .before .before .before .before .before .before .before .before .before .before .before .before .before .before .before .before .before .before .before .before .args .scratch .now) (c .before .before .before .before .before .before .before .before .before .before .before .before .before .before .before .before .before .before .before .before .before .before .before .before .before .args .out .now) (c .before .before .before .before .before .before .before .before .before .before .before .before .before .before .before .before .before .before .before .before .before .before .before .before .before .pre) .0)), (c .before .before .before .before .before .before .before .before .before .before .before .before .before .before .before .before .before .before .wide2 .ensures ∙ head-counts (c .before .before .before .before .before .before .before .before .before .before .before .before .before .before .before .before .before .before .before .before .before .before .before .before .before .args .sheet .now) (c .before .before .before .before .before .before .before .before .before .before .before .before .before .before .before .before .before .before .before .before .before .before .before .before .before .args .scratch .now) (c .before .before .before .before .before .before .before .before .before .before .before .before .before .before .before .before .before .before .before .before .before .before .before .before .before .args .out .now) (c .before .before .before .before .before .before .before .before .before .before .before .before .before .before .before .before .before .before .before .before .before .before .before .before .before .pre) .1), (c .before .before .before .before .before .before .before .before .before .before .before .before .before .before .before .before .wide3 .ensures ∙ head-counts (c .before .before .before .before .before .before .before .before .before .before .before .before .before .before .before .before .before .before .before .before .before .before .before .before .before .args .sheet .now) (c .before .before .before .before .before .before .before .before .before .before .before .before .before .before .before .before .before .before .before .before .before .before .before .before .before .args .scratch .now) (c .before .before .before .before .before .before .before .before .before .before .before .before .before .before .before .before .before .before .before .before .before .before .before .before .before .args .out .now) (c .before .before .before .before .before .before .before .before .before .before .before .before .before .before .before .before .before .before .before .before .before .before .before .before .before .pre) .2))
+write-graph-requires c κs =
+    let a = c .before .before .before .before .before .before .before .before .before .before .before .before .before .before .before .before .before .before .before .before .before .before .before .before .before .args in
+    let p = c .before .before .before .before .before .before .before .before .before .before .before .before .before .before .before .before .before .before .before .before .before .before .before .before .before .pre in
+    let wide = c .before .before .before .before .before .before .before .before .before .before .before .before .before .before .before .before .before .before .before .before .wide in
+    let wide2 = c .before .before .before .before .before .before .before .before .before .before .before .before .before .before .before .before .before .before .wide2 in
+    let wide3 = c .before .before .before .before .before .before .before .before .before .before .before .before .before .before .before .before .wide3 in
+    let add-names = c .before .before .before .before .before .before .before .before .before .before .before .before .before .add-names in
+    let add-interactions = c .before .before .before .before .before .before .add-interactions in
+    (finishing (a .sheet .now) (a .scratch .now) (a .out .now) p (4 + 5 * wide .result) (wide2 .result) (wide3 .result) (ap (λ (x : ℕ). 4 + 5 * x) (wide .ensures ∙ head-counts (a .sheet .now) (a .scratch .now) (a .out .now) p .0)) (wide2 .ensures ∙ head-counts (a .sheet .now) (a .scratch .now) (a .out .now) p .1) (wide3 .ensures ∙ head-counts (a .sheet .now) (a .scratch .now) (a .out .now) p .2) ((4 + 5 * wide .result) + wide2 .result) refl (add-interactions .last .1 .1 .1 .0) (add-interactions .last .1 .1 .1 .1 .0) (add-interactions .result) (walks-both (a .sheet .now) (p .checked) _ _ (part-below (length (recordsOf (a .sheet .now))) (a .sheet .now) (4 + 5 * wide .result) (wide2 .result) (constraints-inside (a .sheet .now) (a .scratch .now) (a .out .now) p (4 + 5 * wide .result) (wide2 .result) (wide3 .result) (ap (λ (x : ℕ). 4 + 5 * x) (wide .ensures ∙ head-counts (a .sheet .now) (a .scratch .now) (a .out .now) p .0)) (wide2 .ensures ∙ head-counts (a .sheet .now) (a .scratch .now) (a .out .now) p .1) (wide3 .ensures ∙ head-counts (a .sheet .now) (a .scratch .now) (a .out .now) p .2) .inside) (constraints-inside (a .sheet .now) (a .scratch .now) (a .out .now) p (4 + 5 * wide .result) (wide2 .result) (wide3 .result) (ap (λ (x : ℕ). 4 + 5 * x) (wide .ensures ∙ head-counts (a .sheet .now) (a .scratch .now) (a .out .now) p .0)) (wide2 .ensures ∙ head-counts (a .sheet .now) (a .scratch .now) (a .out .now) p .1) (wide3 .ensures ∙ head-counts (a .sheet .now) (a .scratch .now) (a .out .now) p .2) .below)) (a .scratch .now) (a .out .now) 0 (add-names .last .1 .1 .1 .0) (add-names .last .1 .1 .1 .1 .0) (add-names .result) (add-interactions .last .1 .1 .1 .0) (add-interactions .last .1 .1 .1 .1 .0) (add-interactions .result) (add-names .ensures) (add-interactions .ensures)) ((add-interactions .kept .1 .1 .1 .1 .0) ∙ (add-names .kept .1 .1 .1 .1 .0)), (ap (λ (x : ℕ). 4 + 5 * x) (wide .ensures ∙ head-counts (a .sheet .now) (a .scratch .now) (a .out .now) p .0)), (wide2 .ensures ∙ head-counts (a .sheet .now) (a .scratch .now) (a .out .now) p .1), (wide3 .ensures ∙ head-counts (a .sheet .now) (a .scratch .now) (a .out .now) p .2))
 
--- src/graph.rt:15:1
 same-length : tie.Need-same-length
 same-length c = search needs
 
--- src/graph.rt:15:1
 same-length-2 : tie.Need-same-length-2
 same-length-2 c = search needs
 
--- src/graph.rt:15:1
 returns : tie.Need-returns
-returns c = (c .before .before .before .before .write-graph .ensures .0 ∙ ap (λ (k : ℕ). graphOut k (c .before .before .before .before .before .before .before .before .before .before .before .before .before .before .before .before .before .before .before .before .before .before .before .before .before .before .before .before .before .before .args .sheet .now)) ((c .before .before .before .before .before .before .before .before .before .before .before .add-interactions .kept .1 .1 .1 .1 .0) ∙ (c .before .before .before .before .before .before .before .before .before .before .before .before .before .before .before .before .before .before .add-names .kept .1 .1 .1 .1 .0)), c .before .before .before .before .write-graph .ensures .1)
+returns c =
+    let write-graph = c .before .before .before .before .write-graph in
+    (write-graph .ensures .0 ∙ ap (λ (k : ℕ). graphOut k (c .before .before .before .before .before .before .before .before .before .before .before .before .before .before .before .before .before .before .before .before .before .before .before .before .before .before .before .before .before .before .args .sheet .now)) ((c .before .before .before .before .before .before .before .before .before .before .before .add-interactions .kept .1 .1 .1 .1 .0) ∙ (c .before .before .before .before .before .before .before .before .before .before .before .before .before .before .before .before .before .before .add-names .kept .1 .1 .1 .1 .0)), write-graph .ensures .1)
 
 pub build-graph-spec : {M : Type 1} → statement M
 build-graph-spec =

@@ -9,9 +9,6 @@ use Rattle.dag.specs.Nodes.{nodeIn}
 use Rattle.dag.proofs.NodeLaws.{skips}
 use Rattle.dag.proofs.nodes.find_node.Statement.{statement}
 use Rattle.dag.proofs.nodes.find_node.Tie as tie
-use Rattle.dag.proofs.nodes.find_node.Reads as reads
-use Rattle.dag.proofs.nodes.find_node.Lts as lts
-use Rattle.dag.proofs.nodes.same_node.Reads as same-node-reads
 
 abbrev Inv-loop : tie.InvT-loop
 Inv-loop out n from r i₀ i = (from ≤ i) × (i ≤ n) × ((k : ℕ) → from ≤ k → k < i → equalRecords (fiveWords r) (nodeIn out k) ≡ false)
@@ -19,31 +16,29 @@ Inv-loop out n from r i₀ i = (from ≤ i) × (i ≤ n) × ((k : ℕ) → from 
 abbrev μ-loop : tie.MeasureT-loop
 μ-loop out n from r i₀ i = n - i
 
--- src/nodes.rt:68:5
 loop-holds : tie.Need-loop-holds Inv-loop μ-loop
 loop-holds c = (omega arith, omega arith, λ k h l. absurd (omega arith))
 
--- src/nodes.rt:69:12
 same-node-requires : tie.Need-same-node-requires Inv-loop μ-loop
 same-node-requires c κs = search needs
 
--- src/nodes.rt:70:13
 returns : tie.Need-returns Inv-loop μ-loop
-returns c = record { above = c .before .before .before .loop .inv .0; inside = c .before .before .before .loop .inv .1; skipped = c .before .before .before .loop .inv .2; found = λ _. sym (c .before .same-node .ensures) ∙ c .if1 .taken }
+returns c =
+    let loop = c .before .before .before .loop in
+    record { above = loop .inv .0; inside = loop .inv .1; skipped = loop .inv .2; found = λ _. sym (c .before .same-node .ensures) ∙ c .if1 .taken }
 
--- src/nodes.rt:72:9
 add-i : tie.Need-add-i Inv-loop μ-loop
 add-i c = search needs
 
--- src/nodes.rt:68:5
 loop-less : tie.Need-loop-less Inv-loop μ-loop
 loop-less c = search needs
 
--- src/nodes.rt:68:5
 loop-again : tie.Need-loop-again Inv-loop μ-loop
-loop-again c = (omega arith, omega arith, skips (λ k. equalRecords (fiveWords (c .before .before .before .before .before .args .r)) (nodeIn (c .before .before .before .before .before .args .out .now) k) ≡ false) (c .before .before .before .before .before .args .from) (c .before .before .before .loop .i) (c .before .before .before .loop .inv .2) (sym (c .before .same-node .ensures) ∙ c .if1 .left))
+loop-again c =
+    let a = c .before .before .before .before .before .args in
+    let loop = c .before .before .before .loop in
+    (omega arith, omega arith, skips (λ k. equalRecords (fiveWords (a .r)) (nodeIn (a .out .now) k) ≡ false) (a .from) (loop .i) (loop .inv .2) (sym (c .before .same-node .ensures) ∙ c .if1 .left))
 
--- src/nodes.rt:63:1
 returns-2 : tie.Need-returns-2 Inv-loop μ-loop
 returns-2 c = record { above = c .before .loop .inv .0; inside = c .before .loop .inv .1; skipped = c .before .loop .inv .2; found = λ h. absurd (omega arith) }
 

@@ -3,38 +3,33 @@ use Rattle.dag.specs.Picks.{fiveWords}
 use Rattle.dag.proofs.NodeLaws.{is-there, is-new}
 use Rattle.dag.proofs.nodes.intern_node.Statement.{statement}
 use Rattle.dag.proofs.nodes.intern_node.Tie as tie
-use Rattle.dag.proofs.nodes.intern_node.Reads as reads
-use Rattle.dag.proofs.nodes.intern_node.Lts as lts
-use Rattle.dag.proofs.nodes.find_node.Reads as find-node-reads
-use Rattle.dag.proofs.nodes.put_node.Reads as put-node-reads
 
--- src/nodes.rt:95:9
 find-node-requires : tie.Need-find-node-requires
 find-node-requires c κs = search needs
 
--- src/nodes.rt:97:9
 same-length : tie.Need-same-length
 same-length c = search needs
 
--- src/nodes.rt:97:9
 returns : tie.Need-returns
-returns c = λ ns e z none. is-there (c .before .before .before .before .args .out .now) ns e (c .before .before .before .before .args .n) z (c .before .before .before .before .args .from) (fiveWords (c .before .before .before .before .args .r)) none (c .before .find-node .result) (c .before .find-node .ensures) (c .if1 .taken)
+returns c =
+    let a = c .before .before .before .before .args in
+    let find-node = c .before .find-node in
+    λ ns e z none. is-there (a .out .now) ns e (a .n) z (a .from) (fiveWords (a .r)) none (find-node .result) (find-node .ensures) (c .if1 .taken)
 
--- src/nodes.rt:102:5
 put-node-requires : tie.Need-put-node-requires
 put-node-requires c κs = search needs
 
--- src/nodes.rt:105:16
 add-t12 : tie.Need-add-t12
 add-t12 c = search needs
 
--- src/nodes.rt:91:1
 same-length-2 : tie.Need-same-length-2
 same-length-2 c = search needs
 
--- src/nodes.rt:91:1
 returns-2 : tie.Need-returns-2
-returns-2 c = λ ns e z none. is-new (c .before .before .before .before .before .before .before .before .args .out .now) ns e (c .before .before .before .before .before .before .before .before .args .n) z (c .before .before .before .before .before .before .before .before .args .from) (fiveWords (c .before .before .before .before .before .before .before .before .args .r)) none (c .before .before .before .before .before .find-node .result) (c .before .before .before .before .before .find-node .ensures) (c .before .before .before .before .if1 .left) (c .before .before .before .before .before .before .before .before .pre .1) _ (c .before .before .put-node .ensures)
+returns-2 c =
+    let a = c .before .before .before .before .before .before .before .before .args in
+    let find-node = c .before .before .before .before .before .find-node in
+    λ ns e z none. is-new (a .out .now) ns e (a .n) z (a .from) (fiveWords (a .r)) none (find-node .result) (find-node .ensures) (c .before .before .before .before .if1 .left) (c .before .before .before .before .before .before .before .before .pre .1) _ (c .before .before .put-node .ensures)
 
 pub intern-node-spec : {M : Type 1} → statement M
 intern-node-spec =

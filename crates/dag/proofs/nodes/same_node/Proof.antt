@@ -5,90 +5,67 @@ use Rattle.dag.proofs.RuleLaws.{and-fails, and-goes}
 use Rattle.dag.proofs.NodeLaws.{equal-words}
 use Rattle.dag.proofs.nodes.same_node.Statement.{statement}
 use Rattle.dag.proofs.nodes.same_node.Tie as tie
-use Rattle.dag.proofs.nodes.same_node.Reads as reads
-use Rattle.dag.proofs.nodes.same_node.Lts as lts
 
--- src/nodes.rt:46:18
 mul-at : tie.Need-mul-at
 mul-at c = search needs
 
--- src/nodes.rt:46:14
 add-at : tie.Need-add-at
 add-at c = search needs
 
--- src/nodes.rt:47:18
 mul-if1 : tie.Need-mul-if1
 mul-if1 c = search needs
 
--- src/nodes.rt:47:18
 shared-slice-read-if1 : tie.Need-shared-slice-read-if1
 shared-slice-read-if1 c = search needs
 
--- src/nodes.rt:48:9
 returns : tie.Need-returns
 returns c = and-fails _ _ (ne-eqb _ _ (c .if1 .taken)) ∙ sym (equal-words _ _)
 
--- src/nodes.rt:50:19
 add-if2 : tie.Need-add-if2
 add-if2 c = search needs
 
--- src/nodes.rt:50:15
 mul-if2 : tie.Need-mul-if2
 mul-if2 c = search needs
 
--- src/nodes.rt:50:15
 shared-slice-read-if2 : tie.Need-shared-slice-read-if2
 shared-slice-read-if2 c = search needs
 
--- src/nodes.rt:51:9
 returns-2 : tie.Need-returns-2
 returns-2 c = and-goes _ _ (eq-eqb _ _ (c .before .before .before .if1 .left)) (and-fails _ _ (ne-eqb _ _ (c .if2 .taken))) ∙ sym (equal-words _ _)
 
--- src/nodes.rt:53:19
 add-if3 : tie.Need-add-if3
 add-if3 c = search needs
 
--- src/nodes.rt:53:15
 mul-if3 : tie.Need-mul-if3
 mul-if3 c = search needs
 
--- src/nodes.rt:53:15
 shared-slice-read-if3 : tie.Need-shared-slice-read-if3
 shared-slice-read-if3 c = search needs
 
--- src/nodes.rt:54:9
 returns-3 : tie.Need-returns-3
 returns-3 c = and-goes _ _ (eq-eqb _ _ (c .before .before .before .before .before .before .if1 .left)) (and-goes _ _ (eq-eqb _ _ (c .before .before .before .if2 .left)) (and-fails _ _ (ne-eqb _ _ (c .if3 .taken)))) ∙ sym (equal-words _ _)
 
--- src/nodes.rt:56:19
 add-if4 : tie.Need-add-if4
 add-if4 c = search needs
 
--- src/nodes.rt:56:15
 mul-if4 : tie.Need-mul-if4
 mul-if4 c = search needs
 
--- src/nodes.rt:56:15
 shared-slice-read-if4 : tie.Need-shared-slice-read-if4
 shared-slice-read-if4 c = search needs
 
--- src/nodes.rt:57:9
 returns-4 : tie.Need-returns-4
 returns-4 c = and-goes _ _ (eq-eqb _ _ (c .before .before .before .before .before .before .before .before .before .if1 .left)) (and-goes _ _ (eq-eqb _ _ (c .before .before .before .before .before .before .if2 .left)) (and-goes _ _ (eq-eqb _ _ (c .before .before .before .if3 .left)) (and-fails _ _ (ne-eqb _ _ (c .if4 .taken))))) ∙ sym (equal-words _ _)
 
--- src/nodes.rt:59:16
 add-result : tie.Need-add-result
 add-result c = search needs
 
--- src/nodes.rt:59:12
 mul-result : tie.Need-mul-result
 mul-result c = search needs
 
--- src/nodes.rt:59:12
 shared-slice-read-result : tie.Need-shared-slice-read-result
 shared-slice-read-result c = search needs
 
--- src/nodes.rt:42:1
 returns-5 : tie.Need-returns-5
 returns-5 c = and-goes _ _ (eq-eqb _ _ (c .before .before .before .before .before .before .before .before .before .before .before .if1 .left)) (and-goes _ _ (eq-eqb _ _ (c .before .before .before .before .before .before .before .before .if2 .left)) (and-goes _ _ (eq-eqb _ _ (c .before .before .before .before .before .if3 .left)) (and-goes _ _ (eq-eqb _ _ (c .before .before .if4 .left)) refl))) ∙ sym (equal-words _ _)
 

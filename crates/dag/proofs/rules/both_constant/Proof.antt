@@ -3,14 +3,10 @@ use borrow.Author.Tests.{eq-eqb, ne-eqb}
 use Rattle.dag.proofs.RuleLaws.{and-fails, and-goes}
 use Rattle.dag.proofs.rules.both_constant.Statement.{statement}
 use Rattle.dag.proofs.rules.both_constant.Tie as tie
-use Rattle.dag.proofs.rules.both_constant.Reads as reads
-use Rattle.dag.proofs.rules.both_constant.Lts as lts
 
--- src/rules.rt:41:9
 returns : tie.Need-returns
 returns c = and-fails _ _ (ne-eqb _ 5 (c .if1 .taken))
 
--- src/rules.rt:37:1
 returns-2 : tie.Need-returns-2
 returns-2 c = and-goes _ _ (eq-eqb _ 5 (c .before .if1 .left)) refl
 

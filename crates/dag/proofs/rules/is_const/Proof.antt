@@ -3,14 +3,10 @@ use borrow.Author.Tests.{eq-eqb, ne-eqb}
 use Rattle.dag.proofs.RuleLaws.{const-is, and-fails, and-goes}
 use Rattle.dag.proofs.rules.is_const.Statement.{statement}
 use Rattle.dag.proofs.rules.is_const.Tie as tie
-use Rattle.dag.proofs.rules.is_const.Reads as reads
-use Rattle.dag.proofs.rules.is_const.Lts as lts
 
--- src/rules.rt:50:9
 returns : tie.Need-returns
 returns c = and-fails _ _ (ne-eqb _ 5 (c .if1 .taken)) ∙ sym (const-is _ _)
 
--- src/rules.rt:46:1
 returns-2 : tie.Need-returns-2
 returns-2 c = and-goes _ _ (eq-eqb _ 5 (c .before .if1 .left)) refl ∙ sym (const-is _ _)
 

@@ -1,62 +1,59 @@
-use mathlib.Core.Path.{_≡_, refl, sym, ap, subst, _∙_}
-use mathlib.Core.Bool.{Bool, true, false, cond}
-use mathlib.Core.List.{List, [], _∷_, _++_}
-use Prim.Native.Nat.{ℕ, zero, suc, _+_, _*_, _-_, _/_, _%_, _≤_, _<_}
-use native.Mathlib.Omega.{arith}
+use mathlib.Core.Path.{subst}
+use mathlib.Core.List.{_++_}
+use Prim.Native.Nat.{ℕ, _+_, _-_, _/_}
 use borrow.Author.Needs.{needs}
-use lib.ListN.{length, getD, take, drop, replicate, set, length-set}
 use Rattle.dag.specs.Memory.{part, Walks}
 use Rattle.dag.proofs.Rooting.{message-inside, count-inside, names-below, walking-after, walks-both}
 use Rattle.dag.proofs.walk.add_interaction.Statement.{statement}
 use Rattle.dag.proofs.walk.add_interaction.Tie as tie
-use Rattle.dag.proofs.walk.add_interaction.Reads as reads
-use Rattle.dag.proofs.walk.add_interaction.Lts as lts
-use Rattle.dag.proofs.walk.add_names.Reads as add-names-reads
-use Rattle.dag.proofs.walk.wide.Reads as wide-reads
 
--- src/walk.rt:139:30
 add-wide : tie.Need-add-wide
 add-wide c = search needs
 
--- src/walk.rt:139:24
 mul-wide : tie.Need-mul-wide
 mul-wide c = search needs
 
--- src/walk.rt:139:24
 shared-slice-read-wide : tie.Need-shared-slice-read-wide
 shared-slice-read-wide c = search needs
 
--- src/walk.rt:139:9
 wide-requires : tie.Need-wide-requires
 wide-requires c κs = search needs
 
--- src/walk.rt:140:35
 add-add-names : tie.Need-add-add-names
 add-add-names c = search needs
 
--- src/walk.rt:140:9
 add-names-requires : tie.Need-add-names-requires
-add-names-requires c κs = (c .before .before .before .before .before .before .before .pre .0, (message-inside (c .before .before .before .before .before .before .before .args .sheet .now) (c .before .before .before .before .before .before .before .args .at) (c .before .before .before .before .before .before .before .pre .1) (c .before .before .wide .result) (c .before .before .wide .ensures)))
+add-names-requires c κs =
+    let a = c .before .before .before .before .before .before .before .args in
+    let p = c .before .before .before .before .before .before .before .pre in
+    let wide = c .before .before .wide in
+    (p .0, (message-inside (a .sheet .now) (a .at) (p .1) (wide .result) (wide .ensures)))
 
--- src/walk.rt:141:22
 add-add-names-2 : tie.Need-add-add-names-2
 add-add-names-2 c = search needs
 
--- src/walk.rt:141:5
 add-names-requires-2 : tie.Need-add-names-requires-2
-add-names-requires-2 c κs = (walking-after (c .before .before .before .before .before .before .before .before .before .before .before .before .before .before .args .sheet .now) _ (names-below (c .before .before .before .before .before .before .before .before .before .before .before .before .before .before .args .sheet .now) (c .before .before .before .before .before .before .before .before .before .before .before .before .before .before .args .at) (c .before .before .before .before .before .before .before .before .before .before .before .before .before .before .pre .1) ((c .before .before .before .before .before .before .before .before .before .before .before .before .before .before .args .at) + 4) (c .before .before .before .before .before .before .before .before .before .wide .result) (message-inside (c .before .before .before .before .before .before .before .before .before .before .before .before .before .before .args .sheet .now) (c .before .before .before .before .before .before .before .before .before .before .before .before .before .before .args .at) (c .before .before .before .before .before .before .before .before .before .before .before .before .before .before .pre .1) (c .before .before .before .before .before .before .before .before .before .wide .result) (c .before .before .before .before .before .before .before .before .before .wide .ensures))) (c .before .before .before .before .before .before .before .before .before .before .before .before .before .before .args .scratch .now) (c .before .before .before .before .before .before .before .before .before .before .before .before .before .before .args .out .now) (c .before .before .before .before .before .before .before .before .before .before .before .before .before .before .args .n) (c .before .before .before .before .before .before .add-names .last .1 .1 .1 .0) (c .before .before .before .before .before .before .add-names .last .1 .1 .1 .1 .0) (c .before .before .before .before .before .before .add-names .result) (c .before .before .before .before .before .before .before .before .before .before .before .before .before .before .pre .0) (c .before .before .before .before .before .before .add-names .kept .1 .1 .1 .1 .0) (c .before .before .before .before .before .before .add-names .ensures), count-inside (c .before .before .before .before .before .before .before .before .before .before .before .before .before .before .args .sheet .now) (c .before .before .before .before .before .before .before .before .before .before .before .before .before .before .args .at) (c .before .before .before .before .before .before .before .before .before .before .before .before .before .before .pre .1))
+add-names-requires-2 c κs =
+    let a = c .before .before .before .before .before .before .before .before .before .before .before .before .before .before .args in
+    let p = c .before .before .before .before .before .before .before .before .before .before .before .before .before .before .pre in
+    let wide = c .before .before .before .before .before .before .before .before .before .wide in
+    let add-names = c .before .before .before .before .before .before .add-names in
+    (walking-after (a .sheet .now) _ (names-below (a .sheet .now) (a .at) (p .1) ((a .at) + 4) (wide .result) (message-inside (a .sheet .now) (a .at) (p .1) (wide .result) (wide .ensures))) (a .scratch .now) (a .out .now) (a .n) (add-names .last .1 .1 .1 .0) (add-names .last .1 .1 .1 .1 .0) (add-names .result) (p .0) (add-names .kept .1 .1 .1 .1 .0) (add-names .ensures), count-inside (a .sheet .now) (a .at) (p .1))
 
--- src/walk.rt:135:1
 same-length : tie.Need-same-length
 same-length c = search needs
 
--- src/walk.rt:135:1
 same-length-2 : tie.Need-same-length-2
 same-length-2 c = search needs
 
--- src/walk.rt:135:1
 returns : tie.Need-returns
-returns c = subst (λ (k : ℕ). Walks (c .before .before .before .before .before .before .before .before .before .before .before .before .before .before .before .before .before .before .before .args .sheet .now) (part ((c .before .before .before .before .before .before .before .before .before .before .before .before .before .before .before .before .before .before .before .args .at) + 4) k (c .before .before .before .before .before .before .before .before .before .before .before .before .before .before .before .before .before .before .before .args .sheet .now) ++ part ((c .before .before .before .before .before .before .before .before .before .before .before .before .before .before .before .before .before .before .before .args .at) + 2) 1 (c .before .before .before .before .before .before .before .before .before .before .before .before .before .before .before .before .before .before .before .args .sheet .now)) (c .before .before .before .before .before .before .before .before .before .before .before .before .before .before .before .before .before .before .before .args .scratch .now) (c .before .before .before .before .before .before .before .before .before .before .before .before .before .before .before .before .before .before .before .args .out .now) (c .before .before .before .before .before .before .before .before .before .before .before .before .before .before .before .before .before .before .before .args .n) (c .before .before .before .before .add-names2 .last .1 .1 .1 .0) (c .before .before .before .before .add-names2 .last .1 .1 .1 .1 .0) (c .before .before .before .before .add-names2 .result)) (c .before .before .before .before .before .before .before .before .before .before .before .before .before .before .wide .ensures) (walks-both (c .before .before .before .before .before .before .before .before .before .before .before .before .before .before .before .before .before .before .before .args .sheet .now) (c .before .before .before .before .before .before .before .before .before .before .before .before .before .before .before .before .before .before .before .pre .0 .checked) _ _ (names-below (c .before .before .before .before .before .before .before .before .before .before .before .before .before .before .before .before .before .before .before .args .sheet .now) (c .before .before .before .before .before .before .before .before .before .before .before .before .before .before .before .before .before .before .before .args .at) (c .before .before .before .before .before .before .before .before .before .before .before .before .before .before .before .before .before .before .before .pre .1) ((c .before .before .before .before .before .before .before .before .before .before .before .before .before .before .before .before .before .before .before .args .at) + 4) (c .before .before .before .before .before .before .before .before .before .before .before .before .before .before .wide .result) (message-inside (c .before .before .before .before .before .before .before .before .before .before .before .before .before .before .before .before .before .before .before .args .sheet .now) (c .before .before .before .before .before .before .before .before .before .before .before .before .before .before .before .before .before .before .before .args .at) (c .before .before .before .before .before .before .before .before .before .before .before .before .before .before .before .before .before .before .before .pre .1) (c .before .before .before .before .before .before .before .before .before .before .before .before .before .before .wide .result) (c .before .before .before .before .before .before .before .before .before .before .before .before .before .before .wide .ensures))) (c .before .before .before .before .before .before .before .before .before .before .before .before .before .before .before .before .before .before .before .args .scratch .now) (c .before .before .before .before .before .before .before .before .before .before .before .before .before .before .before .before .before .before .before .args .out .now) (c .before .before .before .before .before .before .before .before .before .before .before .before .before .before .before .before .before .before .before .args .n) (c .before .before .before .before .before .before .before .before .before .before .before .add-names .last .1 .1 .1 .0) (c .before .before .before .before .before .before .before .before .before .before .before .add-names .last .1 .1 .1 .1 .0) (c .before .before .before .before .before .before .before .before .before .before .before .add-names .result) (c .before .before .before .before .add-names2 .last .1 .1 .1 .0) (c .before .before .before .before .add-names2 .last .1 .1 .1 .1 .0) (c .before .before .before .before .add-names2 .result) (c .before .before .before .before .before .before .before .before .before .before .before .add-names .ensures) (c .before .before .before .before .add-names2 .ensures))
+returns c =
+    let a = c .before .before .before .before .before .before .before .before .before .before .before .before .before .before .before .before .before .before .before .args in
+    let p = c .before .before .before .before .before .before .before .before .before .before .before .before .before .before .before .before .before .before .before .pre in
+    let wide = c .before .before .before .before .before .before .before .before .before .before .before .before .before .before .wide in
+    let add-names = c .before .before .before .before .before .before .before .before .before .before .before .add-names in
+    let add-names2 = c .before .before .before .before .add-names2 in
+    subst (λ (k : ℕ). Walks (a .sheet .now) (part ((a .at) + 4) k (a .sheet .now) ++ part ((a .at) + 2) 1 (a .sheet .now)) (a .scratch .now) (a .out .now) (a .n) (add-names2 .last .1 .1 .1 .0) (add-names2 .last .1 .1 .1 .1 .0) (add-names2 .result)) (wide .ensures) (walks-both (a .sheet .now) (p .0 .checked) _ _ (names-below (a .sheet .now) (a .at) (p .1) ((a .at) + 4) (wide .result) (message-inside (a .sheet .now) (a .at) (p .1) (wide .result) (wide .ensures))) (a .scratch .now) (a .out .now) (a .n) (add-names .last .1 .1 .1 .0) (add-names .last .1 .1 .1 .1 .0) (add-names .result) (add-names2 .last .1 .1 .1 .0) (add-names2 .last .1 .1 .1 .1 .0) (add-names2 .result) (add-names .ensures) (add-names2 .ensures))
 
 pub add-interaction-spec : {M : Type 1} → statement M
 add-interaction-spec =

@@ -1,17 +1,10 @@
-use mathlib.Core.Path.{_≡_, refl, sym, ap, subst, _∙_}
-use mathlib.Core.Bool.{Bool, true, false, cond}
-use mathlib.Core.List.{List, [], _∷_, _++_}
-use Prim.Native.Nat.{ℕ, zero, suc, _+_, _*_, _-_, _/_, _%_, _≤_, _<_}
+use Prim.Native.Nat.{_+_, _-_, _/_, _≤_}
 use native.Mathlib.Omega.{arith}
 use borrow.Author.Needs.{needs}
-use lib.ListN.{length, getD, take, drop, replicate, set, length-set}
+use lib.ListN.{length}
 use Rattle.dag.proofs.Rooting.{Rooting, rooting-none, rooting-walking, rooting-length, rooting-done, next-roots, rooting-more}
 use Rattle.dag.proofs.walk.add_interactions.Statement.{statement}
 use Rattle.dag.proofs.walk.add_interactions.Tie as tie
-use Rattle.dag.proofs.walk.add_interactions.Reads as reads
-use Rattle.dag.proofs.walk.add_interactions.Lts as lts
-use Rattle.dag.proofs.walk.add_interaction.Reads as add-interaction-reads
-use Rattle.dag.proofs.walk.wide.Reads as wide-reads
 
 abbrev Inv-loop : tie.InvT-loop
 Inv-loop sheet at count scratch₀ out₀ n used₀ from₀ i₀ scratch out used from i = Rooting sheet at count scratch₀ out₀ n scratch out used from i
@@ -19,61 +12,75 @@ Inv-loop sheet at count scratch₀ out₀ n used₀ from₀ i₀ scratch out use
 abbrev μ-loop : tie.MeasureT-loop
 μ-loop sheet at count scratch₀ out₀ n used₀ from₀ i₀ scratch out used from i = count - i
 
--- src/walk.rt:152:5
 loop-holds : tie.Need-loop-holds Inv-loop μ-loop
-loop-holds c = rooting-none (c .before .before .before .args .sheet .now) (c .before .before .before .args .at) (c .before .before .before .args .count) (c .before .before .before .args .scratch .now) (c .before .before .before .args .out .now) (c .before .before .before .args .n) (c .before .before .before .pre .0) (c .before .before .before .pre .1)
+loop-holds c =
+    let a = c .before .before .before .args in
+    let p = c .before .before .before .pre in
+    rooting-none (a .sheet .now) (a .at) (a .count) (a .scratch .now) (a .out .now) (a .n) (p .0) (p .1)
 
--- src/walk.rt:153:34
 add-wide : tie.Need-add-wide Inv-loop μ-loop
-add-wide c = let h : c .before .loop .from + 4 ≤ length (c .before .before .before .before .before .args .sheet .now) = omega (arith, (next-roots (c .before .before .before .before .before .args .sheet .now) (c .before .before .before .before .before .args .at) (c .before .before .before .before .before .args .count) (c .before .before .before .before .before .args .scratch .now) (c .before .before .before .before .before .args .out .now) (c .before .before .before .before .before .args .n) (c .before .before .before .before .before .pre .0) (c .before .loop .scratch) (c .before .loop .out) (c .before .loop .used) (c .before .loop .from) (c .before .loop .i) (c .before .loop .inv) (omega arith)) .inside) in search needs
+add-wide c =
+    let h : c .before .loop .from + 4 ≤ length (c .before .before .before .before .before .args .sheet .now) = omega (arith, (next-roots (c .before .before .before .before .before .args .sheet .now) (c .before .before .before .before .before .args .at) (c .before .before .before .before .before .args .count) (c .before .before .before .before .before .args .scratch .now) (c .before .before .before .before .before .args .out .now) (c .before .before .before .before .before .args .n) (c .before .before .before .before .before .pre .0) (c .before .loop .scratch) (c .before .loop .out) (c .before .loop .used) (c .before .loop .from) (c .before .loop .i) (c .before .loop .inv) (omega arith)) .inside) in
+    search needs
 
--- src/walk.rt:153:28
 mul-wide : tie.Need-mul-wide Inv-loop μ-loop
-mul-wide c = let h : c .before .loop .from + 4 ≤ length (c .before .before .before .before .before .args .sheet .now) = omega (arith, (next-roots (c .before .before .before .before .before .args .sheet .now) (c .before .before .before .before .before .args .at) (c .before .before .before .before .before .args .count) (c .before .before .before .before .before .args .scratch .now) (c .before .before .before .before .before .args .out .now) (c .before .before .before .before .before .args .n) (c .before .before .before .before .before .pre .0) (c .before .loop .scratch) (c .before .loop .out) (c .before .loop .used) (c .before .loop .from) (c .before .loop .i) (c .before .loop .inv) (omega arith)) .inside) in search needs
+mul-wide c =
+    let h : c .before .loop .from + 4 ≤ length (c .before .before .before .before .before .args .sheet .now) = omega (arith, (next-roots (c .before .before .before .before .before .args .sheet .now) (c .before .before .before .before .before .args .at) (c .before .before .before .before .before .args .count) (c .before .before .before .before .before .args .scratch .now) (c .before .before .before .before .before .args .out .now) (c .before .before .before .before .before .args .n) (c .before .before .before .before .before .pre .0) (c .before .loop .scratch) (c .before .loop .out) (c .before .loop .used) (c .before .loop .from) (c .before .loop .i) (c .before .loop .inv) (omega arith)) .inside) in
+    search needs
 
--- src/walk.rt:153:28
 shared-slice-read-wide : tie.Need-shared-slice-read-wide Inv-loop μ-loop
-shared-slice-read-wide c = omega (arith, (next-roots (c .before .before .before .before .before .before .args .sheet .now) (c .before .before .before .before .before .before .args .at) (c .before .before .before .before .before .before .args .count) (c .before .before .before .before .before .before .args .scratch .now) (c .before .before .before .before .before .before .args .out .now) (c .before .before .before .before .before .before .args .n) (c .before .before .before .before .before .before .pre .0) (c .before .before .loop .scratch) (c .before .before .loop .out) (c .before .before .loop .used) (c .before .before .loop .from) (c .before .before .loop .i) (c .before .before .loop .inv) (omega arith)) .inside)
+shared-slice-read-wide c =
+    let a = c .before .before .before .before .before .before .args in
+    let loop = c .before .before .loop in
+    omega (arith, (next-roots (a .sheet .now) (a .at) (a .count) (a .scratch .now) (a .out .now) (a .n) (c .before .before .before .before .before .before .pre .0) (loop .scratch) (loop .out) (loop .used) (loop .from) (loop .i) (loop .inv) (omega arith)) .inside)
 
--- src/walk.rt:153:13
 wide-requires : tie.Need-wide-requires Inv-loop μ-loop
 wide-requires c κs = search needs
 
--- src/walk.rt:154:9
 add-interaction-requires : tie.Need-add-interaction-requires Inv-loop μ-loop
-add-interaction-requires c κs = (rooting-walking (c .before .before .before .before .before .before .before .before .before .args .sheet .now) (c .before .before .before .before .before .before .before .before .before .args .at) (c .before .before .before .before .before .before .before .before .before .args .count) (c .before .before .before .before .before .before .before .before .before .args .scratch .now) (c .before .before .before .before .before .before .before .before .before .args .out .now) (c .before .before .before .before .before .before .before .before .before .args .n) (c .before .before .before .before .before .before .before .before .before .pre .0) (c .before .before .before .before .before .loop .scratch) (c .before .before .before .before .before .loop .out) (c .before .before .before .before .before .loop .used) (c .before .before .before .before .before .loop .from) (c .before .before .before .before .before .loop .i) (c .before .before .before .before .before .loop .inv), (next-roots (c .before .before .before .before .before .before .before .before .before .args .sheet .now) (c .before .before .before .before .before .before .before .before .before .args .at) (c .before .before .before .before .before .before .before .before .before .args .count) (c .before .before .before .before .before .before .before .before .before .args .scratch .now) (c .before .before .before .before .before .before .before .before .before .args .out .now) (c .before .before .before .before .before .before .before .before .before .args .n) (c .before .before .before .before .before .before .before .before .before .pre .0) (c .before .before .before .before .before .loop .scratch) (c .before .before .before .before .before .loop .out) (c .before .before .before .before .before .loop .used) (c .before .before .before .before .before .loop .from) (c .before .before .before .before .before .loop .i) (c .before .before .before .before .before .loop .inv) (omega arith)))
+add-interaction-requires c κs =
+    let a = c .before .before .before .before .before .before .before .before .before .args in
+    let p = c .before .before .before .before .before .before .before .before .before .pre in
+    let loop = c .before .before .before .before .before .loop in
+    (rooting-walking (a .sheet .now) (a .at) (a .count) (a .scratch .now) (a .out .now) (a .n) (p .0) (loop .scratch) (loop .out) (loop .used) (loop .from) (loop .i) (loop .inv), (next-roots (a .sheet .now) (a .at) (a .count) (a .scratch .now) (a .out .now) (a .n) (p .0) (loop .scratch) (loop .out) (loop .used) (loop .from) (loop .i) (loop .inv) (omega arith)))
 
--- src/walk.rt:155:16
 add-from : tie.Need-add-from Inv-loop μ-loop
-add-from c = let h : c .before .before .before .before .before .before .before .before .before .before .loop .from + (4 + c .before .before .before .before .before .before .before .wide .result) ≤ length (c .before .before .before .before .before .before .before .before .before .before .before .before .before .before .args .sheet .now) = omega (arith, c .before .before .before .before .before .before .before .wide .ensures, (next-roots (c .before .before .before .before .before .before .before .before .before .before .before .before .before .before .args .sheet .now) (c .before .before .before .before .before .before .before .before .before .before .before .before .before .before .args .at) (c .before .before .before .before .before .before .before .before .before .before .before .before .before .before .args .count) (c .before .before .before .before .before .before .before .before .before .before .before .before .before .before .args .scratch .now) (c .before .before .before .before .before .before .before .before .before .before .before .before .before .before .args .out .now) (c .before .before .before .before .before .before .before .before .before .before .before .before .before .before .args .n) (c .before .before .before .before .before .before .before .before .before .before .before .before .before .before .pre .0) (c .before .before .before .before .before .before .before .before .before .before .loop .scratch) (c .before .before .before .before .before .before .before .before .before .before .loop .out) (c .before .before .before .before .before .before .before .before .before .before .loop .used) (c .before .before .before .before .before .before .before .before .before .before .loop .from) (c .before .before .before .before .before .before .before .before .before .before .loop .i) (c .before .before .before .before .before .before .before .before .before .before .loop .inv) (omega arith)) .inside) in search needs
+add-from c =
+    let h : c .before .before .before .before .before .before .before .before .before .before .loop .from + (4 + c .before .before .before .before .before .before .before .wide .result) ≤ length (c .before .before .before .before .before .before .before .before .before .before .before .before .before .before .args .sheet .now) = omega (arith, c .before .before .before .before .before .before .before .wide .ensures, (next-roots (c .before .before .before .before .before .before .before .before .before .before .before .before .before .before .args .sheet .now) (c .before .before .before .before .before .before .before .before .before .before .before .before .before .before .args .at) (c .before .before .before .before .before .before .before .before .before .before .before .before .before .before .args .count) (c .before .before .before .before .before .before .before .before .before .before .before .before .before .before .args .scratch .now) (c .before .before .before .before .before .before .before .before .before .before .before .before .before .before .args .out .now) (c .before .before .before .before .before .before .before .before .before .before .before .before .before .before .args .n) (c .before .before .before .before .before .before .before .before .before .before .before .before .before .before .pre .0) (c .before .before .before .before .before .before .before .before .before .before .loop .scratch) (c .before .before .before .before .before .before .before .before .before .before .loop .out) (c .before .before .before .before .before .before .before .before .before .before .loop .used) (c .before .before .before .before .before .before .before .before .before .before .loop .from) (c .before .before .before .before .before .before .before .before .before .before .loop .i) (c .before .before .before .before .before .before .before .before .before .before .loop .inv) (omega arith)) .inside) in
+    search needs
 
--- src/walk.rt:155:16
 add-from-2 : tie.Need-add-from-2 Inv-loop μ-loop
-add-from-2 c = let h : c .before .before .before .before .before .before .before .before .before .before .loop .from + (4 + c .before .before .before .before .before .before .before .wide .result) ≤ length (c .before .before .before .before .before .before .before .before .before .before .before .before .before .before .args .sheet .now) = omega (arith, c .before .before .before .before .before .before .before .wide .ensures, (next-roots (c .before .before .before .before .before .before .before .before .before .before .before .before .before .before .args .sheet .now) (c .before .before .before .before .before .before .before .before .before .before .before .before .before .before .args .at) (c .before .before .before .before .before .before .before .before .before .before .before .before .before .before .args .count) (c .before .before .before .before .before .before .before .before .before .before .before .before .before .before .args .scratch .now) (c .before .before .before .before .before .before .before .before .before .before .before .before .before .before .args .out .now) (c .before .before .before .before .before .before .before .before .before .before .before .before .before .before .args .n) (c .before .before .before .before .before .before .before .before .before .before .before .before .before .before .pre .0) (c .before .before .before .before .before .before .before .before .before .before .loop .scratch) (c .before .before .before .before .before .before .before .before .before .before .loop .out) (c .before .before .before .before .before .before .before .before .before .before .loop .used) (c .before .before .before .before .before .before .before .before .before .before .loop .from) (c .before .before .before .before .before .before .before .before .before .before .loop .i) (c .before .before .before .before .before .before .before .before .before .before .loop .inv) (omega arith)) .inside) in search needs
+add-from-2 c =
+    let h : c .before .before .before .before .before .before .before .before .before .before .loop .from + (4 + c .before .before .before .before .before .before .before .wide .result) ≤ length (c .before .before .before .before .before .before .before .before .before .before .before .before .before .before .args .sheet .now) = omega (arith, c .before .before .before .before .before .before .before .wide .ensures, (next-roots (c .before .before .before .before .before .before .before .before .before .before .before .before .before .before .args .sheet .now) (c .before .before .before .before .before .before .before .before .before .before .before .before .before .before .args .at) (c .before .before .before .before .before .before .before .before .before .before .before .before .before .before .args .count) (c .before .before .before .before .before .before .before .before .before .before .before .before .before .before .args .scratch .now) (c .before .before .before .before .before .before .before .before .before .before .before .before .before .before .args .out .now) (c .before .before .before .before .before .before .before .before .before .before .before .before .before .before .args .n) (c .before .before .before .before .before .before .before .before .before .before .before .before .before .before .pre .0) (c .before .before .before .before .before .before .before .before .before .before .loop .scratch) (c .before .before .before .before .before .before .before .before .before .before .loop .out) (c .before .before .before .before .before .before .before .before .before .before .loop .used) (c .before .before .before .before .before .before .before .before .before .before .loop .from) (c .before .before .before .before .before .before .before .before .before .before .loop .i) (c .before .before .before .before .before .before .before .before .before .before .loop .inv) (omega arith)) .inside) in
+    search needs
 
--- src/walk.rt:156:9
 add-i : tie.Need-add-i Inv-loop μ-loop
 add-i c = search needs
 
--- src/walk.rt:152:5
 loop-less : tie.Need-loop-less Inv-loop μ-loop
 loop-less c = search needs
 
--- src/walk.rt:152:5
 loop-again : tie.Need-loop-again Inv-loop μ-loop
-loop-again c = rooting-more (c .before .before .before .before .before .before .before .before .before .before .before .before .before .before .args .sheet .now) (c .before .before .before .before .before .before .before .before .before .before .before .before .before .before .args .at) (c .before .before .before .before .before .before .before .before .before .before .before .before .before .before .args .count) (c .before .before .before .before .before .before .before .before .before .before .before .before .before .before .args .scratch .now) (c .before .before .before .before .before .before .before .before .before .before .before .before .before .before .args .out .now) (c .before .before .before .before .before .before .before .before .before .before .before .before .before .before .args .n) (c .before .before .before .before .before .before .before .before .before .before .before .before .before .before .pre .0) (c .before .before .before .before .before .before .before .before .before .before .loop .scratch) (c .before .before .before .before .before .before .before .before .before .before .loop .out) (c .before .before .before .before .before .before .before .before .before .before .loop .used) (c .before .before .before .before .before .before .before .before .before .before .loop .from) (c .before .before .before .before .before .before .before .before .before .before .loop .i) (c .before .before .before .before .before .before .before .before .before .before .loop .inv) (omega arith) (c .before .before .before .before .add-interaction .last .1 .1 .0) (c .before .before .before .before .add-interaction .last .1 .1 .1 .0) (c .before .before .before .before .add-interaction .result) _ (omega (arith, c .before .before .before .before .before .before .before .wide .ensures)) (c .before .before .before .before .add-interaction .kept .1 .1 .1 .0) (c .before .before .before .before .add-interaction .ensures)
+loop-again c =
+    let a = c .before .before .before .before .before .before .before .before .before .before .before .before .before .before .args in
+    let loop = c .before .before .before .before .before .before .before .before .before .before .loop in
+    let add-interaction = c .before .before .before .before .add-interaction in
+    rooting-more (a .sheet .now) (a .at) (a .count) (a .scratch .now) (a .out .now) (a .n) (c .before .before .before .before .before .before .before .before .before .before .before .before .before .before .pre .0) (loop .scratch) (loop .out) (loop .used) (loop .from) (loop .i) (loop .inv) (omega arith) (add-interaction .last .1 .1 .0) (add-interaction .last .1 .1 .1 .0) (add-interaction .result) _ (omega (arith, c .before .before .before .before .before .before .before .wide .ensures)) (add-interaction .kept .1 .1 .1 .0) (add-interaction .ensures)
 
--- src/walk.rt:145:1
 same-length : tie.Need-same-length Inv-loop μ-loop
-same-length c = rooting-length (c .before .before .before .before .before .args .sheet .now) (c .before .before .before .before .before .args .at) (c .before .before .before .before .before .args .count) (c .before .before .before .before .before .args .scratch .now) (c .before .before .before .before .before .args .out .now) (c .before .before .before .before .before .args .n) (c .before .before .before .before .before .pre .0) (c .before .loop .scratch) (c .before .loop .out) (c .before .loop .used) (c .before .loop .from) (c .before .loop .i) (c .before .loop .inv)
+same-length c =
+    let a = c .before .before .before .before .before .args in
+    let loop = c .before .loop in
+    rooting-length (a .sheet .now) (a .at) (a .count) (a .scratch .now) (a .out .now) (a .n) (c .before .before .before .before .before .pre .0) (loop .scratch) (loop .out) (loop .used) (loop .from) (loop .i) (loop .inv)
 
--- src/walk.rt:145:1
 same-length-2 : tie.Need-same-length-2 Inv-loop μ-loop
 same-length-2 c = c .before .loop .inv .out-length
 
--- src/walk.rt:145:1
 returns : tie.Need-returns Inv-loop μ-loop
-returns c = rooting-done (c .before .before .before .before .before .args .sheet .now) (c .before .before .before .before .before .args .at) (c .before .before .before .before .before .args .count) (c .before .before .before .before .before .args .scratch .now) (c .before .before .before .before .before .args .out .now) (c .before .before .before .before .before .args .n) (c .before .before .before .before .before .pre .0) (c .before .loop .scratch) (c .before .loop .out) (c .before .loop .used) (c .before .loop .from) (c .before .loop .i) (c .before .loop .inv) (c .loop-test .left)
+returns c =
+    let a = c .before .before .before .before .before .args in
+    let loop = c .before .loop in
+    rooting-done (a .sheet .now) (a .at) (a .count) (a .scratch .now) (a .out .now) (a .n) (c .before .before .before .before .before .pre .0) (loop .scratch) (loop .out) (loop .used) (loop .from) (loop .i) (loop .inv) (c .loop-test .left)
 
 pub add-interactions-spec : {M : Type 1} → statement M
 add-interactions-spec =

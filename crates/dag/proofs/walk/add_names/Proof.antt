@@ -1,18 +1,12 @@
-use mathlib.Core.Path.{_≡_, refl, sym, ap, subst, _∙_}
-use mathlib.Core.Bool.{Bool, true, false, cond}
-use mathlib.Core.List.{List, [], _∷_, _++_}
-use Prim.Native.Nat.{ℕ, zero, suc, _+_, _*_, _-_, _/_, _%_, _≤_, _<_}
+use mathlib.Core.Path.{_≡_, sym, subst}
+use Prim.Native.Nat.{ℕ, _+_, _-_, _/_, _<_}
 use native.Mathlib.Omega.{arith}
 use borrow.Author.Needs.{needs}
-use lib.ListN.{length, getD, take, drop, replicate, set, length-set}
+use lib.ListN.{length}
 use Rattle.dag.specs.Memory.{part, recordsOf, Walks}
 use Rattle.dag.proofs.Rooting.{Naming, naming-none, naming-walking, naming-length, naming-more, ready-root}
 use Rattle.dag.proofs.walk.add_names.Statement.{statement}
 use Rattle.dag.proofs.walk.add_names.Tie as tie
-use Rattle.dag.proofs.walk.add_names.Reads as reads
-use Rattle.dag.proofs.walk.add_names.Lts as lts
-use Rattle.dag.proofs.walk.add_expr.Reads as add-expr-reads
-use Rattle.dag.proofs.walk.wide.Reads as wide-reads
 
 abbrev Inv-loop : tie.InvT-loop
 Inv-loop sheet at count scratch₀ out₀ n used₀ j₀ scratch out used j = Naming sheet at count scratch₀ out₀ n scratch out used j
@@ -20,53 +14,67 @@ Inv-loop sheet at count scratch₀ out₀ n used₀ j₀ scratch out used j = Na
 abbrev μ-loop : tie.MeasureT-loop
 μ-loop sheet at count scratch₀ out₀ n used₀ j₀ scratch out used j = count - j
 
--- src/walk.rt:126:5
 loop-holds : tie.Need-loop-holds Inv-loop μ-loop
-loop-holds c = naming-none (c .before .before .before .args .sheet .now) (c .before .before .before .args .at) (c .before .before .before .args .count) (c .before .before .before .args .scratch .now) (c .before .before .before .args .out .now) (c .before .before .before .args .n) (c .before .before .before .pre .0) (c .before .before .before .pre .1)
+loop-holds c =
+    let a = c .before .before .before .args in
+    let p = c .before .before .before .pre in
+    naming-none (a .sheet .now) (a .at) (a .count) (a .scratch .now) (a .out .now) (a .n) (p .0) (p .1)
 
--- src/walk.rt:127:28
 add-wide : tie.Need-add-wide Inv-loop μ-loop
-add-wide c = let h : (c .before .before .before .before .before .args .at) + c .before .loop .j < length (c .before .before .before .before .before .args .sheet .now) = omega (arith, c .before .before .before .before .before .pre .1 .inside) in search needs
+add-wide c =
+    let h : (c .before .before .before .before .before .args .at) + c .before .loop .j < length (c .before .before .before .before .before .args .sheet .now) = omega (arith, c .before .before .before .before .before .pre .1 .inside) in
+    search needs
 
--- src/walk.rt:127:22
 mul-wide : tie.Need-mul-wide Inv-loop μ-loop
-mul-wide c = let h : (c .before .before .before .before .before .args .at) + c .before .loop .j < length (c .before .before .before .before .before .args .sheet .now) = omega (arith, c .before .before .before .before .before .pre .1 .inside) in search needs
+mul-wide c =
+    let h : (c .before .before .before .before .before .args .at) + c .before .loop .j < length (c .before .before .before .before .before .args .sheet .now) = omega (arith, c .before .before .before .before .before .pre .1 .inside) in
+    search needs
 
--- src/walk.rt:127:22
 shared-slice-read-wide : tie.Need-shared-slice-read-wide Inv-loop μ-loop
 shared-slice-read-wide c = omega (arith, c .before .before .before .before .before .before .pre .1 .inside)
 
--- src/walk.rt:127:13
 wide-requires : tie.Need-wide-requires Inv-loop μ-loop
 wide-requires c κs = search needs
 
--- src/walk.rt:128:9
 add-expr-requires : tie.Need-add-expr-requires Inv-loop μ-loop
-add-expr-requires c κs = ready-root (c .before .before .before .before .before .before .before .before .before .args .sheet .now) (c .before .before .wide .result) (subst (λ (x : ℕ). x < length (recordsOf (c .before .before .before .before .before .before .before .before .before .args .sheet .now))) (sym (c .before .before .wide .ensures)) (c .before .before .before .before .before .before .before .before .before .pre .1 .below (c .before .before .before .before .before .loop .j) (omega arith))) (c .before .before .before .before .before .loop .scratch) (c .before .before .before .before .before .loop .out) (c .before .before .before .before .before .loop .used) (naming-walking (c .before .before .before .before .before .before .before .before .before .args .sheet .now) (c .before .before .before .before .before .before .before .before .before .args .at) (c .before .before .before .before .before .before .before .before .before .args .count) (c .before .before .before .before .before .before .before .before .before .args .scratch .now) (c .before .before .before .before .before .before .before .before .before .args .out .now) (c .before .before .before .before .before .before .before .before .before .args .n) (c .before .before .before .before .before .before .before .before .before .pre .0) (c .before .before .before .before .before .before .before .before .before .pre .1) (c .before .before .before .before .before .loop .scratch) (c .before .before .before .before .before .loop .out) (c .before .before .before .before .before .loop .used) (c .before .before .before .before .before .loop .j) (c .before .before .before .before .before .loop .inv))
+add-expr-requires c κs =
+    let a = c .before .before .before .before .before .before .before .before .before .args in
+    let p = c .before .before .before .before .before .before .before .before .before .pre in
+    let loop = c .before .before .before .before .before .loop in
+    let wide = c .before .before .wide in
+    ready-root (a .sheet .now) (wide .result) (subst (λ (x : ℕ). x < length (recordsOf (a .sheet .now))) (sym (wide .ensures)) (p .1 .below (loop .j) (omega arith))) (loop .scratch) (loop .out) (loop .used) (naming-walking (a .sheet .now) (a .at) (a .count) (a .scratch .now) (a .out .now) (a .n) (p .0) (p .1) (loop .scratch) (loop .out) (loop .used) (loop .j) (loop .inv))
 
--- src/walk.rt:129:9
 add-j : tie.Need-add-j Inv-loop μ-loop
 add-j c = search needs
 
--- src/walk.rt:126:5
 loop-less : tie.Need-loop-less Inv-loop μ-loop
 loop-less c = search needs
 
--- src/walk.rt:126:5
 loop-again : tie.Need-loop-again Inv-loop μ-loop
-loop-again c = naming-more (c .before .before .before .before .before .before .before .before .before .before .before .before .before .before .args .sheet .now) (c .before .before .before .before .before .before .before .before .before .before .before .before .before .before .args .at) (c .before .before .before .before .before .before .before .before .before .before .before .before .before .before .args .count) (c .before .before .before .before .before .before .before .before .before .before .before .before .before .before .args .scratch .now) (c .before .before .before .before .before .before .before .before .before .before .before .before .before .before .args .out .now) (c .before .before .before .before .before .before .before .before .before .before .before .before .before .before .args .n) (c .before .before .before .before .before .before .before .before .before .before .before .before .before .before .pre .0) (c .before .before .before .before .before .before .before .before .before .before .before .before .before .before .pre .1) (c .before .before .before .before .before .before .before .before .before .before .loop .scratch) (c .before .before .before .before .before .before .before .before .before .before .loop .out) (c .before .before .before .before .before .before .before .before .before .before .loop .used) (c .before .before .before .before .before .before .before .before .before .before .loop .j) (c .before .before .before .before .before .before .before .before .before .before .loop .inv) (omega arith) (c .before .before .before .before .before .before .before .wide .result) (c .before .before .before .before .before .before .before .wide .ensures) (c .before .before .before .before .add-expr .last .1 .0) (c .before .before .before .before .add-expr .last .1 .1 .0) (c .before .before .before .before .add-expr .result) (c .before .before .before .before .add-expr .kept .1 .1 .0) (c .before .before .before .before .add-expr .ensures)
+loop-again c =
+    let a = c .before .before .before .before .before .before .before .before .before .before .before .before .before .before .args in
+    let p = c .before .before .before .before .before .before .before .before .before .before .before .before .before .before .pre in
+    let loop = c .before .before .before .before .before .before .before .before .before .before .loop in
+    let wide = c .before .before .before .before .before .before .before .wide in
+    let add-expr = c .before .before .before .before .add-expr in
+    naming-more (a .sheet .now) (a .at) (a .count) (a .scratch .now) (a .out .now) (a .n) (p .0) (p .1) (loop .scratch) (loop .out) (loop .used) (loop .j) (loop .inv) (omega arith) (wide .result) (wide .ensures) (add-expr .last .1 .0) (add-expr .last .1 .1 .0) (add-expr .result) (add-expr .kept .1 .1 .0) (add-expr .ensures)
 
--- src/walk.rt:120:1
 same-length : tie.Need-same-length Inv-loop μ-loop
-same-length c = naming-length (c .before .before .before .before .before .args .sheet .now) (c .before .before .before .before .before .args .at) (c .before .before .before .before .before .args .count) (c .before .before .before .before .before .args .scratch .now) (c .before .before .before .before .before .args .out .now) (c .before .before .before .before .before .args .n) (c .before .before .before .before .before .pre .0) (c .before .before .before .before .before .pre .1) (c .before .loop .scratch) (c .before .loop .out) (c .before .loop .used) (c .before .loop .j) (c .before .loop .inv)
+same-length c =
+    let a = c .before .before .before .before .before .args in
+    let p = c .before .before .before .before .before .pre in
+    let loop = c .before .loop in
+    naming-length (a .sheet .now) (a .at) (a .count) (a .scratch .now) (a .out .now) (a .n) (p .0) (p .1) (loop .scratch) (loop .out) (loop .used) (loop .j) (loop .inv)
 
--- src/walk.rt:120:1
 same-length-2 : tie.Need-same-length-2 Inv-loop μ-loop
 same-length-2 c = c .before .loop .inv .out-length
 
--- src/walk.rt:120:1
 returns : tie.Need-returns Inv-loop μ-loop
-returns c = let e : c .before .loop .j ≡ (c .before .before .before .before .before .args .count) = omega (arith, c .before .loop .inv .j-le) in subst (λ (k : ℕ). Walks (c .before .before .before .before .before .args .sheet .now) (part (c .before .before .before .before .before .args .at) k (c .before .before .before .before .before .args .sheet .now)) (c .before .before .before .before .before .args .scratch .now) (c .before .before .before .before .before .args .out .now) (c .before .before .before .before .before .args .n) (c .before .loop .scratch) (c .before .loop .out) (c .before .loop .used)) e (c .before .loop .inv .walks)
+returns c =
+    let a = c .before .before .before .before .before .args in
+    let loop = c .before .loop in
+    let e : loop .j ≡ (a .count) = omega (arith, loop .inv .j-le) in
+    subst (λ (k : ℕ). Walks (a .sheet .now) (part (a .at) k (a .sheet .now)) (a .scratch .now) (a .out .now) (a .n) (loop .scratch) (loop .out) (loop .used)) e (loop .inv .walks)
 
 pub add-names-spec : {M : Type 1} → statement M
 add-names-spec =

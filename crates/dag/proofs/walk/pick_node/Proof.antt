@@ -1,61 +1,61 @@
-use mathlib.Core.Path.{_≡_, refl, sym, ap, subst, _∙_}
-use mathlib.Core.Bool.{Bool, true, false, cond}
-use mathlib.Core.List.{List, [], _∷_, _++_}
-use Prim.Native.Nat.{ℕ, zero, suc, _+_, _*_, _-_, _/_, _%_, _≤_, _<_}
+use mathlib.Core.Path.{sym, subst, _∙_}
+use Prim.Native.Nat.{ℕ, _-_, _/_}
 use native.Mathlib.Omega.{arith}
 use borrow.Author.Needs.{needs}
-use lib.ListN.{length, getD, take, drop, replicate, set, length-set}
 use Rattle.semantics.specs.Walk.{childrenAt}
 use Rattle.semantics.proofs.Members.{Mem}
 use Rattle.dag.specs.Memory.{recordsOf}
 use Rattle.dag.proofs.Picking.{Reads, record-inside, child-there, has-a, has-b, picks-flat, picks-neg, picks-two}
 use Rattle.dag.proofs.walk.pick_node.Statement.{statement}
 use Rattle.dag.proofs.walk.pick_node.Tie as tie
-use Rattle.dag.proofs.walk.pick_node.Reads as reads
-use Rattle.dag.proofs.walk.pick_node.Lts as lts
-use Rattle.dag.proofs.rules.neg_rule.Reads as neg-rule-reads
-use Rattle.dag.proofs.walk.built_child.Reads as built-child-reads
-use Rattle.dag.proofs.walk.record_at.Reads as record-at-reads
-use Rattle.dag.proofs.walk.two_rule.Reads as two-rule-reads
-use Rattle.dag.proofs.walk.wide.Reads as wide-reads
 
--- src/walk.rt:69:9
 record-at-requires : tie.Need-record-at-requires
-record-at-requires c κs = omega (arith, record-inside (c .before .before .before .args .sheet .now) (c .before .before .before .pre .1 .ready .checked) (c .before .before .before .args .r) (c .before .before .before .pre .1 .ready .inside))
+record-at-requires c κs =
+    let a = c .before .before .before .args in
+    let p = c .before .before .before .pre in
+    omega (arith, record-inside (a .sheet .now) (p .1 .ready .checked) (a .r) (p .1 .ready .inside))
 
--- src/walk.rt:71:9
 returns : tie.Need-returns
-returns c = λ done o there n h. picks-flat (c .before .before .before .before .before .before .args .sheet .now) (c .before .before .before .before .before .before .pre .1 .ready .checked) (c .before .before .before .before .before .before .args .r) (c .before .before .before .before .before .before .pre .1 .ready .inside) (c .before .before .record-at .result) (c .before .before .record-at .ensures) done o there (c .before .before .before .before .before .before .args .scratch .now) (c .before .before .before .before .before .before .args .out .now) n h (c .if1 .taken)
+returns c =
+    let a = c .before .before .before .before .before .before .args in
+    let p = c .before .before .before .before .before .before .pre in
+    let record-at = c .before .before .record-at in
+    λ done o there n h. picks-flat (a .sheet .now) (p .1 .ready .checked) (a .r) (p .1 .ready .inside) (record-at .result) (record-at .ensures) done o there (a .scratch .now) (a .out .now) n h (c .if1 .taken)
 
--- src/walk.rt:73:39
 wide-requires : tie.Need-wide-requires
 wide-requires c κs = search needs
 
--- src/walk.rt:73:9
 built-child-requires : tie.Need-built-child-requires
-built-child-requires c κs = child-there (c .before .before .before .before .before .before .before .args .sheet .now) (c .before .before .before .before .before .before .before .pre .1 .ready .checked) (c .before .before .before .before .before .before .before .args .r) (c .before .before .before .before .before .before .before .pre .1 .ready .inside) (c .before .before .before .record-at .result) (c .before .before .before .record-at .ensures) (c .before .before .before .before .before .before .before .pre .1 .ready .done) (c .before .before .before .before .before .before .before .pre .1 .ready .order) (c .before .before .before .before .before .before .before .pre .1 .there) (c .before .before .before .before .before .before .before .args .scratch .now) (c .before .before .before .before .before .before .before .args .out .now) (c .before .before .before .before .before .before .before .pre .0) (c .before .before .before .before .before .before .before .pre .1 .ready .holds) _ (subst (λ (x : ℕ). Mem x (childrenAt (recordsOf (c .before .before .before .before .before .before .before .args .sheet .now)) (c .before .before .before .before .before .before .before .args .r))) (sym (c .wide .ensures)) (has-a (c .before .before .before .before .before .before .before .args .sheet .now) (c .before .before .before .before .before .before .before .pre .1 .ready .checked) (c .before .before .before .before .before .before .before .args .r) (c .before .before .before .before .before .before .before .pre .1 .ready .inside) (c .before .before .before .record-at .result) (c .before .before .before .record-at .ensures) (omega (arith, c .before .if1 .left)))) (c .before .before .before .before .before .before .before .pre .1 .ready .room)
+built-child-requires c κs =
+    let a = c .before .before .before .before .before .before .before .args in
+    let p = c .before .before .before .before .before .before .before .pre in
+    let record-at = c .before .before .before .record-at in
+    child-there (a .sheet .now) (p .1 .ready .checked) (a .r) (p .1 .ready .inside) (record-at .result) (record-at .ensures) (p .1 .ready .done) (p .1 .ready .order) (p .1 .there) (a .scratch .now) (a .out .now) (p .0) (p .1 .ready .holds) _ (subst (λ (x : ℕ). Mem x (childrenAt (recordsOf (a .sheet .now)) (a .r))) (sym (c .wide .ensures)) (has-a (a .sheet .now) (p .1 .ready .checked) (a .r) (p .1 .ready .inside) (record-at .result) (record-at .ensures) (omega (arith, c .before .if1 .left)))) (p .1 .ready .room)
 
--- src/walk.rt:75:9
 neg-rule-requires : tie.Need-neg-rule-requires
 neg-rule-requires c κs = search needs
 
--- src/walk.rt:75:9
 returns-2 : tie.Need-returns-2
-returns-2 c = λ done o there n h. c .neg-rule .ensures ∙ picks-neg (c .before .before .before .before .before .before .before .before .before .before .before .args .sheet .now) (c .before .before .before .before .before .before .before .before .before .before .before .pre .1 .ready .checked) (c .before .before .before .before .before .before .before .before .before .before .before .args .r) (c .before .before .before .before .before .before .before .before .before .before .before .pre .1 .ready .inside) (c .before .before .before .before .before .before .before .record-at .result) (c .before .before .before .before .before .before .before .record-at .ensures) done o there (c .before .before .before .before .before .before .before .before .before .before .before .args .scratch .now) (c .before .before .before .before .before .before .before .before .before .before .before .args .out .now) n h (c .before .if2 .taken) _ (subst (λ (k : ℕ). Reads (c .before .before .before .before .before .before .before .before .before .before .before .args .scratch .now) (c .before .before .before .before .before .before .before .before .before .before .before .args .out .now) k (c .before .before .before .built-child .result)) (c .before .before .before .before .wide .ensures) (c .before .before .before .built-child .ensures))
+returns-2 c =
+    let a = c .before .before .before .before .before .before .before .before .before .before .before .args in
+    let p = c .before .before .before .before .before .before .before .before .before .before .before .pre in
+    let record-at = c .before .before .before .before .before .before .before .record-at in
+    let built-child = c .before .before .before .built-child in
+    λ done o there n h. c .neg-rule .ensures ∙ picks-neg (a .sheet .now) (p .1 .ready .checked) (a .r) (p .1 .ready .inside) (record-at .result) (record-at .ensures) done o there (a .scratch .now) (a .out .now) n h (c .before .if2 .taken) _ (subst (λ (k : ℕ). Reads (a .scratch .now) (a .out .now) k (built-child .result)) (c .before .before .before .before .wide .ensures) (built-child .ensures))
 
--- src/walk.rt:77:51
 wide-requires-2 : tie.Need-wide-requires-2
 wide-requires-2 c κs = search needs
 
--- src/walk.rt:77:25
 built-child-requires-2 : tie.Need-built-child-requires-2
-built-child-requires-2 c κs = child-there (c .before .before .before .before .before .before .before .before .before .before .before .args .sheet .now) (c .before .before .before .before .before .before .before .before .before .before .before .pre .1 .ready .checked) (c .before .before .before .before .before .before .before .before .before .before .before .args .r) (c .before .before .before .before .before .before .before .before .before .before .before .pre .1 .ready .inside) (c .before .before .before .before .before .before .before .record-at .result) (c .before .before .before .before .before .before .before .record-at .ensures) (c .before .before .before .before .before .before .before .before .before .before .before .pre .1 .ready .done) (c .before .before .before .before .before .before .before .before .before .before .before .pre .1 .ready .order) (c .before .before .before .before .before .before .before .before .before .before .before .pre .1 .there) (c .before .before .before .before .before .before .before .before .before .before .before .args .scratch .now) (c .before .before .before .before .before .before .before .before .before .before .before .args .out .now) (c .before .before .before .before .before .before .before .before .before .before .before .pre .0) (c .before .before .before .before .before .before .before .before .before .before .before .pre .1 .ready .holds) _ (subst (λ (x : ℕ). Mem x (childrenAt (recordsOf (c .before .before .before .before .before .before .before .before .before .before .before .args .sheet .now)) (c .before .before .before .before .before .before .before .before .before .before .before .args .r))) (sym (c .wide2 .ensures)) (has-b (c .before .before .before .before .before .before .before .before .before .before .before .args .sheet .now) (c .before .before .before .before .before .before .before .before .before .before .before .pre .1 .ready .checked) (c .before .before .before .before .before .before .before .before .before .before .before .args .r) (c .before .before .before .before .before .before .before .before .before .before .before .pre .1 .ready .inside) (c .before .before .before .before .before .before .before .record-at .result) (c .before .before .before .before .before .before .before .record-at .ensures) (omega (arith, c .before .before .before .before .before .if1 .left)) (c .before .if2 .left))) (c .before .before .before .before .before .before .before .before .before .before .before .pre .1 .ready .room)
+built-child-requires-2 c κs =
+    let a = c .before .before .before .before .before .before .before .before .before .before .before .args in
+    let p = c .before .before .before .before .before .before .before .before .before .before .before .pre in
+    let record-at = c .before .before .before .before .before .before .before .record-at in
+    child-there (a .sheet .now) (p .1 .ready .checked) (a .r) (p .1 .ready .inside) (record-at .result) (record-at .ensures) (p .1 .ready .done) (p .1 .ready .order) (p .1 .there) (a .scratch .now) (a .out .now) (p .0) (p .1 .ready .holds) _ (subst (λ (x : ℕ). Mem x (childrenAt (recordsOf (a .sheet .now)) (a .r))) (sym (c .wide2 .ensures)) (has-b (a .sheet .now) (p .1 .ready .checked) (a .r) (p .1 .ready .inside) (record-at .result) (record-at .ensures) (omega (arith, c .before .before .before .before .before .if1 .left)) (c .before .if2 .left))) (p .1 .ready .room)
 
--- src/walk.rt:77:5
 two-rule-requires : tie.Need-two-rule-requires
 two-rule-requires c κs = search needs
 
--- src/walk.rt:65:1
 returns-3 : tie.Need-returns-3
 returns-3 c = λ done o there n h. c .two-rule .ensures ∙ picks-two (c .before .before .before .before .before .before .before .before .before .before .before .before .before .args .sheet .now) (c .before .before .before .before .before .before .before .before .before .before .before .before .before .pre .1 .ready .checked) (c .before .before .before .before .before .before .before .before .before .before .before .before .before .args .r) (c .before .before .before .before .before .before .before .before .before .before .before .before .before .pre .1 .ready .inside) (c .before .before .before .before .before .before .before .before .before .record-at .result) (c .before .before .before .before .before .before .before .before .before .record-at .ensures) done o there (c .before .before .before .before .before .before .before .before .before .before .before .before .before .args .scratch .now) (c .before .before .before .before .before .before .before .before .before .before .before .before .before .args .out .now) n h (omega (arith, c .before .before .before .before .before .before .before .if1 .left)) (c .before .before .before .if2 .left) _ _ (subst (λ (k : ℕ). Reads (c .before .before .before .before .before .before .before .before .before .before .before .before .before .args .scratch .now) (c .before .before .before .before .before .before .before .before .before .before .before .before .before .args .out .now) k (c .before .before .before .before .before .built-child .result)) (c .before .before .before .before .before .before .wide .ensures) (c .before .before .before .before .before .built-child .ensures)) (subst (λ (k : ℕ). Reads (c .before .before .before .before .before .before .before .before .before .before .before .before .before .args .scratch .now) (c .before .before .before .before .before .before .before .before .before .before .before .before .before .args .out .now) k (c .before .built-child2 .result)) (c .before .before .wide2 .ensures) (c .before .built-child2 .ensures))
 

@@ -1,41 +1,26 @@
-use mathlib.Core.Path.{_≡_, refl, sym, ap, subst, _∙_}
-use mathlib.Core.Bool.{Bool, true, false, cond}
-use mathlib.Core.List.{List, [], _∷_, _++_}
-use Prim.Native.Nat.{ℕ, zero, suc, _+_, _*_, _-_, _/_, _%_, _≤_, _<_}
-use native.Mathlib.Omega.{arith}
+use mathlib.Core.Path.{sym, _∙_}
+use Prim.Native.Nat.{_-_, _/_}
 use borrow.Author.Needs.{needs}
-use lib.ListN.{length, getD, take, drop, replicate, set, length-set}
 use borrow.Author.Tests.{eq-eqb, ne-eqb}
 use Rattle.semantics.proofs.Basics.{cond-true, cond-false}
 use Rattle.dag.proofs.walk.two_rule.Statement.{statement}
 use Rattle.dag.proofs.walk.two_rule.Tie as tie
-use Rattle.dag.proofs.walk.two_rule.Reads as reads
-use Rattle.dag.proofs.walk.two_rule.Lts as lts
-use Rattle.dag.proofs.rules.add_rule.Reads as add-rule-reads
-use Rattle.dag.proofs.rules.mul_rule.Reads as mul-rule-reads
-use Rattle.dag.proofs.rules.sub_rule.Reads as sub-rule-reads
 
--- src/walk.rt:56:9
 add-rule-requires : tie.Need-add-rule-requires
 add-rule-requires c κs = search needs
 
--- src/walk.rt:56:9
 returns : tie.Need-returns
 returns c = c .add-rule .ensures ∙ sym (cond-true _ _ _ (eq-eqb _ _ (c .before .if1 .taken)))
 
--- src/walk.rt:59:9
 sub-rule-requires : tie.Need-sub-rule-requires
 sub-rule-requires c κs = search needs
 
--- src/walk.rt:59:9
 returns-2 : tie.Need-returns-2
 returns-2 c = c .sub-rule .ensures ∙ sym (cond-true _ _ _ (eq-eqb _ _ (c .before .if2 .taken))) ∙ sym (cond-false _ _ _ (ne-eqb _ _ (c .before .before .if1 .left)))
 
--- src/walk.rt:61:5
 mul-rule-requires : tie.Need-mul-rule-requires
 mul-rule-requires c κs = search needs
 
--- src/walk.rt:52:1
 returns-3 : tie.Need-returns-3
 returns-3 c = c .mul-rule .ensures ∙ sym (cond-false _ _ _ (ne-eqb _ _ (c .before .if2 .left))) ∙ sym (cond-false _ _ _ (ne-eqb _ _ (c .before .before .if1 .left)))
 
