@@ -9,6 +9,7 @@ ghost use Rattle.semantics.specs.Monomial.{above, mulMonomial, negMonomial};
 ghost use Rattle.semantics.proofs.Sorting.{Sorted};
 ghost use Rattle.monomial.specs.Words.{nums, monomialOf, readMonomial};
 
+pub mod expand;
 pub mod lists;
 mod shift;
 pub mod vars;
