@@ -1,1 +1,2 @@
 pub mod Canons
+pub mod ListLaws
