@@ -1,2 +1,3 @@
 pub mod Canons
 pub mod ListLaws
+pub mod Sizes

@@ -28,6 +28,10 @@ pub size-cons : (m : Monomial) (ms : List Monomial) → listSize (m ∷ ms) ≡ 
 unfolding listSize
 size-cons m ms = refl
 
+pub size-nil : listSize [] ≡ 0
+unfolding listSize
+size-nil = refl
+
 pub size-append : (ms ns : List Monomial) → listSize (ms ++ ns) ≡ listSize ms + listSize ns
 unfolding listSize
 size-append [] ns = omega arith
@@ -166,3 +170,24 @@ front-of words at n h = record {
         ap (λ (k : ℕ). take (listSize ms) (drop k words)) k
         ∙ ap (take (listSize ms)) (sym (drop-drop (2 + length (m .vars)) at words))
         ∙ rest-words (2 + length (m .vars)) (drop at words) (monomialWords m) (listWords ms) (listSize ms) (one-length m) there
+
+-- What is left of n monomials after i, at `from`; s is the number of variables of the next.
+module _ (words : List ℕ) (from n i : ℕ) (h : i < n) where
+  more : n - i ≡ suc (n - (i + 1))
+  more = omega arith
+
+  pub left-front : ListFits words from (n - i) → Front words from (n - (i + 1))
+  left-front l = front-of words from (n - (i + 1)) (subst (ListFits words from) more l)
+
+  pub left-cons : (s : ℕ) → s ≡ getD words from 0 → listIn words from (n - i) ≡ readMonomial (drop from words) ∷ listIn words (from + 2 + s) (n - (i + 1))
+  left-cons s e = ap (listIn words from) more ∙ list-in-suc words from (n - (i + 1)) ∙ ap (λ (k : ℕ). readMonomial (drop from words) ∷ listIn words (from + 2 + k) (n - (i + 1))) (sym e)
+
+  pub left-rest : (s : ℕ) → s ≡ getD words from 0 → ListFits words from (n - i) → ListFits words (from + 2 + s) (n - (i + 1))
+  left-rest s e l = subst (λ (k : ℕ). ListFits words (from + 2 + k) (n - (i + 1))) (sym e) (left-front l .rest)
+
+-- All or none is left.
+pub left-all : (words : List ℕ) (at n : ℕ) → ListFits words at n → ListFits words at (n - 0)
+left-all words at n l = let z : n ≡ n - 0 = omega arith in subst (ListFits words at) z l
+
+pub none-left : (words : List ℕ) (from n i : ℕ) → n ≤ i → listIn words from (n - i) ≡ []
+none-left words from n i h = let z : n - i ≡ 0 = omega arith in ap (listIn words from) z ∙ list-zero (drop from words)

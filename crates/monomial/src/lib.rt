@@ -10,6 +10,7 @@ ghost use Rattle.semantics.proofs.Sorting.{Sorted};
 ghost use Rattle.monomial.specs.Words.{nums, monomialOf, readMonomial};
 
 pub mod lists;
+mod rows;
 mod shift;
 pub mod vars;
 
