@@ -1,3 +1,4 @@
 pub mod Canons
 pub mod ListLaws
 pub mod Sizes
+pub mod Summing
