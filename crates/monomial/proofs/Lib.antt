@@ -2,3 +2,4 @@ pub mod Canons
 pub mod ListLaws
 pub mod Sizes
 pub mod Summing
+pub mod RowWords

@@ -44,7 +44,7 @@ module _ (pool : List ℕ) (at n : ℕ) where
   longest-done most from i l h = omega (arith, l .most-is, ap longestOf (none-left pool from n i h) ∙ longest-nil)
 
 -- The work list row by row.
-pub rowOf : (work : List ℕ) (k : ℕ) → Monomial
+unfoldable pub rowOf : (work : List ℕ) (k : ℕ) → Monomial
 rowOf work k = readMonomial (take 16 (drop (16 * k) work))
 
 pub held-zero : (ws : List ℕ) → held 0 ws ≡ []
