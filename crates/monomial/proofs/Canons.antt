@@ -1,16 +1,16 @@
 -- A list that ascends strictly with no coefficient 0 and none from p on is known by its coefficients.
 -- So to sum monomials from the first to the last gives what combining gives.
-use mathlib.Core.Path.{_≡_, refl, sym, _∙_, ap, subst}
-use mathlib.Core.Bool.{Bool, true, false, cond, true≢false}
+use mathlib.Core.Path.{_≡_, refl, sym, _∙_, ap}
+use mathlib.Core.Bool.{Bool, true, false, cond}
 use mathlib.Core.List.{List, [], _∷_, _++_, map}
-use Prim.Native.Nat.{ℕ, zero, suc, _+_, _*_, _≤_, _<_}
+use Prim.Native.Nat.{ℕ, suc, _+_, _≤_, _<_}
 use native.Mathlib.Omega.{arith}
-use lib.Dec.{eqb, ltb}
+use lib.Dec.{eqb}
 use lib.ListN.{length, length-append}
 use borrow.Author.Tests.{ltb-true, ltb-false, lt-ltb, le-ltb}
-use Rattle.semantics.specs.Arithmetic.{prime, addM, mulM}
-use Rattle.semantics.specs.Monomial.{Monomial, beforeVars, sort, above, keep, plus, negMonomial, mulMonomial, products, insertMonomial, combine}
-use Rattle.semantics.proofs.Basics.{by-test, decided}
+use Rattle.semantics.specs.Arithmetic.{prime, addM}
+use Rattle.semantics.specs.Monomial.{Monomial, beforeVars, sort, above, keep, plus, negMonomial, mulMonomial, insertMonomial, combine}
+use Rattle.semantics.proofs.Basics.{by-test}
 use Rattle.semantics.proofs.Arithmetic.{addM-lt, mulM-lt, negM-lt, addM-comm, addM-cancel, zero-addM, addM-zero, mulM-zero, mulM-one, sums}
 use Rattle.semantics.proofs.Order.{beforeVars-irrefl, beforeVars-total}
 use Rattle.semantics.proofs.Sorting.{All, Sorted, sort-same, sorted-sort}

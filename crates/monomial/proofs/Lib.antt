@@ -3,3 +3,4 @@ pub mod ListLaws
 pub mod Sizes
 pub mod Summing
 pub mod RowWords
+pub mod Products

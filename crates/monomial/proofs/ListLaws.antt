@@ -1,10 +1,10 @@
 -- Lists of monomials as words: what is written is read back, one monomial after another.
 use mathlib.Core.Path.{_≡_, refl, sym, _∙_, ap, subst}
-use mathlib.Core.List.{List, [], _∷_, _++_, map, flatMap, append-assoc}
-use Prim.Native.Nat.{ℕ, zero, suc, _+_, _*_, _-_, _≤_, _<_, min}
+use mathlib.Core.List.{List, [], _∷_, _++_, flatMap, append-assoc}
+use Prim.Native.Nat.{ℕ, zero, suc, _+_, _*_, _-_, _≤_, _<_}
 use native.Mathlib.Omega.{arith}
 use lib.ListN.{length, getD, take, drop, length-append, length-take, length-drop, take-append-drop}
-use lib.Seq.{take-append-seam, drop-append-seam, take-at, drop-at, take-add, drop-drop, getD-drop, getD-take, drop-cons}
+use lib.Seq.{take-append-seam, drop-at, take-add, drop-drop, getD-drop}
 use Rattle.semantics.specs.Monomial.{Monomial}
 use Rattle.semantics.specs.Expand.{listSize}
 use Rattle.semantics.proofs.Sorting.{All}
@@ -70,7 +70,7 @@ read-words ms rest = elim ms [
   | m ∷ (t → ih) ↦
       let e : listWords (m ∷ t) ++ rest ≡ monomialWords m ++ (listWords t ++ rest) = rw words-cons (append-assoc (monomialWords m) (listWords t) rest) in
       let d : drop (2 + getD (monomialWords m ++ (listWords t ++ rest)) 0 0) (monomialWords m ++ (listWords t ++ rest)) ≡ listWords t ++ rest =
-          rw (front-count m (listWords t ++ rest)) (drop-at (monomialWords m) (listWords t ++ rest) (2 + length (m .vars)) (one-length m)) in
+      rw (front-count m (listWords t ++ rest)) (drop-at (monomialWords m) (listWords t ++ rest) (2 + length (m .vars)) (one-length m)) in
       ap (readList (suc (length t))) e ∙ list-suc (length t) (monomialWords m ++ (listWords t ++ rest))
       ∙ rw (read-front m (listWords t ++ rest), d, ih)
 ]
@@ -109,7 +109,7 @@ pub list-in-suc : (words : List ℕ) (at n : ℕ) → listIn words at (suc n) �
 list-in-suc words at n =
     let k : at + (2 + getD (drop at words) 0 0) ≡ at + 2 + getD words at 0 = omega (arith, getD-front words at) in
     let d : drop (2 + getD (drop at words) 0 0) (drop at words) ≡ drop (at + 2 + getD words at 0) words =
-        drop-drop (2 + getD (drop at words) 0 0) at words ∙ ap (λ (k : ℕ). drop k words) k in
+    drop-drop (2 + getD (drop at words) 0 0) at words ∙ ap (λ (k : ℕ). drop k words) k in
     list-suc n (drop at words) ∙ rw d
 
 pub record Front (words : List ℕ) (at n : ℕ) : Type 0 where

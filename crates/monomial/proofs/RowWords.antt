@@ -1,15 +1,15 @@
 -- Words copied, and the rows of the work list written one after another.
-use mathlib.Core.Path.{_≡_, refl, sym, _∙_, ap, subst}
+use mathlib.Core.Path.{_≡_, refl, sym, _∙_, ap}
 use mathlib.Core.List.{List, [], _∷_, _++_, append-assoc, append-nil}
 use Prim.Native.Nat.{ℕ, zero, suc, _+_, _*_, _-_, _≤_, _<_, min}
 use native.Mathlib.Numerals.{add-one}
 use native.Mathlib.Omega.{arith}
-use lib.ListN.{length, getD, take, drop, set, length-set, length-append, length-take, length-drop}
+use lib.ListN.{length, getD, take, drop, set, length-set, length-take, length-drop}
 use lib.Seq.{take-at, drop-at, drop-drop, take-nil, take-add, getD-drop, getD-take, drop-set-lt, take-suc-set, drop-append-add, paste, paste-zero, paste-suc}
 use Rattle.semantics.specs.Monomial.{Monomial}
 use Rattle.semantics.specs.Expand.{listSize}
 use Rattle.monomial.specs.Words.{monomialWords, listWords, readMonomial, held}
-use Rattle.monomial.proofs.ListLaws.{words-nil, words-cons, words-append, words-length, size-append, size-nil}
+use Rattle.monomial.proofs.ListLaws.{words-nil, words-cons, words-append, words-length, size-append, size-nil, getD-front}
 use Rattle.monomial.proofs.Sizes.{rowOf, held-zero, held-more, held-parts, row-count, size-more}
 
 -- The first i words copied.
@@ -55,7 +55,7 @@ pub head-copied : (out out₁ vs : List ℕ) (at v w n : ℕ) → at + 1 < lengt
     → out₁ ≡ take at out ++ ((v ∷ w ∷ vs) ++ drop (at + 2 + n) out)
 head-copied out out₁ vs at v w n h e =
     let d : drop (at + 2 + n) (set (set out at v) (at + 1) w) ≡ drop (at + 2 + n) out =
-        drop-set-lt (at + 2 + n) (set out at v) (at + 1) w (omega arith) ∙ drop-set-lt (at + 2 + n) out at v (omega arith) in
+    drop-set-lt (at + 2 + n) (set out at v) (at + 1) w (omega arith) ∙ drop-set-lt (at + 2 + n) out at v (omega arith) in
     e ∙ ap (λ (x : List ℕ). x ++ (vs ++ drop (at + 2 + n) (set (set out at v) (at + 1) w))) (two-set out at v w h)
     ∙ ap (λ (x : List ℕ). (take at out ++ (v ∷ w ∷ [])) ++ (vs ++ x)) d
     ∙ append-assoc (take at out) (v ∷ w ∷ []) (vs ++ drop (at + 2 + n) out)
@@ -73,14 +73,11 @@ row-vars : (work : List ℕ) (k s : ℕ) → 16 * k + 16 ≤ length work → s �
 unfolding rowOf readMonomial
 row-vars work k s h e =
     let D : List ℕ = drop (16 * k) work in
-    let c : getD (take 16 D) 0 0 ≡ getD work (16 * k) 0 = getD-take 16 D 0 0 (omega arith) ∙ getD-drop (16 * k) work 0 0 ∙ ap (λ (n : ℕ). getD work n 0) (plus-zero (16 * k)) in
+    let c : getD (take 16 D) 0 0 ≡ getD work (16 * k) 0 = getD-take 16 D 0 0 (omega arith) ∙ getD-front work (16 * k) in
     let t : length (take 2 D) ≡ 2 = omega (arith, length-take 2 D, length-drop (16 * k) work) in
     let d : drop 2 (take 16 D) ≡ take 14 (drop 2 D) = ap (drop 2) (take-add 2 14 D) ∙ drop-at (take 2 D) (take 14 (drop 2 D)) 2 t in
     ap (take (getD (take 16 D) 0 0)) d ∙ ap (λ (n : ℕ). take n (take 14 (drop 2 D))) c ∙ take-both (getD work (16 * k) 0) 14 (drop 2 D)
     ∙ ap (λ (n : ℕ). take n (drop 2 D)) (sym e) ∙ ap (take s) (drop-drop 2 (16 * k) work)
-  where
-    plus-zero : (n : ℕ) → n + 0 ≡ n
-    plus-zero n = omega arith
 
 row-coef : (work : List ℕ) (k : ℕ) → rowOf work k .coef ≡ getD work (16 * k + 1) 0
 unfolding rowOf readMonomial

@@ -1,16 +1,15 @@
 -- The longest of a list; the rows of the work list, their sizes and their words.
-use mathlib.Core.Path.{_≡_, refl, sym, _∙_, ap, subst}
-use mathlib.Core.List.{List, [], _∷_, _++_, map, append-assoc}
+use mathlib.Core.Path.{_≡_, refl, sym, _∙_, ap}
+use mathlib.Core.List.{List, [], _∷_, _++_}
 use Prim.Native.Nat.{ℕ, zero, suc, _+_, _*_, _-_, _≤_, _<_, min, max}
 use native.Mathlib.Omega.{arith}
-use lib.ListN.{length, getD, take, drop, length-append, length-take, length-drop}
-use lib.Seq.{take-at, drop-at, drop-drop, take-take, getD-drop, getD-take, drop-append-add}
+use lib.ListN.{length, getD, take, drop, length-take, length-drop}
+use lib.Seq.{drop-drop, getD-take}
 use Rattle.semantics.specs.Monomial.{Monomial}
 use Rattle.semantics.specs.Expand.{listSize}
 use Rattle.semantics.specs.Group.{rows}
-use Rattle.semantics.proofs.Sorting.{All}
-use Rattle.monomial.specs.Words.{monomialWords, listWords, readMonomial, readList, listIn, longestOf, held, Fits, ListFits}
-use Rattle.monomial.proofs.ListLaws.{Front, words-nil, words-cons, words-append, words-length, size-nil, size-cons, size-append, one-length, getD-front, left-front, left-cons, left-rest, left-all, none-left}
+use Rattle.monomial.specs.Words.{readMonomial, listIn, longestOf, held, ListFits}
+use Rattle.monomial.proofs.ListLaws.{size-nil, size-cons, size-append, getD-front, left-front, left-cons, left-rest, left-all, none-left}
 
 pub longest-cons : (m : Monomial) (ms : List Monomial) → longestOf (m ∷ ms) ≡ max (length (m .vars)) (longestOf ms)
 unfolding longestOf
@@ -19,6 +18,13 @@ longest-cons m ms = refl
 pub longest-nil : longestOf [] ≡ 0
 unfolding longestOf
 longest-nil = refl
+
+-- The longest of what is left is the next or one behind it; s is the number of variables of the next.
+pub longest-left : (pool : List ℕ) (from n i s : ℕ) → i < n → s ≡ getD pool from 0 → ListFits pool from (n - i)
+    → longestOf (listIn pool from (n - i)) ≡ max s (longestOf (listIn pool (from + 2 + s) (n - (i + 1))))
+longest-left pool from n i s h e l =
+    ap longestOf (left-cons pool from n i h s e) ∙ longest-cons (readMonomial (drop from pool)) (listIn pool (from + 2 + s) (n - (i + 1)))
+    ∙ ap (λ (k : ℕ). max k (longestOf (listIn pool (from + 2 + s) (n - (i + 1))))) (left-front pool from n i h l .count-is ∙ sym e)
 
 -- The longest so far and the longest of what is left.
 pub record Longest (pool : List ℕ) (at n most from i : ℕ) : Type 0 where
@@ -34,11 +40,11 @@ module _ (pool : List ℕ) (at n : ℕ) where
 
   pub longest-more : (most from i s next : ℕ) → Longest pool at n most from i → i < n → s ≡ getD pool from 0 → next ≡ max most s
       → Longest pool at n next (from + 2 + s) (i + 1)
-  longest-more most from i s next l h e f =
-      let r : longestOf (listIn pool from (n - i)) ≡ max s (longestOf (listIn pool (from + 2 + s) (n - (i + 1)))) =
-          ap longestOf (left-cons pool from n i h s e) ∙ longest-cons (readMonomial (drop from pool)) (listIn pool (from + 2 + s) (n - (i + 1)))
-          ∙ ap (λ (k : ℕ). max k (longestOf (listIn pool (from + 2 + s) (n - (i + 1))))) (left-front pool from n i h (l .left) .count-is ∙ sym e) in
-      record { i-le = omega arith; left = left-rest pool from n i h s e (l .left); most-is = omega (arith, r, f, l .most-is) }
+  longest-more most from i s next l h e f = record {
+    i-le = omega arith;
+    left = left-rest pool from n i h s e (l .left);
+    most-is = omega (arith, longest-left pool from n i s h e (l .left), f, l .most-is);
+  }
 
   pub longest-done : (most from i : ℕ) → Longest pool at n most from i → n ≤ i → most ≡ longestOf (listIn pool at n)
   longest-done most from i l h = omega (arith, l .most-is, ap longestOf (none-left pool from n i h) ∙ longest-nil)
@@ -92,7 +98,7 @@ sized-none work count = record { k-le = omega arith; total-is = sym (ap listSize
 
 pub size-more : (work : List ℕ) (k s : ℕ) → 16 * k + 16 ≤ length work → s ≡ min (getD work (16 * k) 0) 14 → listSize (held (k + 1) work) ≡ listSize (held k work) + 2 + s
 size-more work k s h e =
-    omega (arith, ap listSize (held-more k work) ∙ size-append (held k work) (rowOf work k ∷ []) , size-cons (rowOf work k) [], size-nil, row-count work k h, e)
+    omega (arith, ap listSize (held-more k work) ∙ size-append (held k work) (rowOf work k ∷ []), size-cons (rowOf work k) [], size-nil, row-count work k h, e)
 
 pub sized-more : (work : List ℕ) (count total k s : ℕ) → Sized work count total k → k < count → 16 * count ≤ length work → s ≡ min (getD work (16 * k) 0) 14
     → Sized work count (total + 2 + s) (k + 1)

@@ -1,17 +1,16 @@
 -- Loops over a list in the words: its monomials negated one by one, and summed one by one.
-use mathlib.Core.Path.{_≡_, refl, sym, _∙_, ap, subst}
+use mathlib.Core.Path.{_≡_, refl, sym, _∙_, ap}
 use mathlib.Core.Bool.{Bool, true, false}
 use mathlib.Core.List.{List, [], _∷_, _++_, map, append-nil, append-assoc}
-use Prim.Native.Nat.{ℕ, zero, suc, _+_, _*_, _-_, _≤_, _<_}
+use Prim.Native.Nat.{ℕ, _+_, _-_, _≤_, _<_}
 use native.Mathlib.Omega.{arith}
-use lib.ListN.{length, getD, take, drop}
+use lib.ListN.{length, getD, drop}
 use Rattle.semantics.specs.Arithmetic.{prime}
 use Rattle.semantics.specs.Monomial.{Monomial, negMonomial, insertMonomial}
-use Rattle.semantics.proofs.Sorting.{All}
 use Rattle.semantics.proofs.Combining.{asc-insert}
 use Rattle.monomial.specs.Words.{readMonomial, listIn, held, insertAll, signed, Fits, ListFits, Summed}
 use Rattle.monomial.proofs.Canons.{sum-nil, sum-cons, fits-insert, fits-negative}
-use Rattle.monomial.proofs.ListLaws.{Front, left-front, left-cons, left-rest, left-all, none-left}
+use Rattle.monomial.proofs.ListLaws.{left-cons, left-rest, left-all, none-left}
 use Rattle.monomial.proofs.Sizes.{held-zero}
 
 -- The negatives so far and those of what is left.
@@ -127,6 +126,6 @@ module _ (f : Monomial → Monomial) (pool : List ℕ) (at n count : ℕ) (work�
   pub adding-done : (work : List ℕ) (total from i : ℕ) → Adding f pool at n count work₀ work total from i → n ≤ i
       → (held total work ≡ insertAll (map f (listIn pool at n)) (held count work₀)) × (total ≤ count + n)
   adding-done work total from i g h = (
-      sym (sum-nil (held total work)) ∙ ap (λ (x : List Monomial). insertAll (map f x) (held total work)) (sym (none-left pool from n i h)) ∙ g .all-is,
-      omega (arith, g .few, g .i-le),
-    )
+    sym (sum-nil (held total work)) ∙ ap (λ (x : List Monomial). insertAll (map f x) (held total work)) (sym (none-left pool from n i h)) ∙ g .all-is,
+    omega (arith, g .few, g .i-le),
+  )

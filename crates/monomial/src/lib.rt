@@ -9,8 +9,8 @@ ghost use Rattle.semantics.specs.Monomial.{above, mulMonomial, negMonomial};
 ghost use Rattle.semantics.proofs.Sorting.{Sorted};
 ghost use Rattle.monomial.specs.Words.{nums, monomialOf, readMonomial};
 
+mod list_steps;
 pub mod lists;
-mod rows;
 mod shift;
 pub mod vars;
 

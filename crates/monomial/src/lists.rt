@@ -9,8 +9,14 @@ ghost use Rattle.semantics.specs.Expand.{listSize};
 ghost use Rattle.semantics.proofs.Sorting.{All};
 ghost use Rattle.monomial.specs.Words.{monomialOf, held, listIn, listWords, longestOf, insertAll, signed, Fits, ListFits, Summed};
 use crate::Monomial;
-use crate::rows::{combine_row, larger, row_vars, wide, with_sign, write_row};
-use crate::{monomial_at, negative};
+use crate::list_steps::combine_row;
+use crate::list_steps::larger;
+use crate::list_steps::slot_count;
+use crate::list_steps::wide;
+use crate::list_steps::with_sign;
+use crate::list_steps::write_row;
+use crate::monomial_at;
+use crate::negative;
 
 // A monomial goes behind the first k of the work list.
 pub fn put_monomial(work: &mut [u32], k: usize, m: Monomial)
@@ -117,7 +123,7 @@ pub fn list_size(work: &[u32], count: usize) -> usize
     let mut total: usize = 0;
     let mut k: usize = 0;
     while k < count {
-        let size = row_vars(work, 16 * k);
+        let size = slot_count(work, k);
         total = total + 2 + size;
         k += 1;
     }
@@ -132,7 +138,7 @@ pub fn write_list(work: &[u32], count: usize, out: &mut [u32])
     let mut at: usize = 0;
     let mut k: usize = 0;
     while k < count {
-        let size = row_vars(work, 16 * k);
+        let size = slot_count(work, k);
         write_row(work, 16 * k, size, out, at);
         at = at + 2 + size;
         k += 1;

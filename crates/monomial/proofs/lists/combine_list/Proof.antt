@@ -1,9 +1,9 @@
-use mathlib.Core.Path.{_≡_, refl, sym, ap, subst, _∙_}
-use mathlib.Core.List.{List, [], _∷_, _++_, map}
-use Prim.Native.Nat.{ℕ, zero, suc, _+_, _*_, _-_, _≤_, _<_}
+use mathlib.Core.Path.{sym, ap, subst, _∙_}
+use mathlib.Core.List.{List}
+use Prim.Native.Nat.{_+_, _-_, _≤_}
 use native.Mathlib.Omega.{arith}
 use borrow.Author.Needs.{needs}
-use lib.ListN.{length, getD, take, drop, set, length-set}
+use lib.ListN.{length}
 use Rattle.semantics.specs.Monomial.{Monomial}
 use Rattle.monomial.specs.Words.{monomialOf, held, listIn, insertAll, Fits}
 use Rattle.monomial.proofs.ListLaws.{left-front}
@@ -14,7 +14,7 @@ use Rattle.monomial.proofs.lists.combine_list.Reads as reads
 use Rattle.monomial.proofs.lists.combine_list.Lts as lts
 use Rattle.monomial.proofs.lists.combine_like_terms.Reads as combine-like-terms-reads
 use Rattle.monomial.proofs.monomial_at.Reads as monomial-at-reads
-use Rattle.monomial.proofs.rows.with_sign.Reads as with-sign-reads
+use Rattle.monomial.proofs.list_steps.with_sign.Reads as with-sign-reads
 
 abbrev Inv-loop : tie.InvT-loop
 Inv-loop work₀ count pool at n negated total₀ from₀ i₀ work total from i = Adding (signOf negated) pool at n count work₀ work total from i
@@ -24,13 +24,13 @@ abbrev μ-loop : tie.MeasureT-loop
 
 -- src/lists.rt:44:5
 loop-holds : tie.Need-loop-holds Inv-loop μ-loop
-loop-holds c = 
+loop-holds c =
     let a = c .before .before .args in
     adding-none (signOf (a .negated)) (a .pool .now) (a .at) (a .n) (a .count) (a .work .now) (c .before .before .pre .1) (c .before .before .pre .2)
 
 -- src/lists.rt:45:13
 monomial-at-requires : tie.Need-monomial-at-requires Inv-loop μ-loop
-monomial-at-requires c κs = 
+monomial-at-requires c κs =
     let a = c .before .before .before .before .args in
     let b = c .before .loop in
     let f = left-front (a .pool .now) (b .from) (a .n) (b .i) (omega arith) (b .inv .left) in
@@ -42,7 +42,7 @@ with-sign-requires c κs = search needs
 
 -- src/lists.rt:47:9
 combine-like-terms-requires : tie.Need-combine-like-terms-requires Inv-loop μ-loop
-combine-like-terms-requires c κs = 
+combine-like-terms-requires c κs =
     let a = c .before .before .before .before .before .before .before .args in
     let b = c .before .before .before .before .loop in
     let m = c .before .before .monomial-at in
@@ -56,7 +56,7 @@ combine-like-terms-requires c κs =
 
 -- src/lists.rt:48:16
 add-from : tie.Need-add-from Inv-loop μ-loop
-add-from c = 
+add-from c =
     let a = c .before .before .before .before .before .before .before .before .before .before .args in
     let b = c .before .before .before .before .before .before .before .loop in
     let f = left-front (a .pool .now) (b .from) (a .n) (b .i) (omega arith) (b .inv .left) in
@@ -65,7 +65,7 @@ add-from c =
 
 -- src/lists.rt:48:16
 add-from-2 : tie.Need-add-from-2 Inv-loop μ-loop
-add-from-2 c = 
+add-from-2 c =
     let a = c .before .before .before .before .before .before .before .before .before .before .args in
     let b = c .before .before .before .before .before .before .before .loop in
     let f = left-front (a .pool .now) (b .from) (a .n) (b .i) (omega arith) (b .inv .left) in
@@ -82,7 +82,7 @@ loop-less c = search needs
 
 -- src/lists.rt:44:5
 loop-again : tie.Need-loop-again Inv-loop μ-loop
-loop-again c = 
+loop-again c =
     let a = c .before .before .before .before .before .before .before .before .before .before .args in
     let b = c .before .before .before .before .before .before .before .loop in
     let m = c .before .before .before .before .before .monomial-at in
@@ -100,7 +100,7 @@ same-length c = c .before .loop .inv .length-is
 
 -- src/lists.rt:30:1
 returns : tie.Need-returns Inv-loop μ-loop
-returns c = 
+returns c =
     let a = c .before .before .before .before .args in
     let b = c .before .loop in
     let d = adding-done (signOf (a .negated)) (a .pool .now) (a .at) (a .n) (a .count) (a .work .now) (b .work) (b .total) (b .from) (b .i) (b .inv) (omega arith) in

@@ -1,17 +1,15 @@
-use mathlib.Core.Path.{_≡_, refl, sym, ap, subst, _∙_}
-use mathlib.Core.List.{List, [], _∷_, _++_, map}
-use Prim.Native.Nat.{ℕ, zero, suc, _+_, _*_, _-_, _≤_, _<_}
+use Prim.Native.Nat.{_+_, _-_, _≤_, _<_}
 use native.Mathlib.Omega.{arith}
 use borrow.Author.Needs.{needs}
-use lib.ListN.{length, getD, take, drop, set, length-set}
+use lib.ListN.{length}
 use Rattle.monomial.proofs.ListLaws.{left-front}
 use Rattle.monomial.proofs.Sizes.{Longest, longest-none, longest-more, longest-done}
 use Rattle.monomial.proofs.lists.longest.Statement.{statement}
 use Rattle.monomial.proofs.lists.longest.Tie as tie
 use Rattle.monomial.proofs.lists.longest.Reads as reads
 use Rattle.monomial.proofs.lists.longest.Lts as lts
-use Rattle.monomial.proofs.rows.larger.Reads as larger-reads
-use Rattle.monomial.proofs.rows.wide.Reads as wide-reads
+use Rattle.monomial.proofs.list_steps.larger.Reads as larger-reads
+use Rattle.monomial.proofs.list_steps.wide.Reads as wide-reads
 
 abbrev Inv-loop : tie.InvT-loop
 Inv-loop pool at n most₀ from₀ i₀ most from i = Longest pool at n most from i
@@ -25,7 +23,7 @@ loop-holds c = longest-none (c .before .args .pool .now) (c .before .args .at) (
 
 -- src/lists.rt:104:25
 mul-wide : tie.Need-mul-wide Inv-loop μ-loop
-mul-wide c = 
+mul-wide c =
     let a = c .before .before .before .args in
     let b = c .before .loop in
     let f = left-front (a .pool .now) (b .from) (a .n) (b .i) (omega arith) (b .inv .left) in
@@ -34,7 +32,7 @@ mul-wide c =
 
 -- src/lists.rt:104:25
 shared-slice-read-wide : tie.Need-shared-slice-read-wide Inv-loop μ-loop
-shared-slice-read-wide c = 
+shared-slice-read-wide c =
     let a = c .before .before .before .before .args in
     let b = c .before .before .loop in
     omega (arith, left-front (a .pool .now) (b .from) (a .n) (b .i) (omega arith) (b .inv .left) .room)
@@ -49,7 +47,7 @@ larger-requires c κs = search needs
 
 -- src/lists.rt:106:16
 add-from : tie.Need-add-from Inv-loop μ-loop
-add-from c = 
+add-from c =
     let a = c .before .before .before .before .before .before .args in
     let b = c .before .before .before .before .loop in
     let f = left-front (a .pool .now) (b .from) (a .n) (b .i) (omega arith) (b .inv .left) in
@@ -58,7 +56,7 @@ add-from c =
 
 -- src/lists.rt:106:16
 add-from-2 : tie.Need-add-from-2 Inv-loop μ-loop
-add-from-2 c = 
+add-from-2 c =
     let a = c .before .before .before .before .before .before .args in
     let b = c .before .before .before .before .loop in
     let f = left-front (a .pool .now) (b .from) (a .n) (b .i) (omega arith) (b .inv .left) in
@@ -75,14 +73,14 @@ loop-less c = search needs
 
 -- src/lists.rt:103:5
 loop-again : tie.Need-loop-again Inv-loop μ-loop
-loop-again c = 
+loop-again c =
     let a = c .before .before .before .before .before .before .args in
     let b = c .before .before .before .before .loop in
     longest-more (a .pool .now) (a .at) (a .n) (b .most) (b .from) (b .i) (c .before .wide .result) (c .larger .result) (b .inv) (omega arith) (c .before .wide .ensures) (c .larger .ensures)
 
 -- src/lists.rt:96:1
 returns : tie.Need-returns Inv-loop μ-loop
-returns c = 
+returns c =
     let a = c .before .before .before .args in
     let b = c .before .loop in
     longest-done (a .pool .now) (a .at) (a .n) (b .most) (b .from) (b .i) (b .inv) (omega arith)

@@ -1,9 +1,8 @@
-use mathlib.Core.Path.{_≡_, refl, sym, ap, subst, _∙_}
-use mathlib.Core.List.{List, [], _∷_, _++_, map}
-use Prim.Native.Nat.{ℕ, zero, suc, _+_, _*_, _-_, _≤_, _<_}
+use mathlib.Core.Path.{ap, _∙_}
+use Prim.Native.Nat.{_+_, _-_, _≤_}
 use native.Mathlib.Omega.{arith}
 use borrow.Author.Needs.{needs}
-use lib.ListN.{length, getD, take, drop, set, length-set}
+use lib.ListN.{length}
 use Rattle.semantics.specs.Arithmetic.{prime}
 use Rattle.semantics.specs.Monomial.{negMonomial}
 use Rattle.monomial.specs.Words.{monomialOf}
@@ -29,7 +28,7 @@ loop-holds c = negating-none (c .before .before .args .pool .now) (c .before .be
 
 -- src/lists.rt:62:13
 monomial-at-requires : tie.Need-monomial-at-requires Inv-loop μ-loop
-monomial-at-requires c κs = 
+monomial-at-requires c κs =
     let a = c .before .before .before .before .args in
     let b = c .before .loop in
     let f = left-front (a .pool .now) (b .from) (a .n) (b .k) (omega arith) (b .inv .left) in
@@ -41,7 +40,7 @@ negative-requires c κs = search needs
 
 -- src/lists.rt:64:9
 put-monomial-requires : tie.Need-put-monomial-requires Inv-loop μ-loop
-put-monomial-requires c κs = 
+put-monomial-requires c κs =
     let a = c .before .before .before .before .before .before .before .args in
     let b = c .before .before .before .before .loop in
     let f = left-front (a .pool .now) (b .from) (a .n) (b .k) (omega arith) (b .inv .left) in
@@ -49,7 +48,7 @@ put-monomial-requires c κs =
 
 -- src/lists.rt:65:16
 add-from : tie.Need-add-from Inv-loop μ-loop
-add-from c = 
+add-from c =
     let a = c .before .before .before .before .before .before .before .before .before .before .args in
     let b = c .before .before .before .before .before .before .before .loop in
     let f = left-front (a .pool .now) (b .from) (a .n) (b .k) (omega arith) (b .inv .left) in
@@ -58,7 +57,7 @@ add-from c =
 
 -- src/lists.rt:65:16
 add-from-2 : tie.Need-add-from-2 Inv-loop μ-loop
-add-from-2 c = 
+add-from-2 c =
     let a = c .before .before .before .before .before .before .before .before .before .before .args in
     let b = c .before .before .before .before .before .before .before .loop in
     let f = left-front (a .pool .now) (b .from) (a .n) (b .k) (omega arith) (b .inv .left) in
@@ -75,7 +74,7 @@ loop-less c = search needs
 
 -- src/lists.rt:61:5
 loop-again : tie.Need-loop-again Inv-loop μ-loop
-loop-again c = 
+loop-again c =
     let a = c .before .before .before .before .before .before .before .before .before .before .args in
     let b = c .before .before .before .before .before .before .before .loop in
     let p = c .before .before .put-monomial in
@@ -89,7 +88,7 @@ same-length c = c .before .loop .inv .length-is
 
 -- src/lists.rt:55:1
 returns : tie.Need-returns Inv-loop μ-loop
-returns c = 
+returns c =
     let a = c .before .before .before .before .args in
     let b = c .before .loop in
     negating-done (a .pool .now) (a .at) (a .n) (a .work .now) (b .work) (b .from) (b .k) (b .inv) (omega arith)

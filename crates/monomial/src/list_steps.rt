@@ -8,7 +8,9 @@ ghost use Rattle.semantics.specs.Monomial.{mulMonomial};
 ghost use Rattle.monomial.specs.Words.{monomialOf, held, listIn, longestOf, insertAll, signed, Fits, ListFits, Summed};
 use crate::Monomial;
 use crate::lists::combine_like_terms;
-use crate::{monomial_at, multiply, negative};
+use crate::monomial_at;
+use crate::multiply;
+use crate::negative;
 
 pub fn larger(a: usize, b: usize) -> usize
     ensures { λ r. ⌜ r ≡ max a b ⌝ }
@@ -22,12 +24,12 @@ pub fn wide(w: u32) -> usize
     w as usize
 }
 
-// How many variables the monomial in a row of sixteen words has.
-pub fn row_vars(work: &[u32], at: usize) -> usize
-    requires { ⌜ at + 16 ≤ length (now work) ⌝ }
-    ensures { λ r. ⌜ r ≡ min (getD (now (work .entry)) at 0) 14 ⌝ }
+// How many variables slot k of the work list has: no more than its fourteen places.
+pub fn slot_count(work: &[u32], k: usize) -> usize
+    requires { ⌜ 16 * k + 16 ≤ length (now work) ⌝ }
+    ensures { λ r. ⌜ r ≡ min (getD (now (work .entry)) (16 * k) 0) 14 ⌝ }
 {
-    let n = wide(work[at]);
+    let n = wide(work[16 * k]);
     if n < 14 { n } else { 14 }
 }
 
