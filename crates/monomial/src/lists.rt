@@ -9,6 +9,14 @@ ghost use Rattle.semantics.specs.Expand.{listSize};
 ghost use Rattle.semantics.proofs.Sorting.{All};
 ghost use Rattle.monomial.specs.Words.{monomialOf, held, listIn, listWords, longestOf, insertAll, signed, Fits, ListFits, Summed};
 use crate::Monomial;
+use crate::list_steps::combine_row;
+use crate::list_steps::larger;
+use crate::list_steps::slot_count;
+use crate::list_steps::wide;
+use crate::list_steps::with_sign;
+use crate::list_steps::write_row;
+use crate::monomial_at;
+use crate::negative;
 
 // A monomial goes behind the first k of the work list.
 pub fn put_monomial(work: &mut [u32], k: usize, m: Monomial)
@@ -36,14 +44,34 @@ pub fn combine_list(
     requires { ⌜ (count + n ≤ 256) × Summed count (now work) × ListFits (now pool) at n ⌝ }
     ensures { λ r. ⌜ (held r (now (work .exit)) ≡ insertAll (signed negated (listIn (now (pool .entry)) at n)) (held count (now (work .entry)))) × (r ≤ count + n) ⌝ }
 {
-    0
+    let mut total = count;
+    let mut from = at;
+    let mut i: usize = 0;
+    while i < n {
+        let m = monomial_at(pool, from);
+        let size = m.count;
+        total = combine_like_terms(work, total, with_sign(m, negated));
+        from = from + 2 + size;
+        i += 1;
+    }
+    total
 }
 
 // The negatives of the n monomials that stand at `at`, as they stand.
 pub fn negate_list(work: &mut [u32], pool: &[u32], at: usize, n: usize)
     requires { ⌜ (n ≤ 256) × (4096 ≤ length (now work)) × ListFits (now pool) at n ⌝ }
     ensures { λ _. ⌜ held n (now (work .exit)) ≡ map (negMonomial prime) (listIn (now (pool .entry)) at n) ⌝ }
-{}
+{
+    let mut from = at;
+    let mut k: usize = 0;
+    while k < n {
+        let m = monomial_at(pool, from);
+        let size = m.count;
+        put_monomial(work, k, negative(m));
+        from = from + 2 + size;
+        k += 1;
+    }
+}
 
 // Sums every product of a left and a right monomial.
 pub fn multiply_lists(
@@ -57,7 +85,17 @@ pub fn multiply_lists(
     requires { ⌜ (n * m ≤ 256) × (4096 ≤ length (now work)) × ListFits (now pool) left n × ListFits (now pool) right m × (longestOf (listIn (now pool) left n) + longestOf (listIn (now pool) right m) ≤ 14) ⌝ }
     ensures { λ r. ⌜ (held r (now (work .exit)) ≡ insertAll (products prime (listIn (now (pool .entry)) left n) (listIn (now (pool .entry)) right m)) []) × (r ≤ n * m) ⌝ }
 {
-    0
+    let mut total: usize = 0;
+    let mut from = left;
+    let mut i: usize = 0;
+    while i < n {
+        let l = monomial_at(pool, from);
+        let size = l.count;
+        total = combine_row(work, total, pool, l, right, m);
+        from = from + 2 + size;
+        i += 1;
+    }
+    total
 }
 
 // The most variables of a monomial of the n that stand at `at`.
@@ -65,7 +103,16 @@ pub fn longest(pool: &[u32], at: usize, n: usize) -> usize
     requires { ⌜ ListFits (now pool) at n ⌝ }
     ensures { λ r. ⌜ r ≡ longestOf (listIn (now (pool .entry)) at n) ⌝ }
 {
-    0
+    let mut most: usize = 0;
+    let mut from = at;
+    let mut i: usize = 0;
+    while i < n {
+        let size = wide(pool[from]);
+        most = larger(most, size);
+        from = from + 2 + size;
+        i += 1;
+    }
+    most
 }
 
 // How many words the work list takes in the pool.
@@ -73,11 +120,27 @@ pub fn list_size(work: &[u32], count: usize) -> usize
     requires { ⌜ (count ≤ 256) × (16 * count ≤ length (now work)) × All Fits (held count (now work)) ⌝ }
     ensures { λ r. ⌜ r ≡ listSize (held count (now (work .entry))) ⌝ }
 {
-    0
+    let mut total: usize = 0;
+    let mut k: usize = 0;
+    while k < count {
+        let size = slot_count(work, k);
+        total = total + 2 + size;
+        k += 1;
+    }
+    total
 }
 
 // Writes the work list to the front of what is lent.
 pub fn write_list(work: &[u32], count: usize, out: &mut [u32])
     requires { ⌜ (count ≤ 256) × (16 * count ≤ length (now work)) × All Fits (held count (now work)) × (listSize (held count (now work)) ≤ length (now out)) ⌝ }
     ensures { λ _. ⌜ now (out .exit) ≡ listWords (held count (now (work .entry))) ++ drop (listSize (held count (now (work .entry)))) (now (out .entry)) ⌝ }
-{}
+{
+    let mut at: usize = 0;
+    let mut k: usize = 0;
+    while k < count {
+        let size = slot_count(work, k);
+        write_row(work, 16 * k, size, out, at);
+        at = at + 2 + size;
+        k += 1;
+    }
+}
