@@ -4,5 +4,8 @@ pub mod Sizes
 pub mod Summing
 pub mod RowWords
 pub mod Products
+pub mod Leaves
+pub mod Working
+pub mod Storing
 pub mod Expanding
 pub mod Roots

@@ -1,3 +1,4 @@
 pub mod Words
 pub mod Orders
+pub mod Making
 pub mod Walking

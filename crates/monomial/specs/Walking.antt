@@ -1,23 +1,23 @@
 -- What the pool holds while an expansion walks, for the records expanded so far.
 use mathlib.Core.Path.{_≡_}
 use mathlib.Core.Bool.{true, false}
-use mathlib.Core.List.{List}
-use Prim.Native.Nat.{ℕ, suc, _+_, _*_, _≤_, _<_}
-use lib.ListN.{length, getD}
+use mathlib.Core.List.{List, _++_}
+use Prim.Native.Nat.{ℕ, _+_, _*_, _≤_, _<_}
+use lib.ListN.{length, getD, set, take, drop}
 use Rattle.semantics.specs.Arithmetic.{prime}
 use Rattle.semantics.specs.Answer.{good, refused}
 use Rattle.semantics.specs.Check.{readSheet, check}
-use Rattle.semantics.specs.Value.{nodeOf, recordAt}
-use Rattle.semantics.specs.Walk.{childrenAt, member, visit}
+use Rattle.semantics.specs.Walk.{member}
 use Rattle.semantics.specs.Monomial.{Monomial, listAt}
-use Rattle.semantics.specs.Expand.{listSize, recordFault, expandAll}
+use Rattle.semantics.specs.Expand.{listSize, expandAll}
+use Rattle.semantics.proofs.Sorting.{All}
 use Rattle.records.specs.Access.{recordsOf}
 use Rattle.records.specs.Orders.{Order, There}
-use Rattle.monomial.specs.Words.{held, Stored}
+use Rattle.monomial.specs.Words.{held, listWords, Fits, Stored}
+use Rattle.monomial.specs.declared.kinds.Made.{Made}
+use Rattle.monomial.specs.declared.kinds.Made.the-variants.{Held, Fault}
 use Rattle.monomial.specs.declared.expand.Expanded.{Expanded}
 use Rattle.monomial.specs.declared.expand.Expanded.the-variants.{Used, Refused}
-use Rattle.monomial.specs.declared.expand.Made.{Made}
-use Rattle.monomial.specs.declared.expand.Made.the-variants.{Held, Fault}
 
 -- An expanded record: its list is stored behind the two words of each record, and before what is free.
 pub record Kept (ws pool : List ℕ) (used i : ℕ) : Type 0 where
@@ -41,10 +41,27 @@ abbrev pub Expands : (ws pool : List ℕ) → Expanded → (done : List ℕ) →
 Expands ws pool (Used u) done = Holds ws done pool u
 Expands ws pool (Refused q) done = expandAll prime (recordsOf ws) (length pool) done ≡ refused (q .number) (q .place)
 
--- A list that was made in the work, or why it was not; for a fault that is 0 where there is none.
-abbrev pub Makes : (work : List ℕ) → Made → (fault : ℕ) (list : List Monomial) → Type 0
-Makes work (Held n) fault list = (fault ≡ 0) × (held n work ≡ list)
-Makes work (Fault f) fault list = (fault ≡ f) × (f ≡ 0 → ⊥)
+-- The refusal of record r, where its list was not made.
+abbrev pub refusedBy : Made → (r : ℕ) → Expanded
+refusedBy (Held n) r = Refused (record { number = 0; place = r })
+refusedBy (Fault f) r = Refused (record { number = f; place = r })
+
+-- What storing a list for record r comes to: its words behind those that are taken, and the record's two words; or no room.
+abbrev pub withList : (pool : List ℕ) (r used : ℕ) → List Monomial → List ℕ
+withList pool r used l = set (set (take used pool ++ (listWords l ++ drop (used + listSize l) pool)) (2 * r) used) (2 * r + 1) (length l)
+
+abbrev pub Stores : (pool pool′ : List ℕ) (r used : ℕ) → List Monomial → Expanded → Type 0
+Stores pool pool′ r used l (Used u) = (u ≡ used + listSize l) × (u ≤ length pool) × (pool′ ≡ withList pool r used l)
+Stores pool pool′ r used l (Refused q) = (q .number ≡ 16) × (q .place ≡ r) × (length pool < used + listSize l)
+
+-- What storing asks: a list that may be held, room for the record's two words, and words that are taken before what is free.
+pub record Storing (work : List ℕ) (count : ℕ) (pool : List ℕ) (r used : ℕ) : Type 0 where
+  pub few : count ≤ 256
+  pub room : 4096 ≤ length work
+  pub fit : All Fits (held count work)
+  pub head : 2 * r + 2 ≤ used
+  pub high : used ≤ length pool
+  pub small : used < 4294967296
 
 -- What expanding asks: a checked sheet, work of 4,096 words, and a pool that holds what the walk expanded so far.
 pub record Walking (ws work pool : List ℕ) (used : ℕ) : Type 0 where

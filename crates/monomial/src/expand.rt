@@ -1,26 +1,21 @@
 // The walk of an expansion: each reached record is expanded once, after its children, and its list is kept in the pool.
 ghost use mathlib.Core.Path.{_≡_};
 ghost use mathlib.Core.Bool.{false};
-ghost use mathlib.Core.List.{List, [], _∷_, _++_, map};
-ghost use Prim.Native.Nat.{ℕ, suc, _+_, _*_, _≤_, _<_};
-ghost use lib.ListN.{length, getD};
+ghost use mathlib.Core.List.{List, _∷_};
+ghost use Prim.Native.Nat.{ℕ, suc};
+ghost use lib.ListN.{length};
 ghost use Rattle.semantics.specs.Arithmetic.{prime};
-ghost use Rattle.semantics.specs.Sheet.{GoodRecord};
-ghost use Rattle.semantics.specs.Value.{nodeOf, recordAt};
-ghost use Rattle.semantics.specs.Packing.{packFault};
-ghost use Rattle.semantics.specs.Monomial.{negMonomial, products, combine, listAt, recordList};
-ghost use Rattle.semantics.specs.Expand.{listSize, workFault, recordFault};
+ghost use Rattle.semantics.specs.Monomial.{listAt};
+ghost use Rattle.semantics.specs.Expand.{recordFault};
 ghost use Rattle.semantics.specs.Walk.{member, visit, childrenAt};
-ghost use Rattle.semantics.proofs.Sorting.{All};
-ghost use Rattle.records.specs.Access.{recordsOf, fiveWords, part, countWords, fieldWords, NamesInside, AllRootsInside};
+ghost use Rattle.records.specs.Access.{recordsOf, part, countWords, fieldWords, NamesInside, AllRootsInside};
 ghost use Rattle.records.specs.Orders.{Order, There, Visiting};
-ghost use Rattle.monomial.specs.Words.{held, listIn, signed, Fits, ListFits};
-ghost use Rattle.monomial.specs.Walking.{Holds, Expands, Makes, Walking, Ready, Finishing};
-use crate::Monomial;
+ghost use Rattle.monomial.specs.Words.{held};
+ghost use Rattle.monomial.specs.Making.{Makes};
+ghost use Rattle.monomial.specs.Walking.{Holds, Expands, refusedBy, Storing, Stores, Walking, Ready, Finishing};
+use crate::kinds;
+use crate::kinds::Made;
 use crate::lists;
-use packed_var::Packed;
-use packed_var::PackedVar;
-use records::Record;
 use sheet::Refusal;
 
 // How many words of the pool are taken then, or a refusal.
@@ -29,10 +24,55 @@ pub enum Expanded {
     Refused(Refusal),
 }
 
-// How many monomials a list has in the work, or why there is none: 8 to 13.
-pub enum Made {
-    Held(usize),
-    Fault(u32),
+// Makes the list of a record whose children are expanded.
+fn make_list(sheet: &[u32], work: &mut [u32], pool: &[u32], r: usize) -> Made
+    requires { ⌜ ((used : ℕ) × Finishing (now sheet) r (now work) (now pool) used) ⌝ }
+    ensures { λ u. ⌜ Makes (now (work .exit)) u (recordFault prime (recordsOf (now (sheet .entry))) r) (listAt prime (recordsOf (now (sheet .entry))) r) ⌝ }
+{
+    let q = records::record_at(sheet, r);
+    if q.kind < 6 {
+        return kinds::expand_leaf(work, q);
+    }
+    let left = kinds::list_of(pool, records::wide(q.a));
+    if q.kind == 8 {
+        return kinds::expand_neg(work, pool, left);
+    }
+    let right = kinds::list_of(pool, records::wide(q.b));
+    if q.kind == 9 {
+        return kinds::expand_product(work, pool, left, right);
+    }
+    kinds::expand_sum(work, pool, left, right, q.kind == 7)
+}
+
+// Writes a list behind the words of the pool that are taken, and its place into the record's two words.
+fn store_list(work: &[u32], count: usize, pool: &mut [u32], r: usize, used: usize) -> Expanded
+    requires { ⌜ Storing (now work) count (now pool) r used ⌝ }
+    ensures { λ u. ⌜ Stores (now (pool .entry)) (now (pool .exit)) r used (held count (now (work .entry))) u ⌝ }
+{
+    let size = lists::list_size(work, count);
+    if pool.len() - used < size {
+        return Expanded::Refused(Refusal {
+            number: 16,
+            place: r,
+        });
+    }
+    lists::write_list(work, count, &mut pool[used..]);
+    pool[2 * r] = used as u32;
+    pool[2 * r + 1] = count as u32;
+    Expanded::Used(used + size)
+}
+
+// The refusal of record r, whose list was not made.
+fn refused(made: Made, r: usize) -> Expanded
+    ensures { λ u. ⌜ u ≡ refusedBy made r ⌝ }
+{
+    match made {
+        Made::Fault(number) => Expanded::Refused(Refusal { number, place: r }),
+        Made::Held(_) => Expanded::Refused(Refusal {
+            number: 0,
+            place: r,
+        }),
+    }
 }
 
 // Makes the list of a record whose children are expanded, and stores it.
@@ -46,7 +86,11 @@ fn finish_record(
     requires { ⌜ Finishing (now sheet) r (now work) (now pool) used ⌝ }
     ensures { λ u. ⌜ ((done : List ℕ) → Order (now (sheet .entry)) done → member r done ≡ false → There (now (sheet .entry)) r done → Holds (now (sheet .entry)) done (now (pool .entry)) used → Expands (now (sheet .entry)) (now (pool .exit)) u (r ∷ done)) ⌝ }
 {
-    Expanded::Used(0)
+    let made = make_list(sheet, work, pool, r);
+    let Made::Held(count) = made else {
+        return refused(made, r);
+    };
+    store_list(work, count, pool, r, used)
 }
 
 // Expands record r with all that it reaches, left child, right child, then itself.

@@ -10,6 +10,7 @@ ghost use Rattle.semantics.proofs.Sorting.{Sorted};
 ghost use Rattle.monomial.specs.Words.{nums, monomialOf, readMonomial};
 
 pub mod expand;
+mod kinds;
 mod list_steps;
 pub mod lists;
 mod shift;
