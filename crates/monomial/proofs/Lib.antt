@@ -1,1 +1,6 @@
 pub mod Shifts
+pub mod Rows
+pub mod Orderings
+pub mod Merging
+pub mod Searches
+pub mod Inserting

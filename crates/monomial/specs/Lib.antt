@@ -1,2 +1,4 @@
 pub mod Words
 pub mod Orders
+pub mod Merged
+pub mod Places
