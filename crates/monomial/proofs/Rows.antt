@@ -4,7 +4,7 @@ use mathlib.Core.List.{List, [], _∷_, _++_, map, append-assoc, append-nil}
 use Prim.Native.Nat.{ℕ, zero, suc, _+_, _*_, _-_, _≤_, _<_, min}
 use native.Mathlib.Omega.{arith}
 use lib.ListN.{length, getD, take, drop, set, length-set, length-append, length-take, length-drop, length-map, take-append-drop, List·getD-append}
-use lib.Seq.{take-suc, take-suc-set, take-append-le, drop-append-le, take-at, drop-at, drop-drop, getD-drop, getD-take, getD-append-add, take-take, take-all, length-take-le, paste, paste-suc, sets-eq}
+use lib.Seq.{take-suc, take-suc-set, take-append-le, drop-append-le, take-at, drop-at, drop-drop, getD-drop, getD-take, getD-append-add, take-take, take-all, length-take-le, take-set-le, drop-set-add, set-append-left, paste, paste-suc, sets-eq}
 use Rattle.semantics.specs.Monomial as semantics
 use Rattle.semantics.specs.Group.{rows}
 use Rattle.monomial.specs.Words.{readMonomial, held}
@@ -82,6 +82,12 @@ module _ {X : Type 0} (w : ℕ) (f : List ℕ → X) where
   rows-after a n ws vs h =
       rows-seam a n (take (w * a) ws) vs (length-take-le (w * a) ws h) ∙ ap (λ (r : List X). r ++ rowsBy n vs) (rows-front a ws h)
 
+  pub rows-cut : (a : ℕ) (ws vs : List ℕ) → w * a ≤ length ws → rowsBy a (take (w * a) ws ++ vs) ≡ rowsBy a ws
+  unfolding rows
+  rows-cut a ws vs h =
+      let z : a ≡ a + 0 = omega arith in
+      ap (λ (k : ℕ). rowsBy k (take (w * a) ws ++ vs)) z ∙ rows-after a 0 ws vs h ∙ append-nil (rowsBy a ws)
+
   -- One row in front.
   pub rows-cons : (n : ℕ) (row vs : List ℕ) → length row ≡ w → rowsBy (1 + n) (row ++ vs) ≡ f row ∷ rowsBy n vs
   unfolding rows
@@ -110,6 +116,39 @@ module _ {X : Type 0} (w : ℕ) (f : List ℕ → X) where
       le : (j : ℕ) → n ≡ k + j → w * k ≤ length ws
       le j e = let q : w * n ≡ w * k + w * j = ap (λ (i : ℕ). w * i) e ∙ omega arith in omega arith
 
+  -- A row changed.
+  pub row-changed : (k j : ℕ) (ws row : List ℕ) → w * k ≤ length ws → length row ≡ w
+      → rowsBy (k + (1 + j)) (take (w * k) ws ++ (row ++ drop (w * (k + 1)) ws)) ≡ rowsBy k ws ++ (f row ∷ rowsBy j (drop (w * (k + 1)) ws))
+  row-changed k j ws row h e =
+      rows-after k (1 + j) ws (row ++ drop (w * (k + 1)) ws) h ∙ ap (λ (r : List X). rowsBy k ws ++ r) (rows-cons j row (drop (w * (k + 1)) ws) e)
+
+  -- A row put in.
+  pub row-put : (k j : ℕ) (ws row rest : List ℕ) → w * k + w * j ≤ length ws → length row ≡ w
+      → rowsBy (k + (1 + j)) (take (w * k) ws ++ (row ++ (take (w * j) (drop (w * k) ws) ++ rest))) ≡ rowsBy k ws ++ (f row ∷ rowsBy j (drop (w * k) ws))
+  row-put k j ws row rest h e =
+      rows-after k (1 + j) ws (row ++ (take (w * j) (drop (w * k) ws) ++ rest)) (omega arith)
+      ∙ ap (λ (r : List X). rowsBy k ws ++ r)
+      (rows-cons j row (take (w * j) (drop (w * k) ws) ++ rest) e
+      ∙ ap (λ (r : List X). f row ∷ r) (rows-cut j (drop (w * k) ws) rest (omega (arith, length-drop (w * k) ws))))
+
+  -- A row taken out.
+  pub row-out : (k j : ℕ) (ws rest : List ℕ) → w * (k + 1) + w * j ≤ length ws
+      → rowsBy (k + j) (take (w * k) ws ++ (take (w * j) (drop (w * (k + 1)) ws) ++ rest)) ≡ rowsBy k ws ++ rowsBy j (drop (w * (k + 1)) ws)
+  row-out k j ws rest h =
+      rows-after k j ws (take (w * j) (drop (w * (k + 1)) ws) ++ rest) (omega arith)
+      ∙ ap (λ (r : List X). rowsBy k ws ++ r) (rows-cut j (drop (w * (k + 1)) ws) rest (omega (arith, length-drop (w * (k + 1)) ws)))
+
+-- A word of a row stored.
+pub row-set : (ws : List ℕ) (at w i v : ℕ) → i < w → at + w ≤ length ws → set ws (at + i) v ≡ take at ws ++ (set (take w (drop at ws)) i v ++ drop (at + w) ws)
+row-set ws at w i v h l =
+    let d : List ℕ = drop at ws in
+    let n : length (take w d) ≡ w = length-take-le w d (omega (arith, length-drop at ws)) in
+    sym (take-append-drop at (set ws (at + i) v))
+    ∙ (λ t. take-set-le at ws (at + i) v (omega arith) t ++ drop-set-add at ws i v t)
+    ∙ ap (λ (r : List ℕ). take at ws ++ r)
+    (ap (λ (r : List ℕ). set r i v) (sym (take-append-drop w d)) ∙ set-append-left (take w d) (drop w d) i v (omega arith)
+    ∙ ap (λ (r : List ℕ). set (take w d) i v ++ r) (drop-drop w at ws))
+
 -- The monomial whose words stand at a place.
 pub read-is : (ws vs : List ℕ) (at : ℕ) → take (getD ws at 0) vs ≡ take (getD ws at 0) (drop (at + 2) ws)
     → _≡_ {A = semantics.Monomial} (record { vars = take (getD ws at 0) vs; coef = getD ws (at + 1) 0 }) (readMonomial (drop at ws))
@@ -127,3 +166,7 @@ unfolding held
 held-more ws vs rest k n c h e =
     rows-after 16 readMonomial k 1 ws ((n ∷ c ∷ vs) ++ rest) h
     ∙ ap (λ (r : List semantics.Monomial). held k ws ++ r) (rows-cons 16 readMonomial 0 (n ∷ c ∷ vs) rest (omega arith) ∙ unfold rows readMonomial in refl)
+
+pub held-count : (n : ℕ) (ws : List ℕ) → length (held n ws) ≡ n
+unfolding held
+held-count n ws = rows-count 16 readMonomial n ws

@@ -14,8 +14,12 @@ use Rattle.semantics.specs.Monomial.{Monomial, beforeVars}
 use Rattle.semantics.proofs.Order.{beforeVars-trans}
 use Rattle.semantics.proofs.Combining.{Above, Asc}
 use Rattle.monomial.specs.Words.{readMonomial, held}
+use Rattle.monomial.specs.declared.vars.Order.{Order}
+use Rattle.monomial.specs.declared.vars.Order.the-variants.{Before, Same, After}
+use Rattle.monomial.specs.Orders.{orderOf}
 use Rattle.monomial.specs.Places.{one, varsAt, FirstBefore, RestAfter}
-use Rattle.monomial.proofs.Rows.{row-at}
+use Rattle.monomial.proofs.Rows.{row-at, held-count}
+use Rattle.monomial.proofs.Orderings.{from-before, from-after, from-same}
 
 above-at : (v : List ℕ) (ms : List Monomial) → Above v ms → (j : ℕ) → j < length ms → beforeVars v (varsAt ms j) ≡ true
 above-at v [] a j h = absurd (omega arith)
@@ -68,3 +72,22 @@ slot-vars ws k n h l =
     let c : getD row 0 0 ≡ getD ws (16 * k) 0 = getD-take 16 (drop (16 * k) ws) 0 0 (omega arith) ∙ getD-drop (16 * k) ws 0 0 ∙ ap (λ (i : ℕ). getD ws i 0) z in
     let d : drop 2 row ≡ take 14 (drop (16 * k + 2) ws) = drop-two 14 (drop (16 * k) ws) ∙ ap (take 14) (drop-drop 2 (16 * k) ws) in
     ap (λ (m : Monomial). m .vars) (row-at 16 readMonomial k n ws one h l) ∙ (λ t. take (c t) (d t)) ∙ take-min (getD ws (16 * k) 0) 14 (drop (16 * k + 2) ws)
+
+-- What a comparison with slot k says.
+module _ (x : Monomial) (ws : List ℕ) (k n : ℕ) (h : k < n) (l : 16 * n ≤ length ws) (c : ℕ) (e : c ≡ min (getD ws (16 * k) 0) 14) (o : Order)
+    (q : o ≡ orderOf (x .vars) (take c (drop (16 * k + 2) ws))) where
+  slot-is : varsAt (held n ws) k ≡ take c (drop (16 * k + 2) ws)
+  slot-is = slot-vars ws k n h l ∙ ap (λ (j : ℕ). take j (drop (16 * k + 2) ws)) (sym e)
+
+  pub found-same : o ≡ Same → varsAt (held n ws) k ≡ x .vars
+  found-same s = slot-is ∙ sym (from-same (x .vars) (take c (drop (16 * k + 2) ws)) (sym q ∙ s))
+
+  pub found-after : Asc (held n ws) → o ≡ After → FirstBefore x (held n ws) (k + 1)
+  found-after a s =
+      lower-half x (held n ws) a k (omega (arith, held-count n ws))
+      (ap (λ (v : List ℕ). beforeVars v (x .vars)) slot-is ∙ from-after (x .vars) (take c (drop (16 * k + 2) ws)) (sym q ∙ s))
+
+  pub found-before : Asc (held n ws) → o ≡ Before → RestAfter x (held n ws) k
+  found-before a s =
+      upper-half x (held n ws) a k (omega (arith, held-count n ws))
+      (ap (beforeVars (x .vars)) slot-is ∙ from-before (x .vars) (take c (drop (16 * k + 2) ws)) (sym q ∙ s))
