@@ -1,7 +1,7 @@
 -- A monomial summed into a list that ascends, and into the words of the work list.
 use mathlib.Core.Path.{_≡_, refl, sym, ap, subst, _∙_}
-use mathlib.Core.Bool.{Bool, true, false, cond}
-use mathlib.Core.List.{List, [], _∷_, _++_, map}
+use mathlib.Core.Bool.{true, false}
+use mathlib.Core.List.{List, [], _∷_, _++_}
 use Prim.Native.Nat.{ℕ, zero, suc, _+_, _*_, _-_, _≤_, _<_}
 use native.Mathlib.Omega.{arith}
 use lib.Dec.{eqb}
@@ -15,7 +15,7 @@ use Rattle.semantics.proofs.Order.{beforeVars-irrefl, beforeVars-asym}
 use Rattle.semantics.proofs.Combining.{Asc}
 use Rattle.monomial.specs.Words.{readMonomial, held}
 use Rattle.monomial.specs.Places.{one, varsAt, FirstBefore, RestAfter}
-use Rattle.monomial.proofs.Rows.{rowsBy, take-rows, drop-rows, row-at, row-changed, row-put, row-out, row-set}
+use Rattle.monomial.proofs.Rows.{take-rows, drop-rows, row-at, row-changed, row-put, row-out, row-set}
 use Rattle.monomial.proofs.Searches.{ascending}
 
 module _ (p : ℕ) (m : Monomial) where

@@ -1,12 +1,12 @@
 -- Sorted lists merged from their fronts are sorted together.
 use mathlib.Core.Path.{_≡_, refl, sym, ap, _∙_}
-use mathlib.Core.Bool.{Bool, true, false, cond}
+use mathlib.Core.Bool.{true, false}
 use mathlib.Core.List.{List, [], _∷_, _++_, append-assoc, append-nil}
-use Prim.Native.Nat.{ℕ, zero, suc, _+_, _-_, _≤_, _<_}
+use Prim.Native.Nat.{ℕ, suc, _+_, _-_, _≤_, _<_}
 use native.Mathlib.Omega.{arith}
 use lib.Dec.{ltb}
 use lib.ListN.{length, getD, take, drop, set}
-use lib.Seq.{drop-cons, take-suc-set, take-nil}
+use lib.Seq.{drop-cons, take-suc-set}
 use borrow.Author.Tests.{ltb-true, ltb-false, lt-ltb, le-ltb}
 use Rattle.semantics.specs.Monomial.{above, insertSorted, sort}
 use Rattle.semantics.proofs.Basics.{by-test, cond-true, cond-false}

@@ -4,11 +4,10 @@ use mathlib.Core.Bool.{Bool, true, false}
 use mathlib.Core.List.{List, [], _∷_, _++_}
 use Prim.Native.Nat.{ℕ, zero, suc, _+_, _≤_, _<_}
 use native.Mathlib.Omega.{arith}
-use lib.ListN.{length, getD, take, drop}
+use lib.ListN.{length, getD, take}
 use lib.Seq.{take-suc, take-take, getD-take, length-take-le}
 use Rattle.semantics.specs.Monomial.{before, beforeVars}
 use Rattle.semantics.proofs.Order.{lex-head, lex-tail, beforeVars-irrefl, beforeVars-asym, beforeVars-total}
-use Rattle.monomial.specs.declared.vars.Order.{Order}
 use Rattle.monomial.specs.declared.vars.Order.the-variants.{Before, Same, After}
 use Rattle.monomial.specs.Orders.{chosen, orderOf}
 

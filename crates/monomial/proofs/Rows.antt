@@ -1,13 +1,19 @@
 -- Rows of a fixed width in a list of words, and a monomial's words.
 use mathlib.Core.Path.{_≡_, refl, sym, ap, _∙_}
 use mathlib.Core.List.{List, [], _∷_, _++_, map, append-assoc, append-nil}
-use Prim.Native.Nat.{ℕ, zero, suc, _+_, _*_, _-_, _≤_, _<_, min}
+use Prim.Native.Nat.{ℕ, zero, suc, _+_, _*_, _-_, _≤_, _<_}
 use native.Mathlib.Omega.{arith}
-use lib.ListN.{length, getD, take, drop, set, length-set, length-append, length-take, length-drop, length-map, take-append-drop, List·getD-append}
-use lib.Seq.{take-suc, take-suc-set, take-append-le, drop-append-le, take-at, drop-at, drop-drop, getD-drop, getD-take, getD-append-add, take-take, take-all, length-take-le, take-set-le, drop-set-add, set-append-left, paste, paste-suc, sets-eq}
+use lib.ListN.{length, getD, take, drop, set, length-append, length-drop, length-map, take-append-drop}
+use lib.Seq.{take-suc, take-suc-set, take-append-le, drop-append-le, take-at, drop-at, drop-drop, getD-drop, getD-append-add, take-all, length-take-le, take-set-le, drop-set-add, set-append-left, paste, paste-suc, sets-eq}
 use Rattle.semantics.specs.Monomial as semantics
 use Rattle.semantics.specs.Group.{rows}
+use Rattle.packed_var.proofs.PackedVar as packed
+use Rattle.packed_var.specs.declared.PackedVar.{PackedVar}
 use Rattle.monomial.specs.Words.{readMonomial, held}
+
+-- The variables of a monomial by value stand in fourteen places.
+pub fourteen : (vs : List PackedVar) → length (map (packed.the-type .to) vs) ≡ 14 → length vs ≡ 14
+fourteen vs e = sym (length-map vs (packed.the-type .to)) ∙ e
 
 pub map-set : {X Y : Type 0} (f : X → Y) (l : List X) (i : ℕ) (x : X) → map f (set l i x) ≡ set (map f l) i (f x)
 map-set f [] i x = refl

@@ -2,13 +2,13 @@
 use mathlib.Core.Path.{_≡_, refl, sym, ap, subst, _∙_}
 use mathlib.Core.Logic.{⊎-elim}
 use mathlib.Core.Bool.{Bool, true, false}
-use mathlib.Core.List.{List, [], _∷_, _++_}
+use mathlib.Core.List.{List, [], _∷_}
 use Prim.Native.Nat.{ℕ, zero, suc, _+_, _*_, _≤_, _<_, min}
 use native.Mathlib.Nat.{eq-or-lt-of-le}
 use native.Mathlib.Omega.{arith}
 use lib.Dec.{leb}
 use lib.ListN.{length, getD, take, drop, length-take}
-use lib.Seq.{take-take, take-all, getD-take, getD-drop, drop-drop, length-take-le}
+use lib.Seq.{take-take, take-all, getD-take, getD-drop, drop-drop}
 use borrow.Author.Tests.{leb-true, leb-false}
 use Rattle.semantics.specs.Monomial.{Monomial, beforeVars}
 use Rattle.semantics.proofs.Order.{beforeVars-trans}

@@ -1,10 +1,10 @@
 -- Words moved up or down within a list.
-use mathlib.Core.Path.{_≡_, refl, sym, ap, _∙_}
+use mathlib.Core.Path.{_≡_, sym, ap, _∙_}
 use mathlib.Core.List.{List, [], _∷_, _++_, append-assoc}
 use Prim.Native.Nat.{ℕ, suc, _+_, _-_, _≤_, _<_}
 use native.Mathlib.Omega.{arith}
-use lib.ListN.{length, getD, take, drop, set, length-set, length-append, length-take, length-drop, take-append-drop, List·getD-append}
-use lib.Seq.{take-suc, drop-cons, set-at, getD-take, getD-drop, drop-drop, length-take-le, paste, paste-zero, paste-suc, length-paste, drop-paste}
+use lib.ListN.{length, getD, take, drop, set, length-drop, take-append-drop, List·getD-append}
+use lib.Seq.{take-suc, drop-cons, set-at, getD-take, getD-drop, length-take-le, paste, paste-zero, paste-suc, length-paste, drop-paste}
 
 -- The words from i to `end` stand `by` places higher; below i + by all is as it was.
 abbrev pub Raised : (s s₀ : List ℕ) (i end by : ℕ) → Type 0

@@ -1,5 +1,4 @@
 // The work list: sixteen words for each monomial, in ascending order while monomials are summed.
-use packed_var::PackedVar;
 ghost use mathlib.Core.Path.{_≡_};
 ghost use mathlib.Core.List.{_∷_, _++_};
 ghost use Prim.Native.Nat.{_+_, _*_, _≤_, _<_, min};

@@ -43,9 +43,9 @@ pub fn order_at(words: &[u32], at: usize, m: usize, vars: [PackedVar; 14], n: us
 }
 
 // The next variable of two lists, and how far it takes the left one.
-pub struct Next {
-    pub var: PackedVar,
-    pub left: usize,
+struct Next {
+    var: PackedVar,
+    left: usize,
 }
 
 // The lower of the first variables that are left: of a from i to n, of b from j to m.

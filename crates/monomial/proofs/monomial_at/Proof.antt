@@ -1,9 +1,8 @@
 use mathlib.Core.Path.{_≡_, refl, sym, ap, _∙_}
-use mathlib.Core.List.{List, [], _∷_, _++_}
-use Prim.Native.Nat.{ℕ, suc, _+_, _*_, _-_, _≤_, _<_}
+use Prim.Native.Nat.{ℕ, _+_, _-_, _≤_}
 use native.Mathlib.Omega.{arith}
 use borrow.Author.Needs.{needs}
-use lib.ListN.{length, getD, take, drop, set, length-set, length-map, length-drop}
+use lib.ListN.{length, getD, take, drop, length-set, length-map, length-drop}
 use lib.Seq.{getD-drop}
 use Rattle.packed_var.specs.declared.PackedVar.{PackedVar}
 use Rattle.monomial.specs.Words.{num, nums}
@@ -69,15 +68,17 @@ loop-less c = search needs
 
 -- src/lib.rt:31:5
 loop-again : tie.Need-loop-again Inv-loop μ-loop
-loop-again c =     let a = c .before .before .before .before .args in
+loop-again c = let a = c .before .before .before .before .args in
     let b = c .before .before .loop in
     let h = b .inv in
     let x : PackedVar = record { 0 = getD (a .words .now) (a .at + 2 + b .i) 0 } in
     let l = length-map (b .vars) num in
-    let d = length-drop (a .at + 2) (a .words .now) in
-    (omega arith, length-set (b .vars) (b .i) x ∙ h .1,
-    ap (take (b .i + 1)) (map-set num (b .vars) (b .i) x)
-    ∙ filled-more (nums (b .vars)) (drop (a .at + 2) (a .words .now)) (b .i) (num x) (omega arith) (omega arith) (h .2) (sym (getD-drop (a .at + 2) (a .words .now) (b .i) 0)))
+    let d = length-drop (a .at + 2) (a .words .now) in (
+      omega arith,
+      length-set (b .vars) (b .i) x ∙ h .1,
+      ap (take (b .i + 1)) (map-set num (b .vars) (b .i) x)
+          ∙ filled-more (nums (b .vars)) (drop (a .at + 2) (a .words .now)) (b .i) (num x) (omega arith) (omega arith) (h .2) (sym (getD-drop (a .at + 2) (a .words .now) (b .i) 0)),
+    )
 
 -- src/lib.rt:38:21
 add-t7 : tie.Need-add-t7 Inv-loop μ-loop
@@ -93,7 +94,7 @@ shared-slice-read-t9 c = search needs
 
 -- src/lib.rt:24:1
 returns : tie.Need-returns Inv-loop μ-loop
-returns c =     let a = c .before .before .before .before .args in
+returns c = let a = c .before .before .before .before .args in
     let b = c .before .before .loop in
     let h = b .inv in
     let q : b .i ≡ getD (a .words .now) (a .at) 0 = omega arith in

@@ -1,9 +1,8 @@
-use mathlib.Core.Path.{_≡_, refl, sym, ap, _∙_}
-use mathlib.Core.List.{List, [], _∷_, _++_}
-use Prim.Native.Nat.{ℕ, suc, _+_, _*_, _-_, _≤_, _<_}
+use mathlib.Core.Path.{_≡_, refl, _∙_}
+use Prim.Native.Nat.{_+_, _-_, _≤_}
 use native.Mathlib.Omega.{arith}
 use borrow.Author.Needs.{needs}
-use lib.ListN.{length, getD, take, drop, set, length-set}
+use lib.ListN.{length, length-set}
 use Rattle.monomial.proofs.Shifts.{Lowered, lowered-none, lowered-more, lowered-all}
 use Rattle.monomial.proofs.shift.shift_down.Statement.{statement}
 use Rattle.monomial.proofs.shift.shift_down.Tie as tie

@@ -1,9 +1,9 @@
-use mathlib.Core.Path.{_≡_, refl, sym, ap, _∙_}
-use mathlib.Core.List.{List, [], _∷_, _++_}
-use Prim.Native.Nat.{ℕ, suc, _+_, _*_, _-_, _≤_, _<_}
+use mathlib.Core.Path.{_≡_, refl, ap, _∙_}
+use mathlib.Core.List.{_++_}
+use Prim.Native.Nat.{ℕ, _+_, _-_, _≤_}
 use native.Mathlib.Omega.{arith}
 use borrow.Author.Needs.{needs}
-use lib.ListN.{length, getD, take, drop, set, length-set}
+use lib.ListN.{length, take, drop, length-set}
 use Rattle.monomial.proofs.Shifts.{Raised, raised-none, raised-more}
 use Rattle.monomial.proofs.shift.shift_up.Statement.{statement}
 use Rattle.monomial.proofs.shift.shift_up.Tie as tie

@@ -1,11 +1,9 @@
-use mathlib.Core.Path.{_≡_, refl, sym, ap, _∙_}
-use mathlib.Core.List.{List, [], _∷_, _++_}
-use Prim.Native.Nat.{ℕ, _+_, _*_, _-_, _/_, _≤_, _<_}
+use Prim.Native.Nat.{_+_, _-_, _/_, _≤_}
 use native.Mathlib.Omega.{arith}
 use borrow.Author.Needs.{needs}
-use lib.ListN.{length, take, drop}
+use lib.ListN.{take}
 use Rattle.semantics.specs.Monomial as semantics
-use Rattle.monomial.specs.Words.{num, nums, monomialOf, held}
+use Rattle.monomial.specs.Words.{nums, monomialOf, held}
 use Rattle.monomial.specs.Places.{FirstBefore, RestAfter}
 use Rattle.monomial.proofs.Rows.{held-count}
 use Rattle.monomial.proofs.Searches.{found-same, found-after, found-before}
@@ -22,7 +20,7 @@ abbrev μ-loop : tie.MeasureT-loop
 
 -- src/slots.rt:58:5
 loop-holds : tie.Need-loop-holds Inv-loop μ-loop
-loop-holds c =     let a = c .before .before .args in
+loop-holds c = let a = c .before .before .args in
     (omega arith, omega arith, λ i h. absurd (omega arith), λ i h k. absurd (omega (arith, held-count (a .count) (a .work .now))))
 
 -- src/slots.rt:59:18
@@ -51,11 +49,13 @@ enum-told c = search needs
 
 -- src/slots.rt:63:17
 returns : tie.Need-returns Inv-loop μ-loop
-returns c =     let a = c .before .before .before .before .before .before .before .before .args in
+returns c = let a = c .before .before .before .before .before .before .before .before .args in
     let b = c .before .before .before .before .before .loop in
-    let l = held-count (a .count) (a .work .now) in
-    (omega arith, found-same (monomialOf (a .m)) (a .work .now) ((b .low + b .high) / 2) (a .count) (omega arith) (omega arith) (c .before .before .before .slot-count .result) (c .before .before .before .slot-count .ensures)
-    (c .before .before .order-at .result) (c .before .before .order-at .ensures) (c .enum-told .given .1))
+    let l = held-count (a .count) (a .work .now) in (
+      omega arith,
+      found-same (monomialOf (a .m)) (a .work .now) ((b .low + b .high) / 2) (a .count) (omega arith) (omega arith) (c .before .before .before .slot-count .result) (c .before .before .before .slot-count .ensures)
+          (c .before .before .order-at .result) (c .before .before .order-at .ensures) (c .enum-told .given .1),
+    )
 
 -- src/slots.rt:66:23
 enum-told-2 : tie.Need-enum-told-2 Inv-loop μ-loop
@@ -71,11 +71,15 @@ loop-less c = search needs
 
 -- src/slots.rt:58:5
 loop-again : tie.Need-loop-again Inv-loop μ-loop
-loop-again c =     let a = c .before .before .before .before .before .before .before .before .args in
+loop-again c = let a = c .before .before .before .before .before .before .before .before .args in
     let b = c .before .before .before .before .before .loop in
-    let h = b .inv in
-    (omega arith, omega arith, found-after (monomialOf (a .m)) (a .work .now) ((b .low + b .high) / 2) (a .count) (omega arith) (omega arith) (c .before .before .before .slot-count .result) (c .before .before .before .slot-count .ensures)
-    (c .before .before .order-at .result) (c .before .before .order-at .ensures) (c .before .before .before .before .before .before .before .before .pre .3) (c .enum-told2 .given .1), h .3)
+    let h = b .inv in (
+      omega arith,
+      omega arith,
+      found-after (monomialOf (a .m)) (a .work .now) ((b .low + b .high) / 2) (a .count) (omega arith) (omega arith) (c .before .before .before .slot-count .result) (c .before .before .before .slot-count .ensures)
+          (c .before .before .order-at .result) (c .before .before .order-at .ensures) (c .before .before .before .before .before .before .before .before .pre .3) (c .enum-told2 .given .1),
+      h .3,
+    )
 
 -- src/slots.rt:70:17
 enum-told-3 : tie.Need-enum-told-3 Inv-loop μ-loop
@@ -87,15 +91,19 @@ loop-less-2 c = search needs
 
 -- src/slots.rt:58:5
 loop-again-2 : tie.Need-loop-again-2 Inv-loop μ-loop
-loop-again-2 c =     let a = c .before .before .before .before .before .before .before .before .args in
+loop-again-2 c = let a = c .before .before .before .before .before .before .before .before .args in
     let b = c .before .before .before .before .before .loop in
-    let h = b .inv in
-    (omega arith, omega arith, h .2, found-before (monomialOf (a .m)) (a .work .now) ((b .low + b .high) / 2) (a .count) (omega arith) (omega arith) (c .before .before .before .slot-count .result) (c .before .before .before .slot-count .ensures)
-    (c .before .before .order-at .result) (c .before .before .order-at .ensures) (c .before .before .before .before .before .before .before .before .pre .3) (c .enum-told3 .given .1))
+    let h = b .inv in (
+      omega arith,
+      omega arith,
+      h .2,
+      found-before (monomialOf (a .m)) (a .work .now) ((b .low + b .high) / 2) (a .count) (omega arith) (omega arith) (c .before .before .before .slot-count .result) (c .before .before .before .slot-count .ensures)
+          (c .before .before .order-at .result) (c .before .before .order-at .ensures) (c .before .before .before .before .before .before .before .before .pre .3) (c .enum-told3 .given .1),
+    )
 
 -- src/slots.rt:50:1
 returns-2 : tie.Need-returns-2 Inv-loop μ-loop
-returns-2 c =     let a = c .before .before .before .before .args in
+returns-2 c = let a = c .before .before .before .before .args in
     let b = c .before .loop in
     let h = b .inv in
     let l = held-count (a .count) (a .work .now) in

@@ -1,12 +1,11 @@
-use mathlib.Core.Path.{_≡_, refl, sym, ap, _∙_}
-use mathlib.Core.List.{List, [], _∷_, _++_}
-use Prim.Native.Nat.{ℕ, _+_, _*_}
+use mathlib.Core.Path.{_≡_, sym, ap, _∙_}
+use mathlib.Core.List.{List, _++_}
 use native.Mathlib.Omega.{arith}
 use borrow.Author.Needs.{needs}
 use lib.ListN.{length, take, drop, length-map, take-append-drop}
-use Rattle.packed_var.proofs.PackedVar as packed
 use Rattle.semantics.specs.Monomial as semantics
 use Rattle.monomial.specs.Words.{num, nums, monomialOf, held}
+use Rattle.monomial.proofs.Rows.{fourteen}
 use Rattle.monomial.proofs.Inserting.{keep-zero, keep-other, held-put}
 use Rattle.monomial.proofs.slots.insert_at.Statement.{statement}
 use Rattle.monomial.proofs.slots.insert_at.Tie as tie
@@ -15,7 +14,7 @@ use Rattle.monomial.proofs.slots.insert_at.Lts as lts
 
 -- src/slots.rt:83:9
 returns : tie.Need-returns
-returns c =     let a = c .before .before .before .args in
+returns c = let a = c .before .before .before .args in
     let l : List semantics.Monomial = held (a .count) (a .work .now) in
     (sym (ap (λ (r : List semantics.Monomial). take (a .k) l ++ r) (keep-zero (monomialOf (a .m)) (drop (a .k) l) (c .if1 .taken)) ∙ take-append-drop (a .k) l), omega arith)
 
@@ -45,11 +44,13 @@ same-length c = search needs
 
 -- src/slots.rt:78:1
 returns-2 : tie.Need-returns-2
-returns-2 c =     let a = c .before .before .before .before .before .before .before .before .before .before .before .args in
+returns-2 c = let a = c .before .before .before .before .before .before .before .before .before .before .before .args in
     let l : List semantics.Monomial = held (a .count) (a .work .now) in
-    let e : length (nums (a .m .vars)) ≡ 14 = length-map (a .m .vars) num ∙ sym (length-map (a .m .vars) (packed.the-type .to)) ∙ c .before .before .before .before .before .before .before .before .before .before .before .good .1 .1 .1 .0 .1 .1 .0 .1 .0 .1 in
-    (held-put (a .work .now) (a .k) (a .count) (omega arith) (omega arith) (a .m .count) (a .m .coef) (nums (a .m .vars)) _ _ (omega arith) e (c .before .before .before .before .before .before .shift-up .ensures) (c .before .before .put-slot .ensures)
-    ∙ ap (λ (r : List semantics.Monomial). take (a .k) l ++ r) (sym (keep-other (monomialOf (a .m)) (drop (a .k) l) (c .before .before .before .before .before .before .before .before .if1 .left))), omega arith)
+    let e : length (nums (a .m .vars)) ≡ 14 = length-map (a .m .vars) num ∙ fourteen (a .m .vars) (c .before .before .before .before .before .before .before .before .before .before .before .good .1 .1 .1 .0 .1 .1 .0 .1 .0 .1) in (
+      held-put (a .work .now) (a .k) (a .count) (omega arith) (omega arith) (a .m .count) (a .m .coef) (nums (a .m .vars)) _ _ (omega arith) e (c .before .before .before .before .before .before .shift-up .ensures) (c .before .before .put-slot .ensures)
+          ∙ ap (λ (r : List semantics.Monomial). take (a .k) l ++ r) (sym (keep-other (monomialOf (a .m)) (drop (a .k) l) (c .before .before .before .before .before .before .before .before .if1 .left))),
+      omega arith,
+    )
 
 pub insert-at-spec : {M : Type 1} → statement M
 insert-at-spec =

@@ -1,15 +1,12 @@
 use mathlib.Core.Path.{_≡_, refl, sym, ap, _∙_}
-use mathlib.Core.List.{List, [], _∷_, _++_}
-use Prim.Native.Nat.{ℕ, suc, _+_, _*_, _-_, _≤_, _<_}
-use native.Mathlib.Numerals.{add-one}
+use mathlib.Core.List.{_∷_, _++_}
+use Prim.Native.Nat.{ℕ, _+_, _*_, _-_, _≤_}
 use native.Mathlib.Omega.{arith}
 use borrow.Author.Needs.{needs}
-use lib.ListN.{length, getD, take, drop, set, length-set, length-map, List·getD-map}
-use lib.Seq.{paste, paste-zero, paste-suc}
-use Rattle.packed_var.proofs.PackedVar as packed
-use Rattle.packed_var.specs.declared.PackedVar.{PackedVar}
+use lib.ListN.{length, take, drop, set, length-set, length-map, List·getD-map}
+use lib.Seq.{paste, paste-zero}
 use Rattle.monomial.specs.Words.{num, nums}
-use Rattle.monomial.proofs.Rows.{stored, two-and-more}
+use Rattle.monomial.proofs.Rows.{fourteen, stored, two-and-more}
 use Rattle.monomial.proofs.slots.put_slot.Statement.{statement}
 use Rattle.monomial.proofs.slots.put_slot.Tie as tie
 use Rattle.monomial.proofs.slots.put_slot.Reads as reads
@@ -51,8 +48,8 @@ slice-write-work-2 c = simp length-set (omega arith)
 
 -- src/slots.rt:33:5
 loop-holds : tie.Need-loop-holds Inv-loop μ-loop
-loop-holds c =     let a = c .before .before .args in
-    (search needs, sym (length-map (a .m .vars) (packed.the-type .to)) ∙ c .before .before .good .1 .1 .0 .1 .1 .0 .1 .0 .1, refl, paste-zero _ (16 * a .k + 2) (nums (a .m .vars)))
+loop-holds c = let a = c .before .before .args in
+    (search needs, fourteen (a .m .vars) (c .before .before .good .1 .1 .0 .1 .1 .0 .1 .0 .1), refl, paste-zero _ (16 * a .k + 2) (nums (a .m .vars)))
 
 -- src/slots.rt:34:17
 mul-v : tie.Need-mul-v Inv-loop μ-loop
@@ -76,7 +73,7 @@ mul-work-3 c = search needs
 
 -- src/slots.rt:35:9
 slice-write-work-3 : tie.Need-slice-write-work-3 Inv-loop μ-loop
-slice-write-work-3 c =     let b = c .before .before .loop in
+slice-write-work-3 c = let b = c .before .before .loop in
     let h = b .inv in
     let l = length-set (c .before .before .before .before .before .args .work .now) (16 * c .before .before .before .before .before .args .k) (c .before .before .before .before .before .args .m .count) in
     let l2 = length-set (set (c .before .before .before .before .before .args .work .now) (16 * c .before .before .before .before .before .args .k) (c .before .before .before .before .before .args .m .count)) (16 * c .before .before .before .before .before .args .k + 1) (c .before .before .before .before .before .args .m .coef) in
@@ -92,7 +89,7 @@ loop-less c = search needs
 
 -- src/slots.rt:33:5
 loop-again : tie.Need-loop-again Inv-loop μ-loop
-loop-again c =     let a = c .before .before .before .before .before .args in
+loop-again c = let a = c .before .before .before .before .before .args in
     let b = c .before .before .loop in
     let h = b .inv in
     let l = length-set (a .work .now) (16 * a .k) (a .m .count) in
@@ -102,13 +99,13 @@ loop-again c =     let a = c .before .before .before .before .before .args in
 
 -- src/slots.rt:24:1
 same-length : tie.Need-same-length Inv-loop μ-loop
-same-length c =     let b = c .before .loop in
+same-length c = let b = c .before .loop in
     let a = c .before .before .before .before .args in
     b .inv .2 ∙ length-set (set (a .work .now) (16 * a .k) (a .m .count)) (16 * a .k + 1) (a .m .coef) ∙ length-set (a .work .now) (16 * a .k) (a .m .count)
 
 -- src/slots.rt:24:1
 returns : tie.Need-returns Inv-loop μ-loop
-returns c =     let b = c .before .loop in
+returns c = let b = c .before .loop in
     let a = c .before .before .before .before .args in
     let h = b .inv in
     let q : b .i ≡ 14 = omega arith in

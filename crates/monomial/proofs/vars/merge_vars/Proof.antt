@@ -1,9 +1,9 @@
-use mathlib.Core.Path.{_≡_, refl, sym, ap, subst, _∙_}
-use mathlib.Core.List.{List, [], _∷_, _++_}
-use Prim.Native.Nat.{ℕ, suc, _+_, _*_, _-_, _≤_, _<_}
+use mathlib.Core.Path.{_≡_, sym, subst, _∙_}
+use mathlib.Core.List.{List, []}
+use Prim.Native.Nat.{ℕ, _+_, _-_, _≤_}
 use native.Mathlib.Omega.{arith}
 use borrow.Author.Needs.{needs}
-use lib.ListN.{length, getD, take, drop, length-map, length-set}
+use lib.ListN.{length, length-map, length-set}
 use Rattle.packed_var.specs.declared.PackedVar.{PackedVar}
 use Rattle.monomial.specs.Words.{num, nums}
 use Rattle.monomial.proofs.Rows.{map-set}
@@ -21,7 +21,7 @@ abbrev μ-loop : tie.MeasureT-loop
 
 -- src/vars.rt:76:5
 loop-holds : tie.Need-loop-holds Inv-loop μ-loop
-loop-holds c =     let a = c .args in
+loop-holds c = let a = c .args in
     (search needs, search needs, search needs, merging-none [] (nums (a .a)) (nums (a .b)) (a .n) (a .m))
 
 -- src/vars.rt:76:11
@@ -66,19 +66,22 @@ loop-less c = omega (arith, c .before .before .before .next-var .ensures)
 
 -- src/vars.rt:76:5
 loop-again : tie.Need-loop-again Inv-loop μ-loop
-loop-again c =     let a = c .before .before .before .before .before .before .args in
+loop-again c = let a = c .before .before .before .before .before .before .args in
     let b = c .before .before .before .before .before .loop in
     let h = b .inv in
     let v = c .before .before .before .next-var in
     let x : PackedVar = v .result .var in
-    let l = length-map (b .r) num in
-    (v .ensures .1, v .ensures .2, length-set (b .r) (b .i + b .j) x ∙ h .2,
-    subst (λ (r : List ℕ). Merging r (nums (a .a)) (nums (a .b)) (b .i + v .result .left) (a .n) (b .j + (1 - v .result .left)) (a .m)) (sym (map-set num (b .r) (b .i + b .j) x))
-    (merging-more (nums (b .r)) (nums (a .a)) (nums (a .b)) (b .i) (a .n) (b .j) (a .m) (num x) (v .result .left) (omega arith) (v .ensures .0) (h .3) (v .ensures .3)))
+    let l = length-map (b .r) num in (
+      v .ensures .1,
+      v .ensures .2,
+      length-set (b .r) (b .i + b .j) x ∙ h .2,
+      subst (λ (r : List ℕ). Merging r (nums (a .a)) (nums (a .b)) (b .i + v .result .left) (a .n) (b .j + (1 - v .result .left)) (a .m)) (sym (map-set num (b .r) (b .i + b .j) x))
+          (merging-more (nums (b .r)) (nums (a .a)) (nums (a .b)) (b .i) (a .n) (b .j) (a .m) (num x) (v .result .left) (omega arith) (v .ensures .0) (h .3) (v .ensures .3)),
+    )
 
 -- src/vars.rt:69:1
 returns : tie.Need-returns Inv-loop μ-loop
-returns c =     let a = c .before .before .args in
+returns c = let a = c .before .before .args in
     let b = c .before .loop in
     let h = b .inv in
     merging-all (nums (b .r)) (nums (a .a)) (nums (a .b)) (b .i) (a .n) (b .j) (a .m) (h .0) (h .1) (omega arith) (h .3) (c .before .before .pre .1) (c .before .before .pre .2)

@@ -1,11 +1,9 @@
-use mathlib.Core.Path.{_≡_, refl, sym, ap, _∙_}
-use mathlib.Core.List.{List, [], _∷_, _++_}
-use Prim.Native.Nat.{ℕ, suc, _+_, _*_, _-_, _≤_, _<_}
+use mathlib.Core.Path.{_≡_, refl}
+use Prim.Native.Nat.{_-_, _≤_}
 use native.Mathlib.Omega.{arith}
 use borrow.Author.Needs.{needs}
-use lib.ListN.{length, getD, take, drop, length-map, length-drop, List·getD-map}
+use lib.ListN.{length, take, drop, length-map, length-drop, List·getD-map}
 use lib.Seq.{getD-drop}
-use Rattle.packed_var.specs.declared.PackedVar.{PackedVar}
 use Rattle.monomial.specs.Words.{num, nums}
 use Rattle.monomial.proofs.Orderings.{alike-more, at-shorter, at-longer, at-same, at-less, at-more}
 use Rattle.monomial.proofs.vars.order_at.Statement.{statement}
@@ -21,7 +19,7 @@ abbrev μ-loop : tie.MeasureT-loop
 
 -- src/vars.rt:24:9
 returns : tie.Need-returns Inv-loop μ-loop
-returns c =     let a = c .before .args in
+returns c = let a = c .before .args in
     let e : length (a .t4) ≡ 14 = search needs in
     let l = length-map (a .t4) num in
     let d = length-drop (a .at) (a .words .now) in
@@ -29,7 +27,7 @@ returns c =     let a = c .before .args in
 
 -- src/vars.rt:27:9
 returns-2 : tie.Need-returns-2 Inv-loop μ-loop
-returns-2 c =     let a = c .before .before .args in
+returns-2 c = let a = c .before .before .args in
     let e : length (a .t4) ≡ 14 = search needs in
     let l = length-map (a .t4) num in
     let d = length-drop (a .at) (a .words .now) in
@@ -61,7 +59,7 @@ shared-slice-read-y c = search needs
 
 -- src/vars.rt:34:13
 returns-3 : tie.Need-returns-3 Inv-loop μ-loop
-returns-3 c =     let a = c .before .before .before .before .before .before .args in
+returns-3 c = let a = c .before .before .before .before .before .before .args in
     let b = c .before .before .before .loop in
     let h = b .inv in
     let l = length-map (a .t4) num in
@@ -72,7 +70,7 @@ returns-3 c =     let a = c .before .before .before .before .before .before .arg
 
 -- src/vars.rt:37:13
 returns-4 : tie.Need-returns-4 Inv-loop μ-loop
-returns-4 c =     let a = c .before .before .before .before .before .before .before .args in
+returns-4 c = let a = c .before .before .before .before .before .before .before .args in
     let b = c .before .before .before .before .loop in
     let h = b .inv in
     let l = length-map (a .t4) num in
@@ -91,7 +89,7 @@ loop-less c = search needs
 
 -- src/vars.rt:30:5
 loop-again : tie.Need-loop-again Inv-loop μ-loop
-loop-again c =     let a = c .before .before .before .before .before .before .before .args in
+loop-again c = let a = c .before .before .before .before .before .before .before .args in
     let b = c .before .before .before .before .loop in
     let h = b .inv in
     let l = length-map (a .t4) num in
@@ -102,7 +100,7 @@ loop-again c =     let a = c .before .before .before .before .before .before .be
 
 -- src/vars.rt:19:1
 returns-5 : tie.Need-returns-5 Inv-loop μ-loop
-returns-5 c =     let a = c .before .before .before .before .args in
+returns-5 c = let a = c .before .before .before .before .args in
     let b = c .before .loop in
     let h = b .inv in
     let l = length-map (a .t4) num in
