@@ -45,13 +45,19 @@ module _ (p : ℕ) (m : Monomial) where
       ∙ ap (λ (t : List Monomial). x ∷ t) (insert-gap xs k (omega arith) (λ i l. f (suc i) (omega arith)) (λ i l n. g (suc i) (omega arith) (omega arith)))
 
   -- Where one has.
-  pub insert-at : (ms : List Monomial) (k : ℕ) → Asc ms → k < length ms → varsAt ms k ≡ m .vars
+  insert-same : (ms : List Monomial) (k : ℕ) → Asc ms → k < length ms → varsAt ms k ≡ m .vars
       → insertMonomial p m ms ≡ take k ms ++ keep (plus p m (getD ms k one)) (drop (suc k) ms)
-  insert-at [] k a h e = absurd (omega arith)
-  insert-at (x ∷ xs) zero a h e = insert-sum x xs e
-  insert-at (x ∷ xs) (suc k) a h e =
+  insert-same [] k a h e = absurd (omega arith)
+  insert-same (x ∷ xs) zero a h e = insert-sum x xs e
+  insert-same (x ∷ xs) (suc k) a h e =
       insert-later x xs (subst (λ (v : List ℕ). beforeVars (x .vars) v ≡ true) e (ascending (x ∷ xs) a 0 (suc k) (omega arith) h))
-      ∙ ap (λ (t : List Monomial). x ∷ t) (insert-at xs k (a .1) (omega arith) e)
+      ∙ ap (λ (t : List Monomial). x ∷ t) (insert-same xs k (a .1) (omega arith) e)
+
+  pub insert-at : (ms : List Monomial) (k : ℕ) → Asc ms → k < length ms → varsAt ms k ≡ m .vars
+      → insertMonomial p m ms ≡ take k ms ++ keep (plus p m (getD ms k one)) (drop (k + 1) ms)
+  insert-at ms k a h e =
+      let n : suc k ≡ k + 1 = omega arith in
+      insert-same ms k a h e ∙ ap (λ (i : ℕ). take k ms ++ keep (plus p m (getD ms k one)) (drop i ms)) n
 
 -- Kept, unless the coefficient is 0.
 pub keep-zero : (m : Monomial) (ms : List Monomial) → m .coef ≡ 0 → keep m ms ≡ ms

@@ -1,16 +1,18 @@
 -- Sorted lists merged from their fronts are sorted together.
-use mathlib.Core.Path.{_≡_, refl, sym, ap, _∙_}
-use mathlib.Core.Bool.{true, false}
+use mathlib.Core.Path.{_≡_, refl, sym, ap, subst, _∙_}
+use mathlib.Core.Bool.{Bool, true, false}
 use mathlib.Core.List.{List, [], _∷_, _++_, append-assoc, append-nil}
 use Prim.Native.Nat.{ℕ, suc, _+_, _-_, _≤_, _<_}
 use native.Mathlib.Omega.{arith}
 use lib.Dec.{ltb}
-use lib.ListN.{length, getD, take, drop, set}
+use lib.ListN.{length, getD, take, drop, set, length-map, List·getD-map}
 use lib.Seq.{drop-cons, take-suc-set}
 use borrow.Author.Tests.{ltb-true, ltb-false, lt-ltb, le-ltb}
 use Rattle.semantics.specs.Monomial.{above, insertSorted, sort}
 use Rattle.semantics.proofs.Basics.{by-test, cond-true, cond-false}
 use Rattle.semantics.proofs.Sorting.{All, all-append, Ahead, Sorted, insert-nil, sort-nil, sort-cons, sort-all}
+use Rattle.packed_var.specs.declared.PackedVar.{PackedVar}
+use Rattle.monomial.specs.Words.{num, nums}
 use Rattle.monomial.specs.Merged.{merged}
 
 -- Numbers that are ahead of those of a list.
@@ -89,13 +91,13 @@ module _ (s d : List ℕ) (i n j m : ℕ) (hs : n ≤ length s) (hd : m ≤ leng
   same-right : left m j d ≡ left m (j + (1 - 1)) d
   same-right = let z : j ≡ j + (1 - 1) = omega arith in ap (λ (k : ℕ). left m k d) z
 
-  pub only-left : m ≤ j → i < n → Takes s d i n j m (getD s i 0) 1
+  only-left : m ≤ j → i < n → Takes s d i n j m (getD s i 0) 1
   only-left h k =
       let x : ℕ = getD s i 0 in
       ap (merged (left n i s)) (left-nil m j d h) ∙ merged-nil (left n i s) ∙ left-cons n i s k hs
       ∙ ap (λ (t : List ℕ). x ∷ t) (sym (merged-nil (left n (i + 1) s)) ∙ ap (merged (left n (i + 1) s)) (sym (left-nil m j d h) ∙ same-right))
 
-  pub only-right : n ≤ i → j < m → Takes s d i n j m (getD d j 0) 0
+  only-right : n ≤ i → j < m → Takes s d i n j m (getD d j 0) 0
   unfolding merged
   only-right h k =
       let y : ℕ = getD d j 0 in
@@ -106,15 +108,52 @@ module _ (s d : List ℕ) (i n j m : ℕ) (hs : n ≤ length s) (hd : m ≤ leng
     both : merged (left n i s) (left m j d) ≡ merged (getD s i 0 ∷ left n (i + 1) s) (getD d j 0 ∷ left m (j + 1) d)
     both = λ t. merged (left-cons n i s k hs t) (left-cons m j d l hd t)
 
-    pub lower-right : getD d j 0 < getD s i 0 → Takes s d i n j m (getD d j 0) 0
+    lower-right : getD d j 0 < getD s i 0 → Takes s d i n j m (getD d j 0) 0
     lower-right h =
         both ∙ unfold merged above in (cond-true (ltb (getD d j 0) (getD s i 0)) _ _ (lt-ltb (getD d j 0) (getD s i 0) h))
         ∙ λ t. getD d j 0 ∷ merged ((sym (left-cons n i s k hs) ∙ same-left) t) (left m (j + 1) d)
 
-    pub lower-left : getD s i 0 ≤ getD d j 0 → Takes s d i n j m (getD s i 0) 1
+    lower-left : getD s i 0 ≤ getD d j 0 → Takes s d i n j m (getD s i 0) 1
     lower-left h =
         both ∙ unfold merged above in (cond-false (ltb (getD d j 0) (getD s i 0)) _ _ (le-ltb (getD d j 0) (getD s i 0) h))
         ∙ λ t. getD s i 0 ∷ merged (left n (i + 1) s) ((sym (left-cons m j d l hd) ∙ same-right) t)
+
+  -- Each list's next number, where it is not after the other's.
+  takes-left : i < n → (j < m → getD s i 0 ≤ getD d j 0) → Takes s d i n j m (getD s i 0) 1
+  takes-left k h = go (ltb j m) refl
+    where
+      go : (t : Bool) → ltb j m ≡ t → Takes s d i n j m (getD s i 0) 1
+      go true e = lower-left k (ltb-true j m e) (h (ltb-true j m e))
+      go false e = only-left (ltb-false j m e) k
+
+  takes-right : j < m → (i < n → getD d j 0 < getD s i 0) → Takes s d i n j m (getD d j 0) 0
+  takes-right k h = go (ltb i n) refl
+    where
+      go : (t : Bool) → ltb i n ≡ t → Takes s d i n j m (getD d j 0) 0
+      go true e = lower-right (ltb-true i n e) k (h (ltb-true i n e))
+      go false e = only-right (ltb-false i n e) k
+
+-- The same of variables in their fourteen places.
+abbrev noVar : PackedVar
+noVar = record { 0 = 0 }
+
+abbrev TakesVar : (vs us : List PackedVar) (i n j m : ℕ) (v : PackedVar) (l : ℕ) → Type 0
+TakesVar vs us i n j m v l = (l ≤ 1) × (i + l ≤ n) × (j + (1 - l) ≤ m) × Takes (nums vs) (nums us) i n j m (num v) l
+
+module _ (vs us : List PackedVar) (i n j m : ℕ) (es : length vs ≡ 14) (ed : length us ≡ 14) (hn : n ≤ 14) (hm : m ≤ 14) where
+  pub var-left : i < n → j ≤ m → (j < m → num (getD vs i noVar) ≤ num (getD us j noVar)) → TakesVar vs us i n j m (getD vs i noVar) 1
+  var-left k l h =
+      let x = List·getD-map num vs i noVar in
+      let y = List·getD-map num us j noVar in
+      let e = takes-left (nums vs) (nums us) i n j m (omega (arith, length-map vs num)) (omega (arith, length-map us num)) k (λ q. omega (arith, h q)) in
+      (omega arith, omega arith, omega arith, subst (λ (v : ℕ). Takes (nums vs) (nums us) i n j m v 1) x e)
+
+  pub var-right : i ≤ n → j < m → (i < n → num (getD us j noVar) < num (getD vs i noVar)) → TakesVar vs us i n j m (getD us j noVar) 0
+  var-right k l h =
+      let x = List·getD-map num vs i noVar in
+      let y = List·getD-map num us j noVar in
+      let e = takes-right (nums vs) (nums us) i n j m (omega (arith, length-map vs num)) (omega (arith, length-map us num)) l (λ q. omega (arith, h q)) in
+      (omega arith, omega arith, omega arith, subst (λ (v : ℕ). Takes (nums vs) (nums us) i n j m v 0) y e)
 
 -- The merge in the making: what is written, and what is left.
 abbrev pub Merging : (r s d : List ℕ) (i n j m : ℕ) → Type 0

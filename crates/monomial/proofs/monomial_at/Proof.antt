@@ -68,7 +68,8 @@ loop-less c = search needs
 
 -- src/lib.rt:31:5
 loop-again : tie.Need-loop-again Inv-loop μ-loop
-loop-again c = let a = c .before .before .before .before .args in
+loop-again c =
+    let a = c .before .before .before .before .args in
     let b = c .before .before .loop in
     let h = b .inv in
     let x : PackedVar = record { 0 = getD (a .words .now) (a .at + 2 + b .i) 0 } in
@@ -94,7 +95,8 @@ shared-slice-read-t9 c = search needs
 
 -- src/lib.rt:24:1
 returns : tie.Need-returns Inv-loop μ-loop
-returns c = let a = c .before .before .before .before .args in
+returns c =
+    let a = c .before .before .before .before .args in
     let b = c .before .before .loop in
     let h = b .inv in
     let q : b .i ≡ getD (a .words .now) (a .at) 0 = omega arith in

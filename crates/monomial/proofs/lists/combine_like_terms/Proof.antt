@@ -1,13 +1,12 @@
-use mathlib.Core.Path.{_≡_, sym, ap, subst, _∙_}
-use mathlib.Core.List.{List, _++_}
-use Prim.Native.Nat.{ℕ, suc, _+_}
+use mathlib.Core.Path.{sym, subst, _∙_}
+use mathlib.Core.List.{List}
+use Prim.Native.Nat.{ℕ}
 use native.Mathlib.Omega.{arith}
 use borrow.Author.Needs.{needs}
-use lib.ListN.{getD, take, drop}
 use Rattle.semantics.specs.Arithmetic.{prime}
 use Rattle.semantics.specs.Monomial as semantics
 use Rattle.monomial.specs.Words.{monomialOf, held}
-use Rattle.monomial.specs.Places.{one, Stands}
+use Rattle.monomial.specs.Places.{Stands}
 use Rattle.monomial.proofs.Rows.{held-count}
 use Rattle.monomial.proofs.Inserting.{insert-gap, insert-at}
 use Rattle.monomial.proofs.lists.combine_like_terms.Statement.{statement}
@@ -25,7 +24,8 @@ enum-known-found c = search needs
 
 -- src/lists.rt:30:25
 sum-at-requires : tie.Need-sum-at-requires
-sum-at-requires c κs = let a = c .before .before .before .before .before .before .before .args in
+sum-at-requires c κs =
+    let a = c .before .before .before .before .before .before .before .args in
     let s = subst (Stands (monomialOf (a .m)) (held (a .count) (a .work .now))) (c .before .before .found .given .1) (c .before .before .before .before .find-monomial .ensures) in
     (omega (arith, s .0, held-count (a .count) (a .work .now)), omega arith, c .before .before .before .before .before .before .before .pre .1 .room)
 
@@ -35,7 +35,8 @@ enum-known-found-2 c = search needs
 
 -- src/lists.rt:31:26
 insert-at-requires : tie.Need-insert-at-requires
-insert-at-requires c κs = let a = c .before .before .before .before .before .before .before .args in
+insert-at-requires c κs =
+    let a = c .before .before .before .before .before .before .before .args in
     let s = subst (Stands (monomialOf (a .m)) (held (a .count) (a .work .now))) (c .before .before .found2 .given .1) (c .before .before .before .before .find-monomial .ensures) in
     (omega (arith, s .0, held-count (a .count) (a .work .now)), omega arith, c .before .before .before .before .before .before .before .pre .1 .room, omega arith)
 
@@ -45,16 +46,13 @@ same-length c = search needs
 
 -- src/lists.rt:24:1
 returns : tie.Need-returns
-returns c = let a = c .before .before .before .before .before .before .before .before .before .before .args in
+returns c =
+    let a = c .before .before .before .before .before .before .before .before .before .before .args in
     let l : List semantics.Monomial = held (a .count) (a .work .now) in
     let s = subst (Stands (monomialOf (a .m)) l) (c .before .before .before .before .before .found .given .1) (c .before .before .before .before .before .before .before .find-monomial .ensures) in
     let k : ℕ = c .before .before .before .before .before .found .given .0 .0 in
     let v = c .before .before .sum-at in
-    let n : k + 1 ≡ suc k = omega arith in (
-      v .ensures .0 ∙ ap (λ (i : ℕ). take k l ++ semantics.keep (semantics.plus prime (monomialOf (a .m)) (getD l k one)) (drop i l)) n
-          ∙ sym (insert-at prime (monomialOf (a .m)) l k (c .before .before .before .before .before .before .before .before .before .before .pre .1 .ascends) (s .0) (s .1)),
-      omega (arith, v .ensures .1),
-    )
+    (v .ensures .0 ∙ sym (insert-at prime (monomialOf (a .m)) l k (c .before .before .before .before .before .before .before .before .before .before .pre .1 .ascends) (s .0) (s .1)), omega (arith, v .ensures .1))
 
 -- src/lists.rt:24:1
 same-length-2 : tie.Need-same-length-2
@@ -62,7 +60,8 @@ same-length-2 c = search needs
 
 -- src/lists.rt:24:1
 returns-2 : tie.Need-returns-2
-returns-2 c = let a = c .before .before .before .before .before .before .before .before .before .before .args in
+returns-2 c =
+    let a = c .before .before .before .before .before .before .before .before .before .before .args in
     let l : List semantics.Monomial = held (a .count) (a .work .now) in
     let s = subst (Stands (monomialOf (a .m)) l) (c .before .before .before .before .before .found2 .given .1) (c .before .before .before .before .before .before .before .find-monomial .ensures) in
     let k : ℕ = c .before .before .before .before .before .found2 .given .0 .0 in

@@ -20,7 +20,8 @@ same-length c = search needs
 
 -- src/lists.rt:16:1
 returns : tie.Need-returns
-returns c = let a = c .before .before .before .before .before .args in
+returns c =
+    let a = c .before .before .before .before .before .args in
     let v = c .before .before .put-slot in
     let e : length (nums (a .m .vars)) ≡ 14 = length-map (a .m .vars) num ∙ fourteen (a .m .vars) (c .before .before .before .before .before .good .1 .1 .0 .1 .1 .0 .1 .0 .1) in
     ap (held (a .k + 1)) (v .ensures) ∙ held-more (a .work .now) (nums (a .m .vars)) (drop (16 * a .k + 16) (a .work .now)) (a .k) (a .m .count) (a .m .coef) (omega arith) e

@@ -17,7 +17,8 @@ abbrev μ-loop : tie.MeasureT-loop
 
 -- src/shift.rt:25:5
 loop-holds : tie.Need-loop-holds Inv-loop μ-loop
-loop-holds c = let a = c .args in
+loop-holds c =
+    let a = c .args in
     (search needs, search needs, refl, lowered-none (a .s .now) (a .at) (a .by))
 
 -- src/shift.rt:25:15
@@ -54,7 +55,8 @@ loop-less c = search needs
 
 -- src/shift.rt:25:5
 loop-again : tie.Need-loop-again Inv-loop μ-loop
-loop-again c = let a = c .before .before .before .args in
+loop-again c =
+    let a = c .before .before .before .args in
     let b = c .before .before .loop in
     (omega arith, omega arith, length-set (b .s) _ _ ∙ b .inv .2, lowered-more (b .s) (a .s .now) (a .at) (b .i) (a .by) (omega arith) (omega arith) (b .inv .3) (omega arith))
 
@@ -64,7 +66,8 @@ same-length c = search needs
 
 -- src/shift.rt:20:1
 returns : tie.Need-returns Inv-loop μ-loop
-returns c = let a = c .before .before .args in
+returns c =
+    let a = c .before .before .args in
     let b = c .before .loop in
     lowered-all (b .s) (a .s .now) (a .at) (b .i) (a .by) (omega arith) (omega arith) (b .inv .3) (a .end) (omega arith)
 

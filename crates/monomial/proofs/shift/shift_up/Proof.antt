@@ -18,7 +18,8 @@ abbrev μ-loop : tie.MeasureT-loop
 
 -- src/shift.rt:13:5
 loop-holds : tie.Need-loop-holds Inv-loop μ-loop
-loop-holds c = let a = c .args in
+loop-holds c =
+    let a = c .args in
     (search needs, search needs, refl, raised-none (a .s .now) (a .end) (a .by))
 
 -- src/shift.rt:14:9
@@ -51,7 +52,8 @@ loop-less c = search needs
 
 -- src/shift.rt:13:5
 loop-again : tie.Need-loop-again Inv-loop μ-loop
-loop-again c = let a = c .before .before .before .args in
+loop-again c =
+    let a = c .before .before .before .args in
     let b = c .before .before .loop in
     (omega arith, omega arith, length-set (b .s) _ _ ∙ b .inv .2, raised-more (b .s) (a .s .now) (b .i) (b .i - 1) (a .end) (a .by) (omega arith) (omega arith) (omega arith) (b .inv .3))
 
@@ -61,7 +63,8 @@ same-length c = search needs
 
 -- src/shift.rt:8:1
 returns : tie.Need-returns Inv-loop μ-loop
-returns c = let a = c .before .before .args in
+returns c =
+    let a = c .before .before .args in
     let b = c .before .loop in
     b .inv .3 ∙ ap (λ (i : ℕ). take (i + a .by) (a .s .now) ++ (take (a .end - i) (drop i (a .s .now)) ++ drop (a .end + a .by) (a .s .now))) (omega arith)
 

@@ -20,7 +20,8 @@ abbrev μ-loop : tie.MeasureT-loop
 
 -- src/slots.rt:58:5
 loop-holds : tie.Need-loop-holds Inv-loop μ-loop
-loop-holds c = let a = c .before .before .args in
+loop-holds c =
+    let a = c .before .before .args in
     (omega arith, omega arith, λ i h. absurd (omega arith), λ i h k. absurd (omega (arith, held-count (a .count) (a .work .now))))
 
 -- src/slots.rt:59:18
@@ -49,7 +50,8 @@ enum-told c = search needs
 
 -- src/slots.rt:63:17
 returns : tie.Need-returns Inv-loop μ-loop
-returns c = let a = c .before .before .before .before .before .before .before .before .args in
+returns c =
+    let a = c .before .before .before .before .before .before .before .before .args in
     let b = c .before .before .before .before .before .loop in
     let l = held-count (a .count) (a .work .now) in (
       omega arith,
@@ -71,7 +73,8 @@ loop-less c = search needs
 
 -- src/slots.rt:58:5
 loop-again : tie.Need-loop-again Inv-loop μ-loop
-loop-again c = let a = c .before .before .before .before .before .before .before .before .args in
+loop-again c =
+    let a = c .before .before .before .before .before .before .before .before .args in
     let b = c .before .before .before .before .before .loop in
     let h = b .inv in (
       omega arith,
@@ -91,7 +94,8 @@ loop-less-2 c = search needs
 
 -- src/slots.rt:58:5
 loop-again-2 : tie.Need-loop-again-2 Inv-loop μ-loop
-loop-again-2 c = let a = c .before .before .before .before .before .before .before .before .args in
+loop-again-2 c =
+    let a = c .before .before .before .before .before .before .before .before .args in
     let b = c .before .before .before .before .before .loop in
     let h = b .inv in (
       omega arith,
@@ -103,7 +107,8 @@ loop-again-2 c = let a = c .before .before .before .before .before .before .befo
 
 -- src/slots.rt:50:1
 returns-2 : tie.Need-returns-2 Inv-loop μ-loop
-returns-2 c = let a = c .before .before .before .before .args in
+returns-2 c =
+    let a = c .before .before .before .before .args in
     let b = c .before .loop in
     let h = b .inv in
     let l = held-count (a .count) (a .work .now) in

@@ -14,7 +14,8 @@ use Rattle.monomial.proofs.slots.insert_at.Lts as lts
 
 -- src/slots.rt:83:9
 returns : tie.Need-returns
-returns c = let a = c .before .before .before .args in
+returns c =
+    let a = c .before .before .before .args in
     let l : List semantics.Monomial = held (a .count) (a .work .now) in
     (sym (ap (λ (r : List semantics.Monomial). take (a .k) l ++ r) (keep-zero (monomialOf (a .m)) (drop (a .k) l) (c .if1 .taken)) ∙ take-append-drop (a .k) l), omega arith)
 
@@ -44,7 +45,8 @@ same-length c = search needs
 
 -- src/slots.rt:78:1
 returns-2 : tie.Need-returns-2
-returns-2 c = let a = c .before .before .before .before .before .before .before .before .before .before .before .args in
+returns-2 c =
+    let a = c .before .before .before .before .before .before .before .before .before .before .before .args in
     let l : List semantics.Monomial = held (a .count) (a .work .now) in
     let e : length (nums (a .m .vars)) ≡ 14 = length-map (a .m .vars) num ∙ fourteen (a .m .vars) (c .before .before .before .before .before .before .before .before .before .before .before .good .1 .1 .1 .0 .1 .1 .0 .1 .0 .1) in (
       held-put (a .work .now) (a .k) (a .count) (omega arith) (omega arith) (a .m .count) (a .m .coef) (nums (a .m .vars)) _ _ (omega arith) e (c .before .before .before .before .before .before .shift-up .ensures) (c .before .before .put-slot .ensures)

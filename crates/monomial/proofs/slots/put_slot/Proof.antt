@@ -48,7 +48,8 @@ slice-write-work-2 c = simp length-set (omega arith)
 
 -- src/slots.rt:33:5
 loop-holds : tie.Need-loop-holds Inv-loop μ-loop
-loop-holds c = let a = c .before .before .args in
+loop-holds c =
+    let a = c .before .before .args in
     (search needs, fourteen (a .m .vars) (c .before .before .good .1 .1 .0 .1 .1 .0 .1 .0 .1), refl, paste-zero _ (16 * a .k + 2) (nums (a .m .vars)))
 
 -- src/slots.rt:34:17
@@ -73,7 +74,8 @@ mul-work-3 c = search needs
 
 -- src/slots.rt:35:9
 slice-write-work-3 : tie.Need-slice-write-work-3 Inv-loop μ-loop
-slice-write-work-3 c = let b = c .before .before .loop in
+slice-write-work-3 c =
+    let b = c .before .before .loop in
     let h = b .inv in
     let l = length-set (c .before .before .before .before .before .args .work .now) (16 * c .before .before .before .before .before .args .k) (c .before .before .before .before .before .args .m .count) in
     let l2 = length-set (set (c .before .before .before .before .before .args .work .now) (16 * c .before .before .before .before .before .args .k) (c .before .before .before .before .before .args .m .count)) (16 * c .before .before .before .before .before .args .k + 1) (c .before .before .before .before .before .args .m .coef) in
@@ -89,7 +91,8 @@ loop-less c = search needs
 
 -- src/slots.rt:33:5
 loop-again : tie.Need-loop-again Inv-loop μ-loop
-loop-again c = let a = c .before .before .before .before .before .args in
+loop-again c =
+    let a = c .before .before .before .before .before .args in
     let b = c .before .before .loop in
     let h = b .inv in
     let l = length-set (a .work .now) (16 * a .k) (a .m .count) in
@@ -99,13 +102,15 @@ loop-again c = let a = c .before .before .before .before .before .args in
 
 -- src/slots.rt:24:1
 same-length : tie.Need-same-length Inv-loop μ-loop
-same-length c = let b = c .before .loop in
+same-length c =
+    let b = c .before .loop in
     let a = c .before .before .before .before .args in
     b .inv .2 ∙ length-set (set (a .work .now) (16 * a .k) (a .m .count)) (16 * a .k + 1) (a .m .coef) ∙ length-set (a .work .now) (16 * a .k) (a .m .count)
 
 -- src/slots.rt:24:1
 returns : tie.Need-returns Inv-loop μ-loop
-returns c = let b = c .before .loop in
+returns c =
+    let b = c .before .loop in
     let a = c .before .before .before .before .args in
     let h = b .inv in
     let q : b .i ≡ 14 = omega arith in

@@ -50,7 +50,8 @@ same-length c = search needs
 
 -- src/slots.rt:98:9
 returns : tie.Need-returns
-returns c = let a = c .before .before .before .before .before .before .before .before .args in
+returns c =
+    let a = c .before .before .before .before .before .before .before .before .args in
     let v = c .before .before .before .before .before .add in
     (sum-out (a .work .now) (a .k) (a .count) (omega arith) prime (monomialOf (a .m)) (omega arith) (v .result) (v .ensures) (c .before .before .before .before .if1 .taken) _ (c .before .before .shift-down .ensures), omega arith)
 
@@ -76,7 +77,8 @@ same-length-2 c = search needs
 
 -- src/slots.rt:91:1
 returns-2 : tie.Need-returns-2
-returns-2 c = let a = c .before .before .before .before .args in
+returns-2 c =
+    let a = c .before .before .before .before .args in
     let v = c .before .add in
     (sum-kept (a .work .now) (a .k) (a .count) (omega arith) prime (monomialOf (a .m)) (omega arith) (v .result) (v .ensures) (c .if1 .left), omega arith)
 

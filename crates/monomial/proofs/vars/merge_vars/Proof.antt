@@ -21,7 +21,8 @@ abbrev μ-loop : tie.MeasureT-loop
 
 -- src/vars.rt:76:5
 loop-holds : tie.Need-loop-holds Inv-loop μ-loop
-loop-holds c = let a = c .args in
+loop-holds c =
+    let a = c .args in
     (search needs, search needs, search needs, merging-none [] (nums (a .a)) (nums (a .b)) (a .n) (a .m))
 
 -- src/vars.rt:76:11
@@ -66,7 +67,8 @@ loop-less c = omega (arith, c .before .before .before .next-var .ensures)
 
 -- src/vars.rt:76:5
 loop-again : tie.Need-loop-again Inv-loop μ-loop
-loop-again c = let a = c .before .before .before .before .before .before .args in
+loop-again c =
+    let a = c .before .before .before .before .before .before .args in
     let b = c .before .before .before .before .before .loop in
     let h = b .inv in
     let v = c .before .before .before .next-var in
@@ -81,7 +83,8 @@ loop-again c = let a = c .before .before .before .before .before .before .args i
 
 -- src/vars.rt:69:1
 returns : tie.Need-returns Inv-loop μ-loop
-returns c = let a = c .before .before .args in
+returns c =
+    let a = c .before .before .args in
     let b = c .before .loop in
     let h = b .inv in
     merging-all (nums (b .r)) (nums (a .a)) (nums (a .b)) (b .i) (a .n) (b .j) (a .m) (h .0) (h .1) (omega arith) (h .3) (c .before .before .pre .1) (c .before .before .pre .2)

@@ -19,7 +19,8 @@ abbrev μ-loop : tie.MeasureT-loop
 
 -- src/vars.rt:24:9
 returns : tie.Need-returns Inv-loop μ-loop
-returns c = let a = c .before .args in
+returns c =
+    let a = c .before .args in
     let e : length (a .t4) ≡ 14 = search needs in
     let l = length-map (a .t4) num in
     let d = length-drop (a .at) (a .words .now) in
@@ -27,7 +28,8 @@ returns c = let a = c .before .args in
 
 -- src/vars.rt:27:9
 returns-2 : tie.Need-returns-2 Inv-loop μ-loop
-returns-2 c = let a = c .before .before .args in
+returns-2 c =
+    let a = c .before .before .args in
     let e : length (a .t4) ≡ 14 = search needs in
     let l = length-map (a .t4) num in
     let d = length-drop (a .at) (a .words .now) in
@@ -59,7 +61,8 @@ shared-slice-read-y c = search needs
 
 -- src/vars.rt:34:13
 returns-3 : tie.Need-returns-3 Inv-loop μ-loop
-returns-3 c = let a = c .before .before .before .before .before .before .args in
+returns-3 c =
+    let a = c .before .before .before .before .before .before .args in
     let b = c .before .before .before .loop in
     let h = b .inv in
     let l = length-map (a .t4) num in
@@ -70,7 +73,8 @@ returns-3 c = let a = c .before .before .before .before .before .before .args in
 
 -- src/vars.rt:37:13
 returns-4 : tie.Need-returns-4 Inv-loop μ-loop
-returns-4 c = let a = c .before .before .before .before .before .before .before .args in
+returns-4 c =
+    let a = c .before .before .before .before .before .before .before .args in
     let b = c .before .before .before .before .loop in
     let h = b .inv in
     let l = length-map (a .t4) num in
@@ -89,7 +93,8 @@ loop-less c = search needs
 
 -- src/vars.rt:30:5
 loop-again : tie.Need-loop-again Inv-loop μ-loop
-loop-again c = let a = c .before .before .before .before .before .before .before .args in
+loop-again c =
+    let a = c .before .before .before .before .before .before .before .args in
     let b = c .before .before .before .before .loop in
     let h = b .inv in
     let l = length-map (a .t4) num in
@@ -100,7 +105,8 @@ loop-again c = let a = c .before .before .before .before .before .before .before
 
 -- src/vars.rt:19:1
 returns-5 : tie.Need-returns-5 Inv-loop μ-loop
-returns-5 c = let a = c .before .before .before .before .args in
+returns-5 c =
+    let a = c .before .before .before .before .args in
     let b = c .before .loop in
     let h = b .inv in
     let l = length-map (a .t4) num in
