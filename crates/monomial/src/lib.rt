@@ -14,6 +14,7 @@ mod kinds;
 mod list_steps;
 pub mod lists;
 mod shift;
+mod slots;
 pub mod vars;
 
 // A monomial in hand: fourteen places for variables, of which the first `count` are used.
@@ -47,11 +48,23 @@ pub fn multiply(l: Monomial, r: Monomial) -> Monomial
     requires { ⌜ (l .count + r .count ≤ 14) × Sorted above (monomialOf l .vars) × Sorted above (monomialOf r .vars) ⌝ }
     ensures { λ x. ⌜ (monomialOf x ≡ mulMonomial prime (monomialOf l) (monomialOf r)) × (x .count ≡ l .count + r .count) ⌝ }
 {
-    l
+    let left = l.vars;
+    let right = r.vars;
+    let vars = vars::merge_vars(left, l.count, right, r.count);
+    Monomial {
+        vars: vars,
+        count: l.count + r.count,
+        coef: field::mul(l.coef, r.coef),
+    }
 }
 
 pub fn negative(m: Monomial) -> Monomial
     ensures { λ x. ⌜ (monomialOf x ≡ negMonomial prime (monomialOf m)) × (x .count ≡ m .count) ⌝ }
 {
-    m
+    let vars = m.vars;
+    Monomial {
+        vars: vars,
+        count: m.count,
+        coef: field::neg(m.coef),
+    }
 }

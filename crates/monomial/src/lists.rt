@@ -17,19 +17,27 @@ use crate::list_steps::with_sign;
 use crate::list_steps::write_row;
 use crate::monomial_at;
 use crate::negative;
+use crate::slots;
+use crate::slots::Found;
 
 // A monomial goes behind the first k of the work list.
 pub fn put_monomial(work: &mut [u32], k: usize, m: Monomial)
     requires { ⌜ (m .count ≤ 14) × (16 * k + 16 ≤ length (now work)) ⌝ }
     ensures { λ _. ⌜ held (k + 1) (now (work .exit)) ≡ held k (now (work .entry)) ++ (monomialOf m ∷ []) ⌝ }
-{}
+{
+    slots::put_slot(work, k, m)
+}
 
 // Sums a monomial into the work list, and hands back how many monomials it has then.
 pub fn combine_like_terms(work: &mut [u32], count: usize, m: Monomial) -> usize
     requires { ⌜ (count + 1 ≤ 256) × Summed count (now work) × (m .count ≤ 14) × Fits (monomialOf m) ⌝ }
     ensures { λ r. ⌜ (held r (now (work .exit)) ≡ insertMonomial prime (monomialOf m) (held count (now (work .entry)))) × (r ≤ count + 1) ⌝ }
 {
-    0
+    let found = slots::find_monomial(work, count, m);
+    match found {
+        Found::At(k) => slots::sum_at(work, count, k, m),
+        Found::Gap(k) => slots::insert_at(work, count, k, m),
+    }
 }
 
 // Sums the n monomials that stand at `at` into the work list, negated or not.
