@@ -1,5 +1,6 @@
 pub mod Canons
 pub mod ListLaws
+pub mod Readings
 pub mod Sizes
 pub mod Summing
 pub mod RowWords

@@ -1,10 +1,13 @@
 -- Lists of monomials as words: what is written is read back, one monomial after another.
 use mathlib.Core.Path.{_≡_, refl, sym, _∙_, ap, subst}
+use mathlib.Core.Bool.{Bool, true, false}
 use mathlib.Core.List.{List, [], _∷_, _++_, flatMap, append-assoc}
-use Prim.Native.Nat.{ℕ, zero, suc, _+_, _*_, _-_, _≤_, _<_}
+use Prim.Native.Nat.{ℕ, suc, _+_, _*_, _-_, _≤_, _<_, min}
+use lib.Dec.{leb}
+use borrow.Author.Tests.{leb-true, leb-false}
 use native.Mathlib.Omega.{arith}
-use lib.ListN.{length, getD, take, drop, length-append, length-take, length-drop, take-append-drop}
-use lib.Seq.{take-append-seam, drop-at, take-add, drop-drop, getD-drop}
+use lib.ListN.{drop-of-length-le, length, getD, take, drop, length-append, length-take, length-drop, take-append-drop}
+use lib.Seq.{take-append-seam, drop-at, drop-drop, getD-drop}
 use Rattle.semantics.specs.Monomial.{Monomial}
 use Rattle.semantics.specs.Expand.{listSize}
 use Rattle.semantics.proofs.Sorting.{All}
@@ -85,7 +88,6 @@ module _ (words : List ℕ) (at : ℕ) (ms : List Monomial) (e : take (listSize 
   pub list-fits : at + listSize ms ≤ length words → All Fits ms → ListFits words at (length ms)
   list-fits h f = record {
     inside = rw list-there h;
-    words-are = rw list-there e;
     fit = rw list-there f;
   }
 
@@ -112,64 +114,58 @@ list-in-suc words at n =
     drop-drop (2 + getD (drop at words) 0 0) at words ∙ ap (λ (k : ℕ). drop k words) k in
     list-suc n (drop at words) ∙ rw d
 
-pub record Front (words : List ℕ) (at n : ℕ) : Type 0 where
-  pub short : getD words at 0 ≤ 14
-  pub room : at + 2 + getD words at 0 ≤ length words
-  pub count-is : length (readMonomial (drop at words) .vars) ≡ getD words at 0
-  pub one : Fits (readMonomial (drop at words))
-  pub list-is : listIn words at (suc n) ≡ readMonomial (drop at words) ∷ listIn words (at + 2 + getD words at 0) n
-  pub rest : ListFits words (at + 2 + getD words at 0) n
+-- How many variables of the monomial that stands at `at` are inside the words.
+abbrev pub varsIn : List ℕ → ℕ → ℕ
+varsIn words at = length (readMonomial (drop at words) .vars)
 
-first-word : (m : Monomial) (rest ws : List ℕ) (k : ℕ) → take k ws ≡ monomialWords m ++ rest → getD ws 0 0 ≡ length (m .vars)
-unfolding monomialWords
-first-word m rest ws zero e = absurd (omega (arith, ap length e))
-first-word m rest [] (suc k) e = absurd (omega (arith, ap length e))
-first-word m rest (w ∷ ws) (suc k) e = ap (λ (l : List ℕ). getD l 0 0) e
+pub vars-in-is : (words : List ℕ) (at : ℕ) → varsIn words at ≡ min (getD words at 0) (length words - (at + 2))
+unfolding readMonomial
+vars-in-is words at =
+    omega (arith, length-take (getD (drop at words) 0 0) (drop 2 (drop at words)), length-drop 2 (drop at words), length-drop at words, getD-front words at)
 
--- What stands behind a part that is known.
-rest-words : (a : ℕ) (ws p q : List ℕ) (k : ℕ) → length p ≡ a → take (a + k) ws ≡ p ++ q → take k (drop a ws) ≡ q
-rest-words a ws p q k h e = sym (drop-at (take a ws) (take k (drop a ws)) a l) ∙ ap (drop a) (sym (take-add a k ws) ∙ e) ∙ drop-at p q a h
+-- Past the end nothing is left, however far.
+drop-min : (l : List ℕ) (a b : ℕ) → drop (a + b) l ≡ drop (a + min b (length l - a)) l
+drop-min l a b = go (leb b (length l - a)) refl
   where
-    l : length (take a ws) ≡ a
-    l = omega (arith, ap length (sym (take-add a k ws) ∙ e), length-append (take a ws) (take k (drop a ws)), length-append p q, length-take a ws, length-take k (drop a ws), length-drop a ws)
+    go : (t : Bool) → leb b (length l - a) ≡ t → drop (a + b) l ≡ drop (a + min b (length l - a)) l
+    go true e =
+        let h = leb-true b (length l - a) e in
+        let m : a + b ≡ a + min b (length l - a) = omega arith in
+        ap (λ (k : ℕ). drop k l) m
+    go false e =
+        let h = leb-false b (length l - a) e in
+        let x : length l ≤ a + b = omega arith in
+        let y : length l ≤ a + min b (length l - a) = omega arith in
+        drop-of-length-le l x ∙ sym (drop-of-length-le l y)
+
+pub list-in-next : (words : List ℕ) (at n : ℕ) → listIn words at (suc n) ≡ readMonomial (drop at words) ∷ listIn words (at + 2 + varsIn words at) n
+list-in-next words at n =
+    let d : drop (at + 2 + getD words at 0) words ≡ drop (at + 2 + varsIn words at) words =
+    drop-min words (at + 2) (getD words at 0) ∙ ap (λ (k : ℕ). drop (at + 2 + k) words) (sym (vars-in-is words at)) in
+    list-in-suc words at n ∙ ap (λ (l : List ℕ). readMonomial (drop at words) ∷ readList n l) d
+
+pub record Front (words : List ℕ) (at n : ℕ) : Type 0 where
+  pub short : varsIn words at ≤ 14
+  pub room : at + 2 + varsIn words at ≤ length words
+  pub one : Fits (readMonomial (drop at words))
+  pub rest : ListFits words (at + 2 + varsIn words at) n
 
 pub front-of : (words : List ℕ) (at n : ℕ) → ListFits words at (suc n) → Front words at n
 front-of words at n h = record {
-  short = omega (arith, count, fits .0 .few);
-  room = omega (arith, inside, count);
-  count-is = count;
+  short = fits .0 .few;
+  room = omega (arith, inside);
   one = fits .0;
-  list-is = list-in-suc words at n;
-  rest = record { inside = omega (arith, inside, count); words-are = behind; fit = fits .1 };
+  rest = record { inside = omega (arith, inside); fit = fits .1 };
 }
   where
-    m : Monomial
-    m = readMonomial (drop at words)
-
     ms : List Monomial
-    ms = listIn words (at + 2 + getD words at 0) n
+    ms = listIn words (at + 2 + varsIn words at) n
 
-    fits : All Fits (m ∷ ms)
-    fits = rw (list-in-suc words at n) at (h .fit)
+    fits : All Fits (readMonomial (drop at words) ∷ ms)
+    fits = subst (All Fits) (list-in-next words at n) (h .fit)
 
-    sized : listSize (listIn words at (suc n)) ≡ 2 + length (m .vars) + listSize ms
-    sized = ap listSize (list-in-suc words at n) ∙ size-cons m ms
-
-    inside : at + (2 + length (m .vars) + listSize ms) ≤ length words
-    inside = omega (arith, h .inside, sized)
-
-    there : take (2 + length (m .vars) + listSize ms) (drop at words) ≡ monomialWords m ++ listWords ms
-    there = ap (λ (k : ℕ). take k (drop at words)) (sym sized) ∙ h .words-are ∙ ap listWords (list-in-suc words at n) ∙ words-cons m ms
-
-    count : length (m .vars) ≡ getD words at 0
-    count = sym (first-word m (listWords ms) (drop at words) (2 + length (m .vars) + listSize ms) there) ∙ getD-front words at
-
-    behind : take (listSize ms) (drop (at + 2 + getD words at 0) words) ≡ listWords ms
-    behind =
-        let k : at + 2 + getD words at 0 ≡ at + (2 + length (m .vars)) = omega (arith, count) in
-        ap (λ (k : ℕ). take (listSize ms) (drop k words)) k
-        ∙ ap (take (listSize ms)) (sym (drop-drop (2 + length (m .vars)) at words))
-        ∙ rest-words (2 + length (m .vars)) (drop at words) (monomialWords m) (listWords ms) (listSize ms) (one-length m) there
+    inside : at + (2 + varsIn words at + listSize ms) ≤ length words
+    inside = omega (arith, h .inside, ap listSize (list-in-next words at n) ∙ size-cons (readMonomial (drop at words)) ms)
 
 -- What is left of n monomials after i, at `from`; s is the number of variables of the next.
 module _ (words : List ℕ) (from n i : ℕ) (h : i < n) where
@@ -179,10 +175,10 @@ module _ (words : List ℕ) (from n i : ℕ) (h : i < n) where
   pub left-front : ListFits words from (n - i) → Front words from (n - (i + 1))
   left-front l = front-of words from (n - (i + 1)) (subst (ListFits words from) more l)
 
-  pub left-cons : (s : ℕ) → s ≡ getD words from 0 → listIn words from (n - i) ≡ readMonomial (drop from words) ∷ listIn words (from + 2 + s) (n - (i + 1))
-  left-cons s e = ap (listIn words from) more ∙ list-in-suc words from (n - (i + 1)) ∙ ap (λ (k : ℕ). readMonomial (drop from words) ∷ listIn words (from + 2 + k) (n - (i + 1))) (sym e)
+  pub left-cons : (s : ℕ) → s ≡ varsIn words from → listIn words from (n - i) ≡ readMonomial (drop from words) ∷ listIn words (from + 2 + s) (n - (i + 1))
+  left-cons s e = ap (listIn words from) more ∙ list-in-next words from (n - (i + 1)) ∙ ap (λ (k : ℕ). readMonomial (drop from words) ∷ listIn words (from + 2 + k) (n - (i + 1))) (sym e)
 
-  pub left-rest : (s : ℕ) → s ≡ getD words from 0 → ListFits words from (n - i) → ListFits words (from + 2 + s) (n - (i + 1))
+  pub left-rest : (s : ℕ) → s ≡ varsIn words from → ListFits words from (n - i) → ListFits words (from + 2 + s) (n - (i + 1))
   left-rest s e l = subst (λ (k : ℕ). ListFits words (from + 2 + k) (n - (i + 1))) (sym e) (left-front l .rest)
 
 -- All or none is left.

@@ -1,16 +1,16 @@
 -- Loops over products of monomials that are summed.
 use mathlib.Core.Path.{_≡_, refl, sym, _∙_, ap, subst}
 use mathlib.Core.List.{List, [], _∷_, _++_, map}
-use Prim.Native.Nat.{ℕ, _+_, _*_, _-_, _≤_, _<_, max}
+use Prim.Native.Nat.{ℕ, _+_, _*_, _-_, _≤_, _<_}
 use native.Mathlib.Nat.{mul-le-mul-right}
 use native.Mathlib.Omega.{arith}
-use lib.ListN.{length, getD, take, drop, length-take}
+use lib.ListN.{length, take, drop, length-take}
 use Rattle.semantics.specs.Arithmetic.{prime}
 use Rattle.semantics.specs.Monomial.{Monomial, mulMonomial, products}
 use Rattle.semantics.proofs.Sorting.{All}
 use Rattle.monomial.specs.Words.{readMonomial, listIn, longestOf, held, insertAll, Fits, ListFits, Summed}
 use Rattle.monomial.proofs.Canons.{sum-nil, sum-append, asc-sum, fits-sum, fits-product}
-use Rattle.monomial.proofs.ListLaws.{left-cons, left-rest, left-all, none-left}
+use Rattle.monomial.proofs.ListLaws.{varsIn, left-cons, left-rest, left-all, none-left}
 use Rattle.monomial.proofs.Sizes.{longest-cons, longest-left, held-zero}
 
 pub products-nil : (p : ℕ) (ys : List Monomial) → products p [] ys ≡ []
@@ -22,12 +22,12 @@ unfolding products
 products-cons p x xs ys = refl
 
 -- What is left is no longer than the bound on all: so is the next, and what is left after it.
-module _ (pool : List ℕ) (from n i bound : ℕ) (h : i < n) (l : ListFits pool from (n - i)) (b : longestOf (listIn pool from (n - i)) ≤ bound) where
-  pub short-first : getD pool from 0 ≤ bound
-  short-first = omega (arith, longest-left pool from n i (getD pool from 0) h refl l)
+module _ (pool : List ℕ) (from n i bound : ℕ) (h : i < n) (b : longestOf (listIn pool from (n - i)) ≤ bound) where
+  pub short-first : varsIn pool from ≤ bound
+  short-first = omega (arith, longest-left pool from n i (varsIn pool from) h refl)
 
-  pub short-rest : (s : ℕ) → s ≡ getD pool from 0 → longestOf (listIn pool (from + 2 + s) (n - (i + 1))) ≤ bound
-  short-rest s e = omega (arith, longest-left pool from n i s h e l)
+  pub short-rest : (s : ℕ) → s ≡ varsIn pool from → longestOf (listIn pool (from + 2 + s) (n - (i + 1))) ≤ bound
+  short-rest s e = omega (arith, longest-left pool from n i s h e)
 
 pub short-all : (pool : List ℕ) (at n : ℕ) → longestOf (listIn pool at (n - 0)) ≤ longestOf (listIn pool at n)
 short-all pool at n = let z : n - 0 ≡ n = omega arith in omega (arith, ap (λ (k : ℕ). longestOf (listIn pool at k)) z)
@@ -72,7 +72,7 @@ module _ (pool : List ℕ) (left n right m : ℕ) (work₀ : List ℕ) where
   row-room total i t h b = let k : i + 1 ≤ n = omega arith in omega (arith, mul-le-mul-right m k)
 
   pub multiplying-more : (work work₁ : List ℕ) (total next from i s : ℕ) (x : Monomial) → Multiplying pool left n right m work₀ work total from i → i < n
-      → s ≡ getD pool from 0 → length work₁ ≡ length work → x ≡ readMonomial (drop from pool)
+      → s ≡ varsIn pool from → length work₁ ≡ length work → x ≡ readMonomial (drop from pool)
       → length (x .vars) + longestOf (listIn pool right m) ≤ 14
       → held next work₁ ≡ insertAll (map (mulMonomial prime x) (listIn pool right m)) (held total work) → next ≤ total + m
       → Multiplying pool left n right m work₀ work₁ next (from + 2 + s) (i + 1)
@@ -86,7 +86,7 @@ module _ (pool : List ℕ) (left n right m : ℕ) (work₀ : List ℕ) where
     };
     few = omega (arith, g .few);
     rest = left-rest pool from n i h s e (g .rest);
-    short = short-rest pool from n i (longestOf (listIn pool left n)) h (g .rest) (g .short) s e;
+    short = short-rest pool from n i (longestOf (listIn pool left n)) h (g .short) s e;
     all-is =
         ap (insertAll others) q ∙ sym (sum-append row others (held total work))
         ∙ ap (λ (l : List Monomial). insertAll l (held total work)) (sym (products-cons prime x (listIn pool (from + 2 + s) (n - (i + 1))) (listIn pool right m)))

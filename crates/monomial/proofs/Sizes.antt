@@ -9,7 +9,7 @@ use Rattle.semantics.specs.Monomial.{Monomial}
 use Rattle.semantics.specs.Expand.{listSize}
 use Rattle.semantics.specs.Group.{rows}
 use Rattle.monomial.specs.Words.{readMonomial, listIn, longestOf, held, ListFits}
-use Rattle.monomial.proofs.ListLaws.{size-nil, size-cons, size-append, getD-front, left-front, left-cons, left-rest, left-all, none-left}
+use Rattle.monomial.proofs.ListLaws.{size-nil, size-cons, size-append, getD-front, varsIn, left-cons, left-rest, left-all, none-left}
 
 pub longest-cons : (m : Monomial) (ms : List Monomial) → longestOf (m ∷ ms) ≡ max (length (m .vars)) (longestOf ms)
 unfolding longestOf
@@ -20,11 +20,11 @@ unfolding longestOf
 longest-nil = refl
 
 -- The longest of what is left is the next or one behind it; s is the number of variables of the next.
-pub longest-left : (pool : List ℕ) (from n i s : ℕ) → i < n → s ≡ getD pool from 0 → ListFits pool from (n - i)
+pub longest-left : (pool : List ℕ) (from n i s : ℕ) → i < n → s ≡ varsIn pool from
     → longestOf (listIn pool from (n - i)) ≡ max s (longestOf (listIn pool (from + 2 + s) (n - (i + 1))))
-longest-left pool from n i s h e l =
+longest-left pool from n i s h e =
     ap longestOf (left-cons pool from n i h s e) ∙ longest-cons (readMonomial (drop from pool)) (listIn pool (from + 2 + s) (n - (i + 1)))
-    ∙ ap (λ (k : ℕ). max k (longestOf (listIn pool (from + 2 + s) (n - (i + 1))))) (left-front pool from n i h l .count-is ∙ sym e)
+    ∙ ap (λ (k : ℕ). max k (longestOf (listIn pool (from + 2 + s) (n - (i + 1))))) (sym e)
 
 -- The longest so far and the longest of what is left.
 pub record Longest (pool : List ℕ) (at n most from i : ℕ) : Type 0 where
@@ -38,12 +38,12 @@ module _ (pool : List ℕ) (at n : ℕ) where
       let z : n - 0 ≡ n = omega arith in
       record { i-le = omega arith; left = left-all pool at n l; most-is = omega (arith, ap (λ (k : ℕ). longestOf (listIn pool at k)) z) }
 
-  pub longest-more : (most from i s next : ℕ) → Longest pool at n most from i → i < n → s ≡ getD pool from 0 → next ≡ max most s
+  pub longest-more : (most from i s next : ℕ) → Longest pool at n most from i → i < n → s ≡ varsIn pool from → next ≡ max most s
       → Longest pool at n next (from + 2 + s) (i + 1)
   longest-more most from i s next l h e f = record {
     i-le = omega arith;
     left = left-rest pool from n i h s e (l .left);
-    most-is = omega (arith, longest-left pool from n i s h e (l .left), f, l .most-is);
+    most-is = omega (arith, longest-left pool from n i s h e, f, l .most-is);
   }
 
   pub longest-done : (most from i : ℕ) → Longest pool at n most from i → n ≤ i → most ≡ longestOf (listIn pool at n)

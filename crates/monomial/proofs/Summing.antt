@@ -10,7 +10,7 @@ use Rattle.semantics.specs.Monomial.{Monomial, negMonomial, insertMonomial}
 use Rattle.semantics.proofs.Combining.{asc-insert}
 use Rattle.monomial.specs.Words.{readMonomial, listIn, held, insertAll, signed, Fits, ListFits, Summed}
 use Rattle.monomial.proofs.Canons.{sum-nil, sum-cons, fits-insert, fits-negative}
-use Rattle.monomial.proofs.ListLaws.{left-cons, left-rest, left-all, none-left}
+use Rattle.monomial.proofs.ListLaws.{varsIn, left-cons, left-rest, left-all, none-left}
 use Rattle.monomial.proofs.Sizes.{held-zero}
 
 -- The negatives so far and those of what is left.
@@ -31,7 +31,7 @@ module _ (pool : List ℕ) (at n : ℕ) (work₀ : List ℕ) where
         all-is = rw (held-zero work₀) (ap (λ (k : ℕ). map (negMonomial prime) (listIn pool at k)) z);
       }
 
-  pub negating-more : (work work₁ : List ℕ) (from k s : ℕ) (y : Monomial) → Negating pool at n work₀ work from k → k < n → s ≡ getD pool from 0
+  pub negating-more : (work work₁ : List ℕ) (from k s : ℕ) (y : Monomial) → Negating pool at n work₀ work from k → k < n → s ≡ varsIn pool from
       → length work₁ ≡ length work → y ≡ negMonomial prime (readMonomial (drop from pool)) → held (k + 1) work₁ ≡ held k work ++ (y ∷ [])
       → Negating pool at n work₀ work₁ (from + 2 + s) (k + 1)
   negating-more work work₁ from k s y g h e l f q = record {
@@ -105,7 +105,7 @@ module _ (f : Monomial → Monomial) (pool : List ℕ) (at n count : ℕ) (work�
       }
 
   pub adding-more : (work work₁ : List ℕ) (total next from i s : ℕ) (y : Monomial) → Adding f pool at n count work₀ work total from i → i < n
-      → s ≡ getD pool from 0 → length work₁ ≡ length work → y ≡ f (readMonomial (drop from pool)) → Fits y
+      → s ≡ varsIn pool from → length work₁ ≡ length work → y ≡ f (readMonomial (drop from pool)) → Fits y
       → held next work₁ ≡ insertMonomial prime y (held total work) → next ≤ total + 1
       → Adding f pool at n count work₀ work₁ next (from + 2 + s) (i + 1)
   adding-more work work₁ total next from i s y g h e l p fit q b = record {

@@ -59,10 +59,9 @@ pub record Fits (m : semantics.Monomial) : Type 0 where
   pub sorted : Sorted above (m .vars)
   pub small : m .coef < prime
 
--- A list that stands whole in the words, with monomials that may be held.
+-- A list that stands in the words with monomials that may be held.
 pub record ListFits (words : List ℕ) (at n : ℕ) : Type 0 where
   pub inside : at + listSize (listIn words at n) ≤ length words
-  pub words-are : take (listSize (listIn words at n)) (drop at words) ≡ listWords (listIn words at n)
   pub fit : All Fits (listIn words at n)
 
 -- A work list that is summed so far: it ascends strictly, and more can be summed into it.

@@ -1,16 +1,22 @@
 // Single steps on lists of monomials.
 ghost use mathlib.Core.Path.{_≡_};
 ghost use mathlib.Core.List.{[], _∷_, _++_, map};
-ghost use Prim.Native.Nat.{_+_, _*_, _≤_, min, max};
+ghost use Prim.Native.Nat.{_+_, _*_, _-_, _≤_, min, max};
 ghost use lib.ListN.{length, getD, take, drop};
 ghost use Rattle.semantics.specs.Arithmetic.{prime};
 ghost use Rattle.semantics.specs.Monomial.{mulMonomial};
-ghost use Rattle.monomial.specs.Words.{monomialOf, held, listIn, longestOf, insertAll, signed, Fits, ListFits, Summed};
+ghost use Rattle.monomial.specs.Words.{monomialOf, readMonomial, held, listIn, longestOf, insertAll, signed, Fits, ListFits, Summed};
 use crate::Monomial;
 use crate::lists::combine_like_terms;
-use crate::monomial_at;
 use crate::multiply;
 use crate::negative;
+use packed_var::PackedVar;
+
+fn smaller(a: usize, b: usize) -> usize
+    ensures { λ r. ⌜ r ≡ min a b ⌝ }
+{
+    if a < b { a } else { b }
+}
 
 pub fn larger(a: usize, b: usize) -> usize
     ensures { λ r. ⌜ r ≡ max a b ⌝ }
@@ -18,7 +24,7 @@ pub fn larger(a: usize, b: usize) -> usize
     if a < b { b } else { a }
 }
 
-pub fn wide(w: u32) -> usize
+fn wide(w: u32) -> usize
     ensures { λ r. ⌜ r ≡ w ⌝ }
 {
     w as usize
@@ -29,8 +35,34 @@ pub fn slot_count(work: &[u32], k: usize) -> usize
     requires { ⌜ 16 * k + 16 ≤ length (now work) ⌝ }
     ensures { λ r. ⌜ r ≡ min (getD (now (work .entry)) (16 * k) 0) 14 ⌝ }
 {
-    let n = wide(work[16 * k]);
-    if n < 14 { n } else { 14 }
+    smaller(wide(work[16 * k]), 14)
+}
+
+// How many variables of the monomial that stands at `at` are inside the words.
+pub fn vars_in(words: &[u32], at: usize) -> usize
+    requires { ⌜ at + 2 ≤ length (now words) ⌝ }
+    ensures { λ r. ⌜ r ≡ length (readMonomial (drop at (now (words .entry))) .vars) ⌝ }
+{
+    smaller(wide(words[at]), words.len() - (at + 2))
+}
+
+// The monomial that stands at `at`; the words may end within its variables.
+pub fn monomial_in(words: &[u32], at: usize) -> Monomial
+    requires { ⌜ (at + 2 ≤ length (now words)) × (length (readMonomial (drop at (now words)) .vars) ≤ 14) ⌝ }
+    ensures { λ r. ⌜ (monomialOf r ≡ readMonomial (drop at (now (words .entry)))) × (r .count ≡ length (readMonomial (drop at (now (words .entry))) .vars)) ⌝ }
+{
+    let mut vars = [PackedVar(0); 14];
+    let count = vars_in(words, at);
+    let mut i: usize = 0;
+    while i < count {
+        vars[i] = PackedVar(words[at + 2 + i]);
+        i += 1;
+    }
+    Monomial {
+        vars: vars,
+        count: count,
+        coef: words[at + 1],
+    }
 }
 
 // Copies n words from `from` on to `at`.
@@ -81,7 +113,7 @@ pub fn combine_row(
     let mut from = at;
     let mut i: usize = 0;
     while i < m {
-        let right = monomial_at(pool, from);
+        let right = monomial_in(pool, from);
         let size = right.count;
         total = combine_like_terms(work, total, multiply(left, right));
         from = from + 2 + size;

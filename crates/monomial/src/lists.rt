@@ -11,11 +11,11 @@ ghost use Rattle.monomial.specs.Words.{monomialOf, held, listIn, listWor
 use crate::Monomial;
 use crate::list_steps::combine_row;
 use crate::list_steps::larger;
+use crate::list_steps::monomial_in;
 use crate::list_steps::slot_count;
-use crate::list_steps::wide;
+use crate::list_steps::vars_in;
 use crate::list_steps::with_sign;
 use crate::list_steps::write_row;
-use crate::monomial_at;
 use crate::negative;
 use crate::slots;
 use crate::slots::Found;
@@ -56,7 +56,7 @@ pub fn combine_list(
     let mut from = at;
     let mut i: usize = 0;
     while i < n {
-        let m = monomial_at(pool, from);
+        let m = monomial_in(pool, from);
         let size = m.count;
         total = combine_like_terms(work, total, with_sign(m, negated));
         from = from + 2 + size;
@@ -73,7 +73,7 @@ pub fn negate_list(work: &mut [u32], pool: &[u32], at: usize, n: usize)
     let mut from = at;
     let mut k: usize = 0;
     while k < n {
-        let m = monomial_at(pool, from);
+        let m = monomial_in(pool, from);
         let size = m.count;
         put_monomial(work, k, negative(m));
         from = from + 2 + size;
@@ -97,7 +97,7 @@ pub fn multiply_lists(
     let mut from = left;
     let mut i: usize = 0;
     while i < n {
-        let l = monomial_at(pool, from);
+        let l = monomial_in(pool, from);
         let size = l.count;
         total = combine_row(work, total, pool, l, right, m);
         from = from + 2 + size;
@@ -115,7 +115,7 @@ pub fn longest(pool: &[u32], at: usize, n: usize) -> usize
     let mut from = at;
     let mut i: usize = 0;
     while i < n {
-        let size = wide(pool[from]);
+        let size = vars_in(pool, from);
         most = larger(most, size);
         from = from + 2 + size;
         i += 1;

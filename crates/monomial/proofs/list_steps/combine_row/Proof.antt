@@ -17,7 +17,7 @@ use Rattle.monomial.proofs.list_steps.combine_row.Tie as tie
 use Rattle.monomial.proofs.list_steps.combine_row.Reads as reads
 use Rattle.monomial.proofs.list_steps.combine_row.Lts as lts
 use Rattle.monomial.proofs.lists.combine_like_terms.Reads as combine-like-terms-reads
-use Rattle.monomial.proofs.monomial_at.Reads as monomial-at-reads
+use Rattle.monomial.proofs.list_steps.monomial_in.Reads as monomial-in-reads
 use Rattle.monomial.proofs.multiply.Reads as multiply-reads
 
 abbrev Inv-loop : tie.InvT-loop
@@ -33,21 +33,21 @@ loop-holds c =
     (adding-none (mulMonomial prime (monomialOf (a .left))) (a .pool .now) (a .at) (a .m) (a .count) (a .work .now) (c .before .before .pre .1) (c .before .before .pre .2), short-all (a .pool .now) (a .at) (a .m))
 
 -- src/list_steps.rt:76:13
-monomial-at-requires : tie.Need-monomial-at-requires Inv-loop μ-loop
-monomial-at-requires c κs =
+monomial-in-requires : tie.Need-monomial-in-requires Inv-loop μ-loop
+monomial-in-requires c κs =
     let a = c .before .before .before .before .args in
     let b = c .before .loop in
     let f = left-front (a .pool .now) (b .from) (a .m) (b .i) (omega arith) (b .inv .0 .left) in
-    (f .short, f .room)
+    (omega (arith, f .room), f .short)
 
 -- src/list_steps.rt:78:49
 multiply-requires : tie.Need-multiply-requires Inv-loop μ-loop
 multiply-requires c κs =
     let a = c .before .before .before .before .before .before .args in
     let b = c .before .before .before .loop in
-    let r = c .before .monomial-at in
+    let r = c .before .monomial-in in
     let f = left-front (a .pool .now) (b .from) (a .m) (b .i) (omega arith) (b .inv .0 .left) in
-    let k = short-first (a .pool .now) (b .from) (a .m) (b .i) (longestOf (listIn (a .pool .now) (a .at) (a .m))) (omega arith) (b .inv .0 .left) (b .inv .1) in
+    let k = short-first (a .pool .now) (b .from) (a .m) (b .i) (longestOf (listIn (a .pool .now) (a .at) (a .m))) (omega arith) (b .inv .1) in
     (omega (arith, k, r .ensures .1, c .before .before .before .before .before .before .pre .5), c .before .before .before .before .before .before .pre .4 .sorted, subst (λ (x : semantics.Monomial). Sorted above (x .vars)) (sym (r .ensures .0)) (f .one .sorted))
 
 -- src/list_steps.rt:78:9
@@ -55,8 +55,8 @@ combine-like-terms-requires : tie.Need-combine-like-terms-requires Inv-loop μ-l
 combine-like-terms-requires c κs =
     let a = c .before .before .before .before .before .before .before .args in
     let b = c .before .before .before .before .loop in
-    let r = c .before .before .monomial-at in
-    let k = short-first (a .pool .now) (b .from) (a .m) (b .i) (longestOf (listIn (a .pool .now) (a .at) (a .m))) (omega arith) (b .inv .0 .left) (b .inv .1) in (
+    let r = c .before .before .monomial-in in
+    let k = short-first (a .pool .now) (b .from) (a .m) (b .i) (longestOf (listIn (a .pool .now) (a .at) (a .m))) (omega arith) (b .inv .1) in (
       omega (arith, c .before .before .before .before .before .before .before .pre .0, b .inv .0 .few),
       b .inv .0 .summed,
       omega (arith, k, r .ensures .1, c .multiply .ensures .1, c .before .before .before .before .before .before .before .pre .5),
@@ -69,7 +69,7 @@ add-from c =
     let a = c .before .before .before .before .before .before .before .before .before .before .args in
     let b = c .before .before .before .before .before .before .before .loop in
     let f = left-front (a .pool .now) (b .from) (a .m) (b .i) (omega arith) (b .inv .0 .left) in
-    let h : b .from + 2 + c .before .before .before .before .before .monomial-at .result .count ≤ length (a .pool .now) = omega (arith, f .room, c .before .before .before .before .before .monomial-at .ensures .1) in
+    let h : b .from + 2 + c .before .before .before .before .before .monomial-in .result .count ≤ length (a .pool .now) = omega (arith, f .room, c .before .before .before .before .before .monomial-in .ensures .1) in
     search needs
 
 -- src/list_steps.rt:79:16
@@ -78,7 +78,7 @@ add-from-2 c =
     let a = c .before .before .before .before .before .before .before .before .before .before .args in
     let b = c .before .before .before .before .before .before .before .loop in
     let f = left-front (a .pool .now) (b .from) (a .m) (b .i) (omega arith) (b .inv .0 .left) in
-    let h : b .from + 2 + c .before .before .before .before .before .monomial-at .result .count ≤ length (a .pool .now) = omega (arith, f .room, c .before .before .before .before .before .monomial-at .ensures .1) in
+    let h : b .from + 2 + c .before .before .before .before .before .monomial-in .result .count ≤ length (a .pool .now) = omega (arith, f .room, c .before .before .before .before .before .monomial-in .ensures .1) in
     search needs
 
 -- src/list_steps.rt:80:9
@@ -94,15 +94,15 @@ loop-again : tie.Need-loop-again Inv-loop μ-loop
 loop-again c =
     let a = c .before .before .before .before .before .before .before .before .before .before .args in
     let b = c .before .before .before .before .before .before .before .loop in
-    let r = c .before .before .before .before .before .monomial-at in
+    let r = c .before .before .before .before .before .monomial-in in
     let x = c .before .before .before .multiply in
     let p = c .before .before .combine-like-terms in
-    let k = short-first (a .pool .now) (b .from) (a .m) (b .i) (longestOf (listIn (a .pool .now) (a .at) (a .m))) (omega arith) (b .inv .0 .left) (b .inv .1) in
+    let k = short-first (a .pool .now) (b .from) (a .m) (b .i) (longestOf (listIn (a .pool .now) (a .at) (a .m))) (omega arith) (b .inv .1) in
     let y = fits-product (monomialOf (a .left)) (monomialOf (r .result)) (omega (arith, k, r .ensures .1, c .before .before .before .before .before .before .before .before .before .before .pre .5, first-short (a .left .count) (nums (a .left .vars)), first-short (r .result .count) (nums (r .result .vars)))) in (
       adding-more (mulMonomial prime (monomialOf (a .left))) (a .pool .now) (a .at) (a .m) (a .count) (a .work .now) (b .work) (p .last .0) (b .total) (p .result) (b .from) (b .i) (r .result .count) (monomialOf (x .result))
           (b .inv .0) (omega arith) (r .ensures .1) (p .kept .0) (x .ensures .0 ∙ ap (mulMonomial prime (monomialOf (a .left))) (r .ensures .0))
           (subst Fits (sym (x .ensures .0)) y) (p .ensures .0) (p .ensures .1),
-      short-rest (a .pool .now) (b .from) (a .m) (b .i) (longestOf (listIn (a .pool .now) (a .at) (a .m))) (omega arith) (b .inv .0 .left) (b .inv .1) (r .result .count) (r .ensures .1),
+      short-rest (a .pool .now) (b .from) (a .m) (b .i) (longestOf (listIn (a .pool .now) (a .at) (a .m))) (omega arith) (b .inv .1) (r .result .count) (r .ensures .1),
     )
 
 -- src/list_steps.rt:61:1
@@ -123,7 +123,7 @@ combine-row-spec =
     Inv-loop
     μ-loop
     loop-holds
-    monomial-at-requires
+    monomial-in-requires
     multiply-requires
     combine-like-terms-requires
     add-from

@@ -13,7 +13,7 @@ use Rattle.monomial.proofs.lists.combine_list.Tie as tie
 use Rattle.monomial.proofs.lists.combine_list.Reads as reads
 use Rattle.monomial.proofs.lists.combine_list.Lts as lts
 use Rattle.monomial.proofs.lists.combine_like_terms.Reads as combine-like-terms-reads
-use Rattle.monomial.proofs.monomial_at.Reads as monomial-at-reads
+use Rattle.monomial.proofs.list_steps.monomial_in.Reads as monomial-in-reads
 use Rattle.monomial.proofs.list_steps.with_sign.Reads as with-sign-reads
 
 abbrev Inv-loop : tie.InvT-loop
@@ -29,12 +29,12 @@ loop-holds c =
     adding-none (signOf (a .negated)) (a .pool .now) (a .at) (a .n) (a .count) (a .work .now) (c .before .before .pre .1) (c .before .before .pre .2)
 
 -- src/lists.rt:45:13
-monomial-at-requires : tie.Need-monomial-at-requires Inv-loop μ-loop
-monomial-at-requires c κs =
+monomial-in-requires : tie.Need-monomial-in-requires Inv-loop μ-loop
+monomial-in-requires c κs =
     let a = c .before .before .before .before .args in
     let b = c .before .loop in
     let f = left-front (a .pool .now) (b .from) (a .n) (b .i) (omega arith) (b .inv .left) in
-    (f .short, f .room)
+    (omega (arith, f .room), f .short)
 
 -- src/lists.rt:47:49
 with-sign-requires : tie.Need-with-sign-requires Inv-loop μ-loop
@@ -45,7 +45,7 @@ combine-like-terms-requires : tie.Need-combine-like-terms-requires Inv-loop μ-l
 combine-like-terms-requires c κs =
     let a = c .before .before .before .before .before .before .before .args in
     let b = c .before .before .before .before .loop in
-    let m = c .before .before .monomial-at in
+    let m = c .before .before .monomial-in in
     let f = left-front (a .pool .now) (b .from) (a .n) (b .i) (omega arith) (b .inv .left) in
     let s = signed-one (a .negated) (monomialOf (c .with-sign .result)) (monomialOf (m .result)) (c .with-sign .ensures .0) in (
       omega (arith, c .before .before .before .before .before .before .before .pre .0, b .inv .few),
@@ -60,7 +60,7 @@ add-from c =
     let a = c .before .before .before .before .before .before .before .before .before .before .args in
     let b = c .before .before .before .before .before .before .before .loop in
     let f = left-front (a .pool .now) (b .from) (a .n) (b .i) (omega arith) (b .inv .left) in
-    let h : b .from + 2 + c .before .before .before .before .before .monomial-at .result .count ≤ length (a .pool .now) = omega (arith, f .room, c .before .before .before .before .before .monomial-at .ensures .1) in
+    let h : b .from + 2 + c .before .before .before .before .before .monomial-in .result .count ≤ length (a .pool .now) = omega (arith, f .room, c .before .before .before .before .before .monomial-in .ensures .1) in
     search needs
 
 -- src/lists.rt:48:16
@@ -69,7 +69,7 @@ add-from-2 c =
     let a = c .before .before .before .before .before .before .before .before .before .before .args in
     let b = c .before .before .before .before .before .before .before .loop in
     let f = left-front (a .pool .now) (b .from) (a .n) (b .i) (omega arith) (b .inv .left) in
-    let h : b .from + 2 + c .before .before .before .before .before .monomial-at .result .count ≤ length (a .pool .now) = omega (arith, f .room, c .before .before .before .before .before .monomial-at .ensures .1) in
+    let h : b .from + 2 + c .before .before .before .before .before .monomial-in .result .count ≤ length (a .pool .now) = omega (arith, f .room, c .before .before .before .before .before .monomial-in .ensures .1) in
     search needs
 
 -- src/lists.rt:49:9
@@ -85,7 +85,7 @@ loop-again : tie.Need-loop-again Inv-loop μ-loop
 loop-again c =
     let a = c .before .before .before .before .before .before .before .before .before .before .args in
     let b = c .before .before .before .before .before .before .before .loop in
-    let m = c .before .before .before .before .before .monomial-at in
+    let m = c .before .before .before .before .before .monomial-in in
     let x = c .before .before .before .with-sign in
     let p = c .before .before .combine-like-terms in
     let f = left-front (a .pool .now) (b .from) (a .n) (b .i) (omega arith) (b .inv .left) in
@@ -113,7 +113,7 @@ combine-list-spec =
     Inv-loop
     μ-loop
     loop-holds
-    monomial-at-requires
+    monomial-in-requires
     with-sign-requires
     combine-like-terms-requires
     add-from

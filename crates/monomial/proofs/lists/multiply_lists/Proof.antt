@@ -10,7 +10,7 @@ use Rattle.monomial.proofs.lists.multiply_lists.Statement.{statement}
 use Rattle.monomial.proofs.lists.multiply_lists.Tie as tie
 use Rattle.monomial.proofs.lists.multiply_lists.Reads as reads
 use Rattle.monomial.proofs.lists.multiply_lists.Lts as lts
-use Rattle.monomial.proofs.monomial_at.Reads as monomial-at-reads
+use Rattle.monomial.proofs.list_steps.monomial_in.Reads as monomial-in-reads
 use Rattle.monomial.proofs.list_steps.combine_row.Reads as combine-row-reads
 
 abbrev Inv-loop : tie.InvT-loop
@@ -26,21 +26,21 @@ loop-holds c =
     multiplying-none (a .pool .now) (a .left) (a .n) (a .right) (a .m) (a .work .now) (c .before .before .pre .1) (c .before .before .pre .2)
 
 -- src/lists.rt:86:13
-monomial-at-requires : tie.Need-monomial-at-requires Inv-loop μ-loop
-monomial-at-requires c κs =
+monomial-in-requires : tie.Need-monomial-in-requires Inv-loop μ-loop
+monomial-in-requires c κs =
     let a = c .before .before .before .before .args in
     let b = c .before .loop in
     let f = left-front (a .pool .now) (b .from) (a .n) (b .i) (omega arith) (b .inv .rest) in
-    (f .short, f .room)
+    (omega (arith, f .room), f .short)
 
 -- src/lists.rt:88:9
 combine-row-requires : tie.Need-combine-row-requires Inv-loop μ-loop
 combine-row-requires c κs =
     let a = c .before .before .before .before .before .before .args in
     let b = c .before .before .before .loop in
-    let r = c .before .monomial-at in
+    let r = c .before .monomial-in in
     let f = left-front (a .pool .now) (b .from) (a .n) (b .i) (omega arith) (b .inv .rest) in
-    let k = short-first (a .pool .now) (b .from) (a .n) (b .i) (longestOf (listIn (a .pool .now) (a .left) (a .n))) (omega arith) (b .inv .rest) (b .inv .short) in (
+    let k = short-first (a .pool .now) (b .from) (a .n) (b .i) (longestOf (listIn (a .pool .now) (a .left) (a .n))) (omega arith) (b .inv .short) in (
       row-room (a .pool .now) (a .left) (a .n) (a .right) (a .m) (a .work .now) (b .total) (b .i) (b .inv .few) (omega arith) (c .before .before .before .before .before .before .pre .0),
       b .inv .summed,
       c .before .before .before .before .before .before .pre .3,
@@ -55,7 +55,7 @@ add-from c =
     let a = c .before .before .before .before .before .before .before .before .before .args in
     let b = c .before .before .before .before .before .before .loop in
     let f = left-front (a .pool .now) (b .from) (a .n) (b .i) (omega arith) (b .inv .rest) in
-    let h : b .from + 2 + c .before .before .before .before .monomial-at .result .count ≤ length (a .pool .now) = omega (arith, f .room, c .before .before .before .before .monomial-at .ensures .1) in
+    let h : b .from + 2 + c .before .before .before .before .monomial-in .result .count ≤ length (a .pool .now) = omega (arith, f .room, c .before .before .before .before .monomial-in .ensures .1) in
     search needs
 
 -- src/lists.rt:89:16
@@ -64,7 +64,7 @@ add-from-2 c =
     let a = c .before .before .before .before .before .before .before .before .before .args in
     let b = c .before .before .before .before .before .before .loop in
     let f = left-front (a .pool .now) (b .from) (a .n) (b .i) (omega arith) (b .inv .rest) in
-    let h : b .from + 2 + c .before .before .before .before .monomial-at .result .count ≤ length (a .pool .now) = omega (arith, f .room, c .before .before .before .before .monomial-at .ensures .1) in
+    let h : b .from + 2 + c .before .before .before .before .monomial-in .result .count ≤ length (a .pool .now) = omega (arith, f .room, c .before .before .before .before .monomial-in .ensures .1) in
     search needs
 
 -- src/lists.rt:90:9
@@ -80,9 +80,9 @@ loop-again : tie.Need-loop-again Inv-loop μ-loop
 loop-again c =
     let a = c .before .before .before .before .before .before .before .before .before .args in
     let b = c .before .before .before .before .before .before .loop in
-    let r = c .before .before .before .before .monomial-at in
+    let r = c .before .before .before .before .monomial-in in
     let p = c .before .before .combine-row in
-    let k = short-first (a .pool .now) (b .from) (a .n) (b .i) (longestOf (listIn (a .pool .now) (a .left) (a .n))) (omega arith) (b .inv .rest) (b .inv .short) in
+    let k = short-first (a .pool .now) (b .from) (a .n) (b .i) (longestOf (listIn (a .pool .now) (a .left) (a .n))) (omega arith) (b .inv .short) in
     multiplying-more (a .pool .now) (a .left) (a .n) (a .right) (a .m) (a .work .now) (b .work) (p .last .0) (b .total) (p .result) (b .from) (b .i) (r .result .count) (monomialOf (r .result))
     (b .inv) (omega arith) (r .ensures .1) (p .kept .0) (r .ensures .0)
     (omega (arith, r .ensures .1, k, c .before .before .before .before .before .before .before .before .before .pre .4, first-short (r .result .count) (nums (r .result .vars)))) (p .ensures .0) (p .ensures .1)
@@ -105,7 +105,7 @@ multiply-lists-spec =
     Inv-loop
     μ-loop
     loop-holds
-    monomial-at-requires
+    monomial-in-requires
     combine-row-requires
     add-from
     add-from-2

@@ -13,7 +13,7 @@ use Rattle.monomial.proofs.lists.negate_list.Tie as tie
 use Rattle.monomial.proofs.lists.negate_list.Reads as reads
 use Rattle.monomial.proofs.lists.negate_list.Lts as lts
 use Rattle.monomial.proofs.lists.put_monomial.Reads as put-monomial-reads
-use Rattle.monomial.proofs.monomial_at.Reads as monomial-at-reads
+use Rattle.monomial.proofs.list_steps.monomial_in.Reads as monomial-in-reads
 use Rattle.monomial.proofs.negative.Reads as negative-reads
 
 abbrev Inv-loop : tie.InvT-loop
@@ -27,12 +27,12 @@ loop-holds : tie.Need-loop-holds Inv-loop μ-loop
 loop-holds c = negating-none (c .before .before .args .pool .now) (c .before .before .args .at) (c .before .before .args .n) (c .before .before .args .work .now) (c .before .before .pre .2)
 
 -- src/lists.rt:62:13
-monomial-at-requires : tie.Need-monomial-at-requires Inv-loop μ-loop
-monomial-at-requires c κs =
+monomial-in-requires : tie.Need-monomial-in-requires Inv-loop μ-loop
+monomial-in-requires c κs =
     let a = c .before .before .before .before .args in
     let b = c .before .loop in
     let f = left-front (a .pool .now) (b .from) (a .n) (b .k) (omega arith) (b .inv .left) in
-    (f .short, f .room)
+    (omega (arith, f .room), f .short)
 
 -- src/lists.rt:64:31
 negative-requires : tie.Need-negative-requires Inv-loop μ-loop
@@ -44,7 +44,7 @@ put-monomial-requires c κs =
     let a = c .before .before .before .before .before .before .before .args in
     let b = c .before .before .before .before .loop in
     let f = left-front (a .pool .now) (b .from) (a .n) (b .k) (omega arith) (b .inv .left) in
-    (omega (arith, c .negative .ensures .1, c .before .before .monomial-at .ensures .1, f .short), omega (arith, c .before .before .before .before .before .before .before .pre .0, c .before .before .before .before .before .before .before .pre .1, b .inv .length-is))
+    (omega (arith, c .negative .ensures .1, c .before .before .monomial-in .ensures .1, f .short), omega (arith, c .before .before .before .before .before .before .before .pre .0, c .before .before .before .before .before .before .before .pre .1, b .inv .length-is))
 
 -- src/lists.rt:65:16
 add-from : tie.Need-add-from Inv-loop μ-loop
@@ -52,7 +52,7 @@ add-from c =
     let a = c .before .before .before .before .before .before .before .before .before .before .args in
     let b = c .before .before .before .before .before .before .before .loop in
     let f = left-front (a .pool .now) (b .from) (a .n) (b .k) (omega arith) (b .inv .left) in
-    let h : b .from + 2 + c .before .before .before .before .before .monomial-at .result .count ≤ length (a .pool .now) = omega (arith, f .room, c .before .before .before .before .before .monomial-at .ensures .1) in
+    let h : b .from + 2 + c .before .before .before .before .before .monomial-in .result .count ≤ length (a .pool .now) = omega (arith, f .room, c .before .before .before .before .before .monomial-in .ensures .1) in
     search needs
 
 -- src/lists.rt:65:16
@@ -61,7 +61,7 @@ add-from-2 c =
     let a = c .before .before .before .before .before .before .before .before .before .before .args in
     let b = c .before .before .before .before .before .before .before .loop in
     let f = left-front (a .pool .now) (b .from) (a .n) (b .k) (omega arith) (b .inv .left) in
-    let h : b .from + 2 + c .before .before .before .before .before .monomial-at .result .count ≤ length (a .pool .now) = omega (arith, f .room, c .before .before .before .before .before .monomial-at .ensures .1) in
+    let h : b .from + 2 + c .before .before .before .before .before .monomial-in .result .count ≤ length (a .pool .now) = omega (arith, f .room, c .before .before .before .before .before .monomial-in .ensures .1) in
     search needs
 
 -- src/lists.rt:66:9
@@ -78,9 +78,9 @@ loop-again c =
     let a = c .before .before .before .before .before .before .before .before .before .before .args in
     let b = c .before .before .before .before .before .before .before .loop in
     let p = c .before .before .put-monomial in
-    negating-more (a .pool .now) (a .at) (a .n) (a .work .now) (b .work) (p .last .0) (b .from) (b .k) (c .before .before .before .before .before .monomial-at .result .count) (monomialOf (c .before .before .before .negative .result))
-    (b .inv) (omega arith) (c .before .before .before .before .before .monomial-at .ensures .1) (p .kept .0)
-    (c .before .before .before .negative .ensures .0 ∙ ap (negMonomial prime) (c .before .before .before .before .before .monomial-at .ensures .0)) (p .ensures)
+    negating-more (a .pool .now) (a .at) (a .n) (a .work .now) (b .work) (p .last .0) (b .from) (b .k) (c .before .before .before .before .before .monomial-in .result .count) (monomialOf (c .before .before .before .negative .result))
+    (b .inv) (omega arith) (c .before .before .before .before .before .monomial-in .ensures .1) (p .kept .0)
+    (c .before .before .before .negative .ensures .0 ∙ ap (negMonomial prime) (c .before .before .before .before .before .monomial-in .ensures .0)) (p .ensures)
 
 -- src/lists.rt:55:1
 same-length : tie.Need-same-length Inv-loop μ-loop
@@ -100,7 +100,7 @@ negate-list-spec =
     Inv-loop
     μ-loop
     loop-holds
-    monomial-at-requires
+    monomial-in-requires
     negative-requires
     put-monomial-requires
     add-from
