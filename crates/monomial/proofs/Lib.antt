@@ -14,5 +14,6 @@ pub mod Inserting
 pub mod Leaves
 pub mod Working
 pub mod Storing
+pub mod Finishes
 pub mod Expanding
 pub mod Roots

@@ -94,13 +94,7 @@ fn finish_record(
 }
 
 // Expands record r with all that it reaches, left child, right child, then itself.
-fn expand_node(
-    sheet: &[u32],
-    work: &mut [u32],
-    pool: &mut [u32],
-    r: usize,
-    used: usize,
-) -> Expanded
+fn expand_node(sheet: &[u32], work: &mut [u32], pool: &mut [u32], r: usize, used: usize) -> Expanded
     requires { ⌜ Ready (now sheet) r (now work) (now pool) used ⌝ }
     ensures { λ u. ⌜ ((done : List ℕ) → Order (now (sheet .entry)) done → Holds (now (sheet .entry)) done (now (pool .entry)) used → Expands (now (sheet .entry)) (now (pool .exit)) u (visit (childrenAt (recordsOf (now (sheet .entry)))) (suc r) done r)) ⌝ }
 {
