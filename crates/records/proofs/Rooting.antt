@@ -1,15 +1,15 @@
 -- Visiting the records that some words name.
 use mathlib.Core.Path.{_≡_, refl, sym, ap, subst, _∙_}
 use mathlib.Core.List.{List, [], _∷_, _++_, append-assoc, append-nil}
-use Prim.Native.Nat.{ℕ, zero, suc, _+_, _*_, _-_, _≤_, _<_}
+use Prim.Native.Nat.{ℕ, suc, _+_, _-_, _≤_, _<_}
 use native.Mathlib.Omega.{arith}
-use lib.ListN.{length, getD, take, drop}
+use lib.ListN.{length, getD}
 use Rattle.semantics.specs.Arithmetic.{prime}
 use Rattle.semantics.specs.Answer.{good}
 use Rattle.semantics.specs.Check.{readSheet, check}
 use Rattle.semantics.specs.Walk.{childrenAt, foldLeft, visit}
 use Rattle.semantics.proofs.Walks.{visit-fuel}
-use Rattle.semantics.proofs.Members.{Mem, mem-here, mem-there, not-in, Below, cons-below, append-below}
+use Rattle.semantics.proofs.Members.{mem-here, mem-there, not-in, Below, append-below}
 use Rattle.records.specs.Access.{recordsOf, part, messageLength, eachWords, countAt, fieldsAt, NamesInside, RootsInside, AllRootsInside}
 use Rattle.records.specs.Orders.{Order, Visiting}
 use Rattle.records.proofs.Steps.{child-low, order-visit}

@@ -1,17 +1,17 @@
 -- What a checked sheet's records are to each other, and an order that grows.
-use mathlib.Core.Path.{_≡_, refl, sym, ap, subst, _∙_}
+use mathlib.Core.Path.{_≡_, sym, subst}
 use mathlib.Core.Logic.{_⊎_, inl, inr, ⊎-elim}
-use mathlib.Core.Bool.{Bool, true, false}
-use mathlib.Core.List.{List, [], _∷_, _++_}
-use Prim.Native.Nat.{ℕ, zero, suc, _+_, _*_, _≤_, _<_}
+use mathlib.Core.Bool.{false}
+use mathlib.Core.List.{List, [], _∷_}
+use Prim.Native.Nat.{ℕ, suc, _≤_, _<_}
 use native.Mathlib.Omega.{arith}
 use lib.ListN.{length}
 use Rattle.semantics.specs.Arithmetic.{prime}
 use Rattle.semantics.specs.Answer.{good}
-use Rattle.semantics.specs.Sheet.{Record, Each, Inside}
+use Rattle.semantics.specs.Sheet.{Each, Inside}
 use Rattle.semantics.specs.Check.{readSheet, check}
 use Rattle.semantics.specs.Walk.{childrenAt, member, visit, Reaches}
-use Rattle.semantics.proofs.Members.{Mem, mem-here, mem-there, mem-cases, not-in, Below, cons-below}
+use Rattle.semantics.proofs.Members.{Mem, mem-cases, not-in, cons-below}
 use Rattle.semantics.proofs.Records.{LowRecord, each-low}
 use Rattle.semantics.proofs.Encoding.{check-inside, head-limits}
 use Rattle.semantics.proofs.Walks.{visit-closed, visit-distinct, visit-reach, reach-le, visit-old, visit-has}

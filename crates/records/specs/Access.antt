@@ -1,6 +1,5 @@
 -- Where a sheet's records, constraints and interactions stand in its words (01, "The sheet").
-use mathlib.Core.Path.{_≡_}
-use mathlib.Core.List.{List, [], _∷_, _++_}
+use mathlib.Core.List.{List, [], _++_}
 use Prim.Native.Nat.{ℕ, zero, suc, _+_, _*_, _≤_, _<_}
 use lib.ListN.{length, getD, take, drop}
 use Rattle.semantics.specs.Sheet as semantics
