@@ -2,11 +2,6 @@ use borrow.Author.Needs.{needs}
 use Rattle.monomial.proofs.Finishes.{finish-refused, finish-storing, finish-stored}
 use Rattle.monomial.proofs.expand.finish_record.Statement.{statement}
 use Rattle.monomial.proofs.expand.finish_record.Tie as tie
-use Rattle.monomial.proofs.expand.finish_record.Reads as reads
-use Rattle.monomial.proofs.expand.finish_record.Lts as lts
-use Rattle.monomial.proofs.expand.make_list.Reads as make-list-reads
-use Rattle.monomial.proofs.expand.refused.Reads as refused-reads
-use Rattle.monomial.proofs.expand.store_list.Reads as store-list-reads
 
 -- src/expand.rt:89:9
 make-list-requires : tie.Need-make-list-requires
