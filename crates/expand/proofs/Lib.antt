@@ -1,0 +1,6 @@
+pub mod Leaves
+pub mod Working
+pub mod Storing
+pub mod Finishes
+pub mod Expanding
+pub mod Roots

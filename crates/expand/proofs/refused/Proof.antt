@@ -1,0 +1,30 @@
+use Rattle.expand.specs.Walking.{refusedBy}
+use lib.ListN.{length, getD, set, take, drop}
+use native.Mathlib.Omega.{arith}
+use Prim.Native.Nat.{ℕ, _+_, _*_, _-_, _≤_, _<_}
+use mathlib.Core.List.{List, [], _∷_, _++_}
+use mathlib.Core.Path.{_≡_, refl, sym, ap, subst, _∙_}
+use borrow.Author.Needs.{needs}
+use Rattle.expand.proofs.refused.Statement.{statement}
+use Rattle.expand.proofs.refused.Tie as tie
+use Rattle.expand.proofs.refused.Reads as reads
+use Rattle.expand.proofs.refused.Lts as lts
+
+-- src/expand.rt:70:21
+enum-known-made : tie.Need-enum-known-made
+enum-known-made c = search needs
+
+-- src/expand.rt:71:44
+enum-told : tie.Need-enum-told
+enum-told c = search needs
+
+-- src/expand.rt:66:1
+returns : tie.Need-returns
+returns c = ap (λ m. refusedBy m (c .before .before .before .args .r)) (sym (c .before .made .given .1))
+
+-- src/expand.rt:66:1
+returns-2 : tie.Need-returns-2
+returns-2 c = ap (λ m. refusedBy m (c .before .before .args .r)) (sym (c .enum-told .given .1))
+
+pub refused-spec : {M : Type 1} → statement M
+refused-spec = tie.close (tie.spec enum-known-made enum-told returns returns-2)

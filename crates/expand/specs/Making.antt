@@ -1,0 +1,29 @@
+-- What making a record's list comes to.
+use mathlib.Core.Path.{_≡_}
+use mathlib.Core.List.{List, [], _∷_}
+use Prim.Native.Nat.{ℕ, _≤_}
+use lib.ListN.{length}
+use Rattle.semantics.specs.Monomial.{Monomial}
+use Rattle.semantics.proofs.Sorting.{All}
+use Rattle.packed_var.specs.declared.Packed.{Packed}
+use Rattle.packed_var.specs.declared.Packed.the-variants.{Var, Refused}
+use Rattle.monomial.specs.Words.{held, Fits}
+use Rattle.expand.specs.declared.kinds.Made.{Made}
+use Rattle.expand.specs.declared.kinds.Made.the-variants.{Held, Fault}
+
+-- "leaf: one monomial": of a constant, and of a packed variable.
+abbrev pub constant : ℕ → Monomial
+constant k = record { vars = []; coef = k }
+
+abbrev pub single : ℕ → Monomial
+single v = record { vars = v ∷ []; coef = 1 }
+
+-- The number of a packing's refusal, or 0.
+abbrev pub faultOf : Packed → ℕ
+faultOf (Var v) = 0
+faultOf (Refused r) = r .number
+
+-- A list that stands in the work, or why it was not made; `fault` is 0 where there is none.
+abbrev pub Makes : (work : List ℕ) → Made → (fault : ℕ) (list : List Monomial) → Type 0
+Makes work (Held n) fault list = (fault ≡ 0) × (held n work ≡ list) × (n ≤ 256) × All Fits list
+Makes work (Fault f) fault list = (fault ≡ f) × (f ≡ 0 → ⊥)

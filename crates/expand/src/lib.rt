@@ -1,0 +1,206 @@
+// The walk of an expansion: each reached record is expanded once, after its children, and its list is kept in the pool.
+ghost use mathlib.Core.Path.{_≡_};
+ghost use mathlib.Core.Bool.{false};
+ghost use mathlib.Core.List.{List, _∷_};
+ghost use Prim.Native.Nat.{ℕ, suc};
+ghost use lib.ListN.{length};
+ghost use Rattle.semantics.specs.Arithmetic.{prime};
+ghost use Rattle.semantics.specs.Monomial.{listAt};
+ghost use Rattle.semantics.specs.Expand.{recordFault};
+ghost use Rattle.semantics.specs.Walk.{member, visit, childrenAt};
+ghost use Rattle.records.specs.Access.{recordsOf, part, countWords, fieldWords, NamesInside, AllRootsInside};
+ghost use Rattle.records.specs.Orders.{Order, There, Visiting};
+ghost use Rattle.monomial.specs.Words.{held};
+ghost use Rattle.expand.specs.Making.{Makes};
+ghost use Rattle.expand.specs.Walking.{Holds, Expands, refusedBy, Storing, Stores, Walking, Ready, Finishing};
+
+mod kinds;
+
+use crate::kinds::Made;
+use monomial::lists;
+use sheet::Refusal;
+
+// How many words of the pool are taken then, or a refusal.
+pub enum Expanded {
+    Used(usize),
+    Refused(Refusal),
+}
+
+// Makes the list of a record whose children are expanded.
+fn make_list(sheet: &[u32], work: &mut [u32], pool: &[u32], r: usize) -> Made
+    requires { ⌜ ((used : ℕ) × Finishing (now sheet) r (now work) (now pool) used) ⌝ }
+    ensures { λ u. ⌜ Makes (now (work .exit)) u (recordFault prime (recordsOf (now (sheet .entry))) r) (listAt prime (recordsOf (now (sheet .entry))) r) ⌝ }
+{
+    let q = records::record_at(sheet, r);
+    if q.kind < 6 {
+        return kinds::expand_leaf(work, q);
+    }
+    let left = kinds::list_of(pool, records::wide(q.a));
+    if q.kind == 8 {
+        return kinds::expand_neg(work, pool, left);
+    }
+    let right = kinds::list_of(pool, records::wide(q.b));
+    if q.kind == 9 {
+        return kinds::expand_product(work, pool, left, right);
+    }
+    kinds::expand_sum(work, pool, left, right, q.kind == 7)
+}
+
+// Writes a list behind the words of the pool that are taken, and its place into the record's two words.
+fn store_list(work: &[u32], count: usize, pool: &mut [u32], r: usize, used: usize) -> Expanded
+    requires { ⌜ Storing (now work) count (now pool) r used ⌝ }
+    ensures { λ u. ⌜ Stores (now (pool .entry)) (now (pool .exit)) r used (held count (now (work .entry))) u ⌝ }
+{
+    let size = lists::list_size(work, count);
+    if pool.len() - used < size {
+        return Expanded::Refused(Refusal {
+            number: 16,
+            place: r,
+        });
+    }
+    lists::write_list(work, count, &mut pool[used..]);
+    pool[2 * r] = used as u32;
+    pool[2 * r + 1] = count as u32;
+    Expanded::Used(used + size)
+}
+
+// The refusal of record r, whose list was not made.
+fn refused(made: Made, r: usize) -> Expanded
+    ensures { λ u. ⌜ u ≡ refusedBy made r ⌝ }
+{
+    match made {
+        Made::Fault(number) => Expanded::Refused(Refusal { number, place: r }),
+        Made::Held(_) => Expanded::Refused(Refusal {
+            number: 0,
+            place: r,
+        }),
+    }
+}
+
+// Makes the list of a record whose children are expanded, and stores it.
+fn finish_record(
+    sheet: &[u32],
+    work: &mut [u32],
+    pool: &mut [u32],
+    r: usize,
+    used: usize,
+) -> Expanded
+    requires { ⌜ Finishing (now sheet) r (now work) (now pool) used ⌝ }
+    ensures { λ u. ⌜ ((done : List ℕ) → Order (now (sheet .entry)) done → member r done ≡ false → There (now (sheet .entry)) r done → Holds (now (sheet .entry)) done (now (pool .entry)) used → Expands (now (sheet .entry)) (now (pool .exit)) u (r ∷ done)) ⌝ }
+{
+    let made = make_list(sheet, work, pool, r);
+    let Made::Held(count) = made else {
+        return refused(made, r);
+    };
+    store_list(work, count, pool, r, used)
+}
+
+// Expands record r with all that it reaches, left child, right child, then itself.
+fn expand_node(sheet: &[u32], work: &mut [u32], pool: &mut [u32], r: usize, used: usize) -> Expanded
+    requires { ⌜ Ready (now sheet) r (now work) (now pool) used ⌝ }
+    ensures { λ u. ⌜ ((done : List ℕ) → Order (now (sheet .entry)) done → Holds (now (sheet .entry)) done (now (pool .entry)) used → Expands (now (sheet .entry)) (now (pool .exit)) u (visit (childrenAt (recordsOf (now (sheet .entry)))) (suc r) done r)) ⌝ }
+{
+    if pool[2 * r] != 0 {
+        return Expanded::Used(used);
+    }
+    let q = records::record_at(sheet, r);
+    if q.kind < 6 {
+        return finish_record(sheet, work, pool, r, used);
+    }
+    let left = records::wide(q.a);
+    let first = expand_node(sheet, work, pool, left, used);
+    let Expanded::Used(one) = first else {
+        return first;
+    };
+    if q.kind == 8 {
+        return finish_record(sheet, work, pool, r, one);
+    }
+    let right = records::wide(q.b);
+    let second = expand_node(sheet, work, pool, right, one);
+    let Expanded::Used(two) = second else {
+        return second;
+    };
+    finish_record(sheet, work, pool, r, two)
+}
+
+// Expands the records that the words from `at` on name.
+pub fn expand_names(
+    sheet: &[u32],
+    at: usize,
+    count: usize,
+    work: &mut [u32],
+    pool: &mut [u32],
+    used: usize,
+) -> Expanded
+    requires { ⌜ Walking (now sheet) (now work) (now pool) used × NamesInside (now sheet) at count ⌝ }
+    ensures { λ u. ⌜ Visiting (now (sheet .entry)) (part at count (now (sheet .entry))) (λ d. Holds (now (sheet .entry)) d (now (pool .entry)) used) (Expands (now (sheet .entry)) (now (pool .exit)) u) ⌝ }
+{
+    let mut taken = used;
+    let mut j: usize = 0;
+    while j < count {
+        let r = records::wide(sheet[at + j]);
+        let answer = expand_node(sheet, work, pool, r, taken);
+        let Expanded::Used(next) = answer else {
+            return answer;
+        };
+        taken = next;
+        j += 1;
+    }
+    Expanded::Used(taken)
+}
+
+// Expands the counts of the interactions from `at` on.
+pub fn expand_counts(
+    sheet: &[u32],
+    at: usize,
+    count: usize,
+    work: &mut [u32],
+    pool: &mut [u32],
+    used: usize,
+) -> Expanded
+    requires { ⌜ Walking (now sheet) (now work) (now pool) used × AllRootsInside (length (recordsOf (now sheet))) (now sheet) at count ⌝ }
+    ensures { λ u. ⌜ Visiting (now (sheet .entry)) (countWords (now (sheet .entry)) at count) (λ d. Holds (now (sheet .entry)) d (now (pool .entry)) used) (Expands (now (sheet .entry)) (now (pool .exit)) u) ⌝ }
+{
+    let mut taken = used;
+    let mut from = at;
+    let mut i: usize = 0;
+    while i < count {
+        let message = records::wide(sheet[from + 3]);
+        let answer = expand_names(sheet, from + 2, 1, work, pool, taken);
+        let Expanded::Used(next) = answer else {
+            return answer;
+        };
+        taken = next;
+        from = from + 4 + message;
+        i += 1;
+    }
+    Expanded::Used(taken)
+}
+
+// Expands the fields of the interactions from `at` on.
+pub fn expand_fields(
+    sheet: &[u32],
+    at: usize,
+    count: usize,
+    work: &mut [u32],
+    pool: &mut [u32],
+    used: usize,
+) -> Expanded
+    requires { ⌜ Walking (now sheet) (now work) (now pool) used × AllRootsInside (length (recordsOf (now sheet))) (now sheet) at count ⌝ }
+    ensures { λ u. ⌜ Visiting (now (sheet .entry)) (fieldWords (now (sheet .entry)) at count) (λ d. Holds (now (sheet .entry)) d (now (pool .entry)) used) (Expands (now (sheet .entry)) (now (pool .exit)) u) ⌝ }
+{
+    let mut taken = used;
+    let mut from = at;
+    let mut i: usize = 0;
+    while i < count {
+        let message = records::wide(sheet[from + 3]);
+        let answer = expand_names(sheet, from + 4, message, work, pool, taken);
+        let Expanded::Used(next) = answer else {
+            return answer;
+        };
+        taken = next;
+        from = from + 4 + message;
+        i += 1;
+    }
+    Expanded::Used(taken)
+}

@@ -1,0 +1,216 @@
+-- The list of a record from its children's lists in the pool, by the record's kind.
+use mathlib.Core.Path.{_≡_, refl, sym, ap, subst, _∙_}
+use mathlib.Core.Bool.{Bool, true, false}
+use mathlib.Core.List.{List, [], _∷_, _++_, map}
+use Prim.Native.Nat.{ℕ, _+_, _*_, _≤_, _<_}
+use native.Mathlib.Omega.{arith}
+use lib.Dec.{eqb}
+use lib.ListN.{length, getD}
+use borrow.Author.Tests.{eqb-true, eqb-false, eq-eqb, ne-eqb}
+use Rattle.semantics.specs.Arithmetic.{prime}
+use Rattle.semantics.specs.Answer.{good, refused}
+use Rattle.semantics.specs.Sheet.{Record, GoodRecord}
+use Rattle.semantics.specs.Check.{readSheet, check}
+use Rattle.semantics.specs.Packing.{packFault}
+use Rattle.semantics.specs.Value.{Node, leaf, add, sub, neg, mul, nodeOf, recordAt}
+use Rattle.semantics.specs.Walk.{childrenAt, member}
+use Rattle.semantics.specs.Monomial.{Monomial, negMonomial, products, combine, working, finished, recordList, listAt}
+use Rattle.semantics.specs.Expand.{workFault, recordFault}
+use Rattle.semantics.proofs.Basics.{by-test, cond-true}
+use Rattle.semantics.proofs.Members.{Mem}
+use Rattle.semantics.proofs.Expansions.{list-at}
+use Rattle.records.specs.declared.Record as declared
+use Rattle.records.specs.Access.{fiveWords, nodeIn, recordsOf}
+use Rattle.records.specs.Orders.{Order}
+use Rattle.records.proofs.Steps.{lows}
+use Rattle.records.proofs.Visits.{record-good, kind-limits, is, kind-is, a-is, b-is, has-a, has-b}
+use Rattle.monomial.specs.Words.{held, listIn, signed, ListFits}
+use Rattle.monomial.specs.Making.{Makes}
+use Rattle.monomial.specs.Walking.{Kept, Holds, Expands, refusedBy, Storing, Stores, Finishing}
+use Rattle.monomial.specs.declared.kinds.Made.{Made}
+use Rattle.monomial.specs.declared.kinds.Made.the-variants.{Held, Fault}
+use Rattle.monomial.specs.declared.kinds.PoolList.{PoolList}
+use Rattle.monomial.specs.declared.expand.Expanded.{Expanded}
+use Rattle.monomial.proofs.ListLaws.{list-fits-at}
+use Rattle.monomial.proofs.Leaves.{flat-list, flat-fault}
+use Rattle.monomial.proofs.Storing.{expand-fault, storing, stored}
+
+makes-same : (work : List ℕ) (u : Made) (f g : ℕ) (l m : List Monomial) → f ≡ g → l ≡ m → Makes work u f l → Makes work u g m
+makes-same work u f g l m e d h = subst (λ (n : ℕ). Makes work u n m) e (subst (Makes work u f) d h)
+
+-- The kinds with children.
+module _ (r : Record) where
+  packs-none : (r .kind ≡ 1 → ⊥) → packFault r ≡ 0
+  unfolding packFault
+  packs-none n = rw (ne-eqb (r .kind) 1 n)
+
+  add-node : r .kind ≡ 6 → nodeOf r ≡ add (r .a) (r .b)
+  unfolding nodeOf
+  add-node e = rw e
+
+  sub-node : r .kind ≡ 7 → nodeOf r ≡ sub (r .a) (r .b)
+  unfolding nodeOf
+  sub-node e = rw e
+
+  neg-node : r .kind ≡ 8 → nodeOf r ≡ neg (r .a)
+  unfolding nodeOf
+  neg-node e = rw e
+
+  mul-node : r .kind ≡ 9 → nodeOf r ≡ mul (r .a) (r .b)
+  unfolding nodeOf
+  mul-node e = rw e
+
+-- The list of the child c in the pool, as it was read.
+abbrev pub Reads : (pool : List ℕ) (c : ℕ) → PoolList → Type 0
+Reads pool c x = (x .at ≡ getD pool (2 * c) 0) × (x .count ≡ getD pool (2 * c + 1) 0)
+
+module _ (ws : List ℕ) (r : ℕ) (work pool : List ℕ) (used : ℕ) (p : Finishing ws r work pool used) where
+  abbrev checked : check prime ws ≡ good (readSheet ws)
+  checked = p .ready .walking .checked
+
+  abbrev l : r < length (recordsOf ws)
+  l = p .ready .inside
+
+  abbrev R : Record
+  R = recordAt (recordsOf ws) r
+
+  abbrev lists : ℕ → List Monomial
+  lists = listAt prime (recordsOf ws)
+
+  -- A record that is no leaf is refused for its working list only, and its list is finished from that.
+  fault-is : (k : Node) → nodeOf R ≡ k → packFault R ≡ 0 → workFault (working prime R k lists) ≡ recordFault prime (recordsOf ws) r
+  unfolding recordFault
+  fault-is k e z = ap (λ (n : Node). workFault (working prime R n lists)) (sym e) ∙ sym (cond-true (eqb (packFault R) 0) _ (packFault R) (eq-eqb (packFault R) 0 z))
+
+  list-is : (k : Node) → nodeOf R ≡ k → finished prime k (working prime R k lists) ≡ lists r
+  list-is k e = ap (λ (n : Node). finished prime n (working prime R n lists)) (sym e) ∙ sym (list-at prime (recordsOf ws) (lows ws checked) r l ∙ unfold recordList in refl)
+
+  -- A child's list.
+  module _ (c : ℕ) (m : Mem c (childrenAt (recordsOf ws) r)) where
+    kept : Kept ws pool used c
+    kept = p .ready .walking .holds .old c (p .there c m)
+
+    pub child-head : 2 * c + 1 < length pool
+    child-head = kept .stored .head
+
+    module _ (x : PoolList) (g : Reads pool c x) where
+      both : ListFits pool (x .at) (x .count) × (listIn pool (x .at) (x .count) ≡ lists c)
+      both =
+          rw (g .0, g .1) (list-fits-at pool (getD pool (2 * c) 0) (getD pool (2 * c + 1) 0) (lists c) (kept .stored .words-are) (kept .stored .count-is) (kept .stored .inside) (kept .stored .fit))
+
+      pub child-fits : (x .count ≤ 256) × ListFits pool (x .at) (x .count)
+      child-fits = (omega (arith, g .1, kept .stored .count-is, kept .few), both .0)
+
+      child-is : listIn pool (x .at) (x .count) ≡ lists c
+      child-is = both .1
+
+  module _ (q : declared.Record) (e : fiveWords q ≡ nodeIn ws r) where
+    words : fiveWords q ≡ R
+    words = is ws checked r l q e
+
+    kind : q .kind ≡ R .kind
+    kind = kind-is ws checked r l q e
+
+    -- A leaf.
+    pub leaf-good : GoodRecord prime r (fiveWords q)
+    leaf-good = subst (GoodRecord prime r) (sym words) (record-good ws checked r l)
+
+    pub finishes-leaf : q .kind < 6 → (work′ : List ℕ) (u : Made) → Makes work′ u (packFault (fiveWords q)) (recordList prime (fiveWords q) (λ c. []))
+        → Makes work′ u (recordFault prime (recordsOf ws) r) (lists r)
+    unfolding recordFault
+    finishes-leaf h work′ u m =
+        let low : R .kind ≤ 5 = omega (arith, kind) in
+        makes-same work′ u (packFault (fiveWords q)) (recordFault prime (recordsOf ws) r) (recordList prime (fiveWords q) (λ c. [])) (lists r)
+        (ap packFault words ∙ by-test (λ (n : ℕ). packFault R ≡ n) (eqb (packFault R) 0) (λ t. eqb-true (packFault R) 0 t ∙ sym (flat-fault R low lists)) (λ t. refl))
+        (ap (λ (z : Record). recordList prime z (λ c. [])) words ∙ flat-list R low (λ c. []) lists ∙ sym (list-at prime (recordsOf ws) (lows ws checked) r l))
+        m
+
+    module _ (k : 6 ≤ q .kind) (c : ℕ) (ec : c ≡ q .a) where
+      pub has-left : Mem c (childrenAt (recordsOf ws) r)
+      has-left = subst (λ (x : ℕ). Mem x (childrenAt (recordsOf ws) r)) (sym ec) (has-a ws checked r l q e k)
+
+      left-is : c ≡ R .a
+      left-is = ec ∙ a-is ws checked r l q e
+
+      plain : packFault R ≡ 0
+      plain = packs-none R (λ z. omega (arith, kind))
+
+      module _ (x : PoolList) (g : Reads pool c x) where
+        abbrev X : List Monomial
+        X = listIn pool (x .at) (x .count)
+
+        x-is : X ≡ lists (R .a)
+        x-is = child-is c has-left x g ∙ ap lists left-is
+
+        pub finishes-neg : q .kind ≡ 8 → (work′ : List ℕ) (u : Made) → Makes work′ u (workFault (map (negMonomial prime) X)) (map (negMonomial prime) X)
+            → Makes work′ u (recordFault prime (recordsOf ws) r) (lists r)
+        unfolding working finished
+        finishes-neg h work′ u m =
+            let n = neg-node R (sym kind ∙ h) in
+            makes-same work′ u _ _ _ _ (ap (λ (ms : List Monomial). workFault (map (negMonomial prime) ms)) x-is ∙ fault-is (neg (R .a)) n plain)
+            (ap (map (negMonomial prime)) x-is ∙ list-is (neg (R .a)) n) m
+
+        module _ (k₈ : q .kind ≡ 8 → ⊥) (d : ℕ) (ed : d ≡ q .b) where
+          pub has-right : Mem d (childrenAt (recordsOf ws) r)
+          has-right = subst (λ (z : ℕ). Mem z (childrenAt (recordsOf ws) r)) (sym ed) (has-b ws checked r l q e k k₈)
+
+          right-is : d ≡ R .b
+          right-is = ed ∙ b-is ws checked r l q e
+
+          module _ (y : PoolList) (t : Reads pool d y) where
+            abbrev Y : List Monomial
+            Y = listIn pool (y .at) (y .count)
+
+            y-is : Y ≡ lists (R .b)
+            y-is = child-is d has-right y t ∙ ap lists right-is
+
+            pub finishes-mul : q .kind ≡ 9 → (work′ : List ℕ) (u : Made) → Makes work′ u (workFault (products prime X Y)) (combine prime (products prime X Y))
+                → Makes work′ u (recordFault prime (recordsOf ws) r) (lists r)
+            unfolding working finished
+            finishes-mul h work′ u m =
+                let n = mul-node R (sym kind ∙ h) in
+                let same : products prime X Y ≡ products prime (lists (R .a)) (lists (R .b)) = λ i. products prime (x-is i) (y-is i) in
+                makes-same work′ u _ _ _ _ (ap workFault same ∙ fault-is (mul (R .a) (R .b)) n plain) (ap (combine prime) same ∙ list-is (mul (R .a) (R .b)) n) m
+
+            pub finishes-sum : (q .kind ≡ 9 → ⊥) → (b : Bool) → b ≡ eqb (q .kind) 7 → (work′ : List ℕ) (u : Made)
+                → Makes work′ u (workFault (X ++ signed b Y)) (combine prime (X ++ signed b Y)) → Makes work′ u (recordFault prime (recordsOf ws) r) (lists r)
+            unfolding working finished
+            finishes-sum k₉ b eb work′ u m = go b (sym eb) m
+              where
+                go : (s : Bool) → eqb (q .kind) 7 ≡ s → Makes work′ u (workFault (X ++ signed s Y)) (combine prime (X ++ signed s Y))
+                    → Makes work′ u (recordFault prime (recordsOf ws) r) (lists r)
+                go true z m′ =
+                    let n = sub-node R (sym kind ∙ eqb-true (q .kind) 7 z) in
+                    let same : X ++ map (negMonomial prime) Y ≡ lists (R .a) ++ map (negMonomial prime) (lists (R .b)) = λ i. x-is i ++ map (negMonomial prime) (y-is i) in
+                    makes-same work′ u _ _ _ _ (ap workFault same ∙ fault-is (sub (R .a) (R .b)) n plain) (ap (combine prime) same ∙ list-is (sub (R .a) (R .b)) n) m′
+                go false z m′ =
+                    let six : R .kind ≡ 6 = omega (arith, kind, kind-limits ws checked r l, eqb-false (q .kind) 7 z, k₈, k₉) in
+                    let n = add-node R six in
+                    let same : X ++ Y ≡ lists (R .a) ++ lists (R .b) = λ i. x-is i ++ y-is i in
+                    makes-same work′ u _ _ _ _ (ap workFault same ∙ fault-is (add (R .a) (R .b)) n plain) (ap (combine prime) same ∙ list-is (add (R .a) (R .b)) n) m′
+
+-- A record whose list was not made.
+pub finish-refused : (ws done pool work : List ℕ) (used r : ℕ) (u : Made) → Makes work u (recordFault prime (recordsOf ws) r) (listAt prime (recordsOf ws) r)
+    → (f : ℕ) → u ≡ Fault f → (a : Expanded) → a ≡ refusedBy u r → Holds ws done pool used → Expands ws pool a (r ∷ done)
+finish-refused ws done pool work used r u m f e a ea h =
+    let t : Makes work (Fault f) (recordFault prime (recordsOf ws) r) (listAt prime (recordsOf ws) r) =
+    subst (λ (x : Made). Makes work x (recordFault prime (recordsOf ws) r) (listAt prime (recordsOf ws) r)) e m in
+    subst (λ (x : Expanded). Expands ws pool x (r ∷ done)) (sym (ea ∙ ap (λ (x : Made). refusedBy x r) e))
+    (expand-fault ws done (length pool) r used (h .used-is) f (t .0) (t .1))
+
+-- A record whose list was made: what storing it asks, and what it comes to.
+module _ (ws : List ℕ) (r : ℕ) (work pool : List ℕ) (used : ℕ) (p : Finishing ws r work pool used) (work′ : List ℕ) (u : Made)
+    (m : Makes work′ u (recordFault prime (recordsOf ws) r) (listAt prime (recordsOf ws) r)) (n : ℕ) (e : u ≡ Held n) where
+  made : Makes work′ (Held n) (recordFault prime (recordsOf ws) r) (listAt prime (recordsOf ws) r)
+  made = subst (λ (x : Made). Makes work′ x (recordFault prime (recordsOf ws) r) (listAt prime (recordsOf ws) r)) e m
+
+  pub finish-storing : length work′ ≡ length work → Storing work′ n pool r used
+  finish-storing lw =
+      let w = p .ready .walking in
+      storing ws (w .done) pool used (w .holds) (w .order) r (p .ready .inside) (p .new) (w .checked) work′ n (made .1) (made .2) (made .3)
+      (subst (λ (k : ℕ). 4096 ≤ k) (sym lw) (w .room))
+
+  pub finish-stored : (pool′ : List ℕ) → length pool′ ≡ length pool → (a : Expanded) → Stores pool pool′ r used (held n work′) a
+      → (done : List ℕ) → Order ws done → member r done ≡ false → Holds ws done pool used → Expands ws pool′ a (r ∷ done)
+  finish-stored pool′ lp a s done o new h =
+      stored ws done pool used h o r (p .ready .inside) new (p .ready .walking .checked) work′ n (made .1) (made .2) (made .3) (made .0) pool′ lp a s

@@ -1,0 +1,185 @@
+-- Expanding the records that words of the sheet name, one after the other.
+use mathlib.Core.Path.{_≡_, refl, sym, ap, subst, _∙_}
+use mathlib.Core.List.{List, [], _∷_, _++_, append-assoc}
+use Prim.Native.Nat.{ℕ, suc, _+_, _*_, _-_, _≤_, _<_}
+use native.Mathlib.Omega.{arith}
+use lib.ListN.{length, getD, take, drop}
+use lib.Seq.{take-add}
+use Rattle.semantics.specs.Arithmetic.{prime}
+use Rattle.semantics.specs.Answer.{good}
+use Rattle.semantics.specs.Check.{readSheet, check}
+use Rattle.semantics.specs.Walk.{childrenAt, foldLeft, visit, order}
+use Rattle.semantics.specs.Expand.{expandAll}
+use Rattle.semantics.proofs.Members.{not-in, Below, cons-below, append-below}
+use Rattle.sheet.specs.declared.Refusal.{Refusal}
+use Rattle.records.specs.Access.{recordsOf, part, messageLength, eachWords, NamesInside, RootsInside, AllRootsInside}
+use Rattle.records.specs.Orders.{Visiting}
+use Rattle.records.proofs.Parts.{part-more}
+use Rattle.records.proofs.Rooting.{fold-append, order-none, order-walk, visiting-none, visiting-both, visiting-one, Passed, passed-none, passed-done, passed-next, passed-more}
+use Rattle.monomial.specs.declared.expand.Expanded.{Expanded}
+use Rattle.monomial.specs.declared.expand.Expanded.the-variants.{Used, Refused}
+use Rattle.monomial.specs.Walking.{Holds, Expands, Walking, Ready}
+use Rattle.monomial.proofs.Expanding.{Visit, Stopped, refused-fold}
+
+-- What some roots come to.
+abbrev pub Roots : (ws roots pool : List ℕ) (used : ℕ) (pool′ : List ℕ) → Expanded → Type 0
+Roots ws roots pool used pool′ u = Visiting ws roots (λ (d : List ℕ). Holds ws d pool used) (Expands ws pool′ u)
+
+-- What holds when these roots are expanded.
+pub record Far (ws roots work₀ pool₀ : List ℕ) (used₀ : ℕ) (work pool : List ℕ) (used : ℕ) : Type 0 where
+  pub below : Below (length (recordsOf ws)) roots
+  pub walks : Roots ws roots pool₀ used₀ pool (Used used)
+  pub work-length : length work ≡ length work₀
+  pub pool-length : length pool ≡ length pool₀
+
+module _ (ws work₀ pool₀ : List ℕ) (used₀ : ℕ) (p : Walking ws work₀ pool₀ used₀) where
+  pub far-none : Far ws [] work₀ pool₀ used₀ work₀ pool₀ used₀
+  far-none = record {
+    below = λ y i. not-in y i;
+    walks = visiting-none ws (λ (d : List ℕ). Holds ws d pool₀ used₀);
+    work-length = refl;
+    pool-length = refl;
+  }
+
+  module _ (roots work pool : List ℕ) (used : ℕ) (h : Far ws roots work₀ pool₀ used₀ work pool used) where
+    pub far-walking : Walking ws work pool used
+    far-walking = record {
+      checked = p .checked;
+      room = subst (λ (n : ℕ). 4096 ≤ n) (sym (h .work-length)) (p .room);
+      done = foldLeft (visit (childrenAt (recordsOf ws)) (length (recordsOf ws))) (p .done) roots;
+      order = order-walk ws (p .checked) roots (h .below) (p .done) (p .order);
+      holds = h .walks (p .done) (p .order) (p .holds);
+    }
+
+    module _ (more work₁ pool₁ : List ℕ) (u : Expanded) (f : Roots ws more pool used pool₁ u) where
+      both : Roots ws (roots ++ more) pool₀ used₀ pool₁ u
+      both =
+          visiting-both ws (p .checked) roots more (h .below) (λ (d : List ℕ). Holds ws d pool₀ used₀) (λ (d : List ℕ). Holds ws d pool used)
+          (Expands ws pool₁ u) (h .walks) f
+
+      pub far-more : Below (length (recordsOf ws)) more → length work₁ ≡ length work → length pool₁ ≡ length pool → (n : ℕ) → u ≡ Used n
+          → Far ws (roots ++ more) work₀ pool₀ used₀ work₁ pool₁ n
+      far-more b lw lp n e = record {
+        below = append-below (length (recordsOf ws)) roots more (h .below) b;
+        walks = subst (Roots ws (roots ++ more) pool₀ used₀ pool₁) e both;
+        work-length = lw ∙ h .work-length;
+        pool-length = lp ∙ h .pool-length;
+      }
+
+      -- A refusal is the answer for all roots that are left.
+      pub far-refused : (v : Refusal) → u ≡ Refused v → (rest all : List ℕ) → all ≡ roots ++ (more ++ rest) → Roots ws all pool₀ used₀ pool₁ u
+      far-refused v e rest all q =
+          subst (λ (xs : List ℕ). Roots ws xs pool₀ used₀ pool₁ u) (sym (q ∙ sym (append-assoc roots more rest)))
+          (subst (Roots ws ((roots ++ more) ++ rest) pool₀ used₀ pool₁) (sym e)
+          (λ done o k.
+          subst (Stopped ws (length pool₁) (v .number) (v .place))
+          (sym (fold-append (visit (childrenAt (recordsOf ws)) (length (recordsOf ws))) done (roots ++ more) rest))
+          (refused-fold ws (length pool₁) (v .number) (v .place) (length (recordsOf ws)) rest
+          (foldLeft (visit (childrenAt (recordsOf ws)) (length (recordsOf ws))) done (roots ++ more))
+          (subst (Roots ws (roots ++ more) pool₀ used₀ pool₁) e both done o k))))
+
+-- The records that the words from `at` on name; j of them are expanded.
+pub record Naming (ws : List ℕ) (at count : ℕ) (work₀ pool₀ : List ℕ) (used₀ : ℕ) (work pool : List ℕ) (used j : ℕ) : Type 0 where
+  pub j-le : j ≤ count
+  pub far : Far ws (part at j ws) work₀ pool₀ used₀ work pool used
+
+module _ (ws : List ℕ) (at count : ℕ) (work₀ pool₀ : List ℕ) (used₀ : ℕ) (p : Walking ws work₀ pool₀ used₀) (named : NamesInside ws at count) where
+  pub naming-none : Naming ws at count work₀ pool₀ used₀ work₀ pool₀ used₀ 0
+  naming-none = record { j-le = omega arith; far = far-none ws work₀ pool₀ used₀ p }
+
+  module _ (work pool : List ℕ) (used j : ℕ) (h : Naming ws at count work₀ pool₀ used₀ work pool used j) where
+    pub naming-done : count ≤ j → Roots ws (part at count ws) pool₀ used₀ pool (Used used)
+    naming-done l =
+        let e : j ≡ count = omega (arith, h .j-le) in
+        subst (λ (k : ℕ). Roots ws (part at k ws) pool₀ used₀ pool (Used used)) e (h .far .walks)
+
+    module _ (l : j < count) (r : ℕ) (e : r ≡ getD ws (at + j) 0) where
+      inside : r < length (recordsOf ws)
+      inside = subst (λ (x : ℕ). x < length (recordsOf ws)) (sym e) (named .below j l)
+
+      pub ready-name : Ready ws r work pool used
+      ready-name = record { walking = far-walking ws work₀ pool₀ used₀ p (part at j ws) work pool used (h .far); inside = inside }
+
+      more : part at (j + 1) ws ≡ part at j ws ++ (r ∷ [])
+      more = part-more ws at j (omega (arith, named .inside)) ∙ ap (λ (x : ℕ). part at j ws ++ (x ∷ [])) (sym e)
+
+      module _ (work₁ pool₁ : List ℕ) (u : Expanded) (f : Visit ws pool used r pool₁ u) where
+        one : Roots ws (r ∷ []) pool used pool₁ u
+        one = visiting-one ws (p .checked) r inside (λ (d : List ℕ). Holds ws d pool used) (Expands ws pool₁ u) f
+
+        pub naming-more : length work₁ ≡ length work → length pool₁ ≡ length pool → (n : ℕ) → u ≡ Used n
+            → Naming ws at count work₀ pool₀ used₀ work₁ pool₁ n (j + 1)
+        naming-more lw lp n g = record {
+          j-le = omega arith;
+          far = subst (λ (xs : List ℕ). Far ws xs work₀ pool₀ used₀ work₁ pool₁ n) (sym more)
+              (far-more ws work₀ pool₀ used₀ p (part at j ws) work pool used (h .far) (r ∷ []) work₁ pool₁ u one
+              (cons-below (length (recordsOf ws)) r [] inside (λ y i. not-in y i)) lw lp n g);
+        }
+
+        pub naming-refused : (v : Refusal) → u ≡ Refused v → Roots ws (part at count ws) pool₀ used₀ pool₁ u
+        naming-refused v g =
+            let k : count ≡ j + 1 + (count - (j + 1)) = omega arith in
+            let rest : List ℕ = take (count - (j + 1)) (drop (j + 1) (drop at ws)) in
+            far-refused ws work₀ pool₀ used₀ p (part at j ws) work pool used (h .far) (r ∷ []) work₁ pool₁ u one v g rest (part at count ws)
+            (ap (λ (n : ℕ). part at n ws) k
+            ∙ take-add (j + 1) (count - (j + 1)) (drop at ws)
+            ∙ ap (λ (xs : List ℕ). xs ++ rest) more
+            ∙ append-assoc (part at j ws) (r ∷ []) rest)
+
+-- What `one` takes of each interaction from `at` on; i of them are passed.
+pub record Passing (one : ℕ → List ℕ) (ws : List ℕ) (at count : ℕ) (work₀ pool₀ : List ℕ) (used₀ : ℕ) (work pool : List ℕ) (used from i : ℕ) : Type 0 where
+  pub roots : List ℕ
+  pub passed : Passed one ws at count from i roots
+  pub far : Far ws roots work₀ pool₀ used₀ work pool used
+
+module _ (one : ℕ → List ℕ) (ws : List ℕ) (at count : ℕ) (work₀ pool₀ : List ℕ) (used₀ : ℕ) (p : Walking ws work₀ pool₀ used₀) where
+  pub passing-none : AllRootsInside (length (recordsOf ws)) ws at count → Passing one ws at count work₀ pool₀ used₀ work₀ pool₀ used₀ at 0
+  passing-none h = record { roots = []; passed = passed-none one ws at count h; far = far-none ws work₀ pool₀ used₀ p }
+
+  module _ (work pool : List ℕ) (used from i : ℕ) (h : Passing one ws at count work₀ pool₀ used₀ work pool used from i) where
+    pub passing-walking : Walking ws work pool used
+    passing-walking = far-walking ws work₀ pool₀ used₀ p (h .roots) work pool used (h .far)
+
+    pub passing-done : count ≤ i → Roots ws (eachWords one ws at count) pool₀ used₀ pool (Used used)
+    passing-done l = subst (λ (xs : List ℕ). Roots ws xs pool₀ used₀ pool (Used used)) (passed-done one ws at count from i (h .roots) (h .passed) l) (h .far .walks)
+
+    module _ (l : i < count) where
+      pub next-inside : RootsInside (length (recordsOf ws)) ws from
+      next-inside = passed-next one ws at count from i (h .roots) (h .passed) l
+
+      module _ (work₁ pool₁ : List ℕ) (u : Expanded) (f : Roots ws (one from) pool used pool₁ u) where
+        pub passing-more : Below (length (recordsOf ws)) (one from) → length work₁ ≡ length work → length pool₁ ≡ length pool → (n : ℕ) → u ≡ Used n
+            → (from′ : ℕ) → from′ ≡ from + (4 + messageLength ws from) → Passing one ws at count work₀ pool₀ used₀ work₁ pool₁ n from′ (i + 1)
+        passing-more b lw lp n g from′ e = record {
+          roots = h .roots ++ one from;
+          passed = passed-more one ws at count from i (h .roots) (h .passed) l b from′ e;
+          far = far-more ws work₀ pool₀ used₀ p (h .roots) work pool used (h .far) (one from) work₁ pool₁ u f b lw lp n g;
+        }
+
+        pub passing-refused : (v : Refusal) → u ≡ Refused v → Roots ws (eachWords one ws at count) pool₀ used₀ pool₁ u
+        unfolding eachWords
+        passing-refused v g =
+            let k : count - i ≡ suc (count - (i + 1)) = omega arith in
+            let rest : List ℕ = eachWords one ws (from + (4 + messageLength ws from)) (count - (i + 1)) in
+            far-refused ws work₀ pool₀ used₀ p (h .roots) work pool used (h .far) (one from) work₁ pool₁ u f v g rest (eachWords one ws at count)
+            (sym (h .passed .whole) ∙ ap (λ (n : ℕ). h .roots ++ eachWords one ws from n) k)
+
+-- From a pool whose records have no list yet, to all that some roots reach.
+module _ (ws pool : List ℕ) (room : 2 * length (recordsOf ws) ≤ length pool) (clear : (i : ℕ) → i < length (recordsOf ws) → getD pool (2 * i) 0 ≡ 0) where
+  holds-none : Holds ws [] pool (2 * length (recordsOf ws))
+  unfolding expandAll
+  holds-none = record {
+    used-is = refl;
+    low = omega arith;
+    high = room;
+    small = omega arith;
+    new = λ i l m. clear i l;
+    old = λ i m. not-in i m;
+  }
+
+  pub start-walking : check prime ws ≡ good (readSheet ws) → (work : List ℕ) → 4096 ≤ length work → Walking ws work pool (2 * length (recordsOf ws))
+  start-walking checked work l = record { checked = checked; room = l; done = []; order = order-none ws; holds = holds-none }
+
+  pub all-expanded : (roots pool′ : List ℕ) (u : Expanded) → Roots ws roots pool (2 * length (recordsOf ws)) pool′ u → Expands ws pool′ u (order (recordsOf ws) roots)
+  unfolding order
+  all-expanded roots pool′ u f = f [] (order-none ws) holds-none

@@ -1,0 +1,220 @@
+-- A list stored in the pool: what stands there then, and what the walk holds.
+use mathlib.Core.Path.{_≡_, refl, sym, ap, subst, _∙_}
+use mathlib.Core.Logic.{_⊎_, inl, inr}
+use mathlib.Core.Bool.{Bool, true, false}
+use mathlib.Core.List.{List, [], _∷_, _++_, append-nil}
+use Prim.Native.Nat.{ℕ, zero, suc, _+_, _*_, _-_, _≤_, _<_}
+use native.Mathlib.Omega.{arith}
+use lib.Dec.{eqb}
+use lib.ListN.{length, getD, set, take, drop, length-set, length-append, length-drop, take-append-drop, drop-of-length-le, List·getD-append}
+use lib.Seq.{length-take-le, take-all, take-at, drop-at, drop-drop, getD-take, getD-set-same, getD-set-other, drop-set-lt, take-append-le, drop-append-le}
+use borrow.Author.Tests.{eqb-false, eq-eqb, ne-eqb, le-leb, lt-leb}
+use Rattle.semantics.specs.Arithmetic.{prime}
+use Rattle.semantics.specs.Answer.{good, refused, andThen}
+use Rattle.semantics.specs.Check.{readSheet, check}
+use Rattle.semantics.specs.Walk.{member}
+use Rattle.semantics.specs.Monomial.{Monomial, listAt}
+use Rattle.semantics.specs.Expand.{listSize, recordFault, expandRecord, expandAll}
+use Rattle.semantics.proofs.Basics.{by-test, not-both}
+use Rattle.semantics.proofs.Members.{mem-cases}
+use Rattle.semantics.proofs.Orders.{distinct-length}
+use Rattle.semantics.proofs.Sorting.{All}
+use Rattle.records.specs.Access.{recordsOf}
+use Rattle.records.specs.Orders.{Order}
+use Rattle.records.proofs.Steps.{few-records}
+use Rattle.monomial.specs.Words.{held, listWords, Fits}
+use Rattle.monomial.specs.Walking.{Kept, Holds, Expands, withList, Storing, Stores}
+use Rattle.monomial.specs.declared.expand.Expanded.{Expanded}
+use Rattle.monomial.specs.declared.expand.Expanded.the-variants.{Used, Refused}
+use Rattle.monomial.proofs.ListLaws.{size-nil, size-cons, words-length}
+use Rattle.monomial.proofs.Sizes.{held-zero, held-suc}
+
+pub held-length : (n : ℕ) (ws : List ℕ) → length (held n ws) ≡ n
+held-length zero ws = ap length (held-zero ws)
+held-length (suc n) ws = ap length (held-suc n ws) ∙ ap suc (held-length n (drop 16 ws))
+
+size-small : (ms : List Monomial) → All Fits ms → listSize ms ≤ 16 * length ms
+size-small [] k = omega (arith, size-nil)
+size-small (m ∷ ms) k = omega (arith, size-cons m ms, k .0 .few, size-small ms (k .1))
+
+-- What the writer of the free tail says of the whole pool.
+pub tail-written : (P Y W : List ℕ) (used size : ℕ) → Y ≡ W ++ drop size (take (length P - used) (drop used P))
+    → take used P ++ (Y ++ drop (length P - used) (drop used P)) ≡ take used P ++ (W ++ drop (used + size) P)
+tail-written P Y W used size e =
+    let l : length (drop used P) ≤ length P - used = omega (arith, length-drop used P) in
+    let a : take (length P - used) (drop used P) ≡ drop used P = take-all (length P - used) (drop used P) l in
+    let b : drop (length P - used) (drop used P) ≡ [] = drop-of-length-le (drop used P) l in
+    rw (b, append-nil Y, e, a, drop-drop size used P)
+
+-- The pool with a list behind the words that were taken, and its place in the two words of record r.
+module _ (P : List ℕ) (r used : ℕ) (l : List Monomial) (head : 2 * r + 2 ≤ used) (room : used + listSize l ≤ length P) where
+  abbrev N : ℕ
+  N = listSize l
+
+  abbrev P₁ : List ℕ
+  P₁ = take used P ++ (listWords l ++ drop (used + N) P)
+
+  abbrev P′ : List ℕ
+  P′ = withList P r used l
+
+  front : length (take used P) ≡ used
+  front = length-take-le used P (omega arith)
+
+  written-length : length P₁ ≡ length P
+  written-length =
+      length-append (take used P) (listWords l ++ drop (used + N) P)
+      ∙ omega (arith, front, length-append (listWords l) (drop (used + N) P), words-length l, length-drop (used + N) P)
+
+  pub with-length : length P′ ≡ length P
+  with-length = length-set (set P₁ (2 * r) used) (2 * r + 1) (length l) ∙ length-set P₁ (2 * r) used ∙ written-length
+
+  -- Other words before the free ones stay.
+  with-word : (j : ℕ) → j < used → (j ≡ 2 * r → ⊥) → (j ≡ 2 * r + 1 → ⊥) → getD P′ j 0 ≡ getD P j 0
+  with-word j k n m =
+      getD-set-other (set P₁ (2 * r) used) (2 * r + 1) j (length l) 0 m
+      ∙ getD-set-other P₁ (2 * r) j used 0 n
+      ∙ List·getD-append (take used P) (listWords l ++ drop (used + N) P) 0 j (omega (arith, front))
+      ∙ getD-take used P j 0 k
+
+  with-start : getD P′ (2 * r) 0 ≡ used
+  with-start =
+      getD-set-other (set P₁ (2 * r) used) (2 * r + 1) (2 * r) (length l) 0 (λ e. omega arith)
+      ∙ getD-set-same P₁ (2 * r) used 0 (omega (arith, written-length))
+
+  with-count : getD P′ (2 * r + 1) 0 ≡ length l
+  with-count = getD-set-same (set P₁ (2 * r) used) (2 * r + 1) (length l) 0 (omega (arith, length-set P₁ (2 * r) used, written-length))
+
+  with-drop : (k : ℕ) → 2 * r + 2 ≤ k → drop k P′ ≡ drop k P₁
+  with-drop k h = drop-set-lt k (set P₁ (2 * r) used) (2 * r + 1) (length l) (omega arith) ∙ drop-set-lt k P₁ (2 * r) used (omega arith)
+
+  -- The list stands there.
+  with-words : take N (drop used P′) ≡ listWords l
+  with-words =
+      ap (take N) (with-drop used head ∙ drop-at (take used P) (listWords l ++ drop (used + N) P) used front)
+      ∙ take-at (listWords l) (drop (used + N) P) N (words-length l)
+
+  -- Lists before it stay.
+  part-front : (X : List ℕ) (k n : ℕ) → k + n ≤ used → take n (drop k (take used P ++ X)) ≡ take n (drop k (take used P))
+  part-front X k n h =
+      ap (take n) (drop-append-le k (take used P) X (omega (arith, front)))
+      ∙ take-append-le n (drop k (take used P)) X (omega (arith, front, length-drop k (take used P)))
+
+  with-part : (k n : ℕ) → 2 * r + 2 ≤ k → k + n ≤ used → take n (drop k P′) ≡ take n (drop k P)
+  with-part k n h m =
+      ap (take n) (with-drop k h)
+      ∙ part-front (listWords l ++ drop (used + N) P) k n m
+      ∙ sym (part-front (drop used P) k n m)
+      ∙ ap (λ (xs : List ℕ). take n (drop k xs)) (take-append-drop used P)
+
+-- ---- the walk with one record more
+
+module _ (ws done : List ℕ) (pool r used : ℕ) (e : expandAll prime (recordsOf ws) pool done ≡ good used) where
+  expand-more : recordFault prime (recordsOf ws) r ≡ 0 → used + listSize (listAt prime (recordsOf ws) r) ≤ pool
+      → expandAll prime (recordsOf ws) pool (r ∷ done) ≡ good (used + listSize (listAt prime (recordsOf ws) r))
+  unfolding expandAll andThen expandRecord
+  expand-more f l = rw (e, eq-eqb (recordFault prime (recordsOf ws) r) 0 f, le-leb (used + listSize (listAt prime (recordsOf ws) r)) pool l)
+
+  pub expand-fault : (f : ℕ) → recordFault prime (recordsOf ws) r ≡ f → (f ≡ 0 → ⊥) → expandAll prime (recordsOf ws) pool (r ∷ done) ≡ refused f r
+  unfolding expandAll andThen expandRecord
+  expand-fault f q n = rw (e, ne-eqb (recordFault prime (recordsOf ws) r) 0 (λ z. n (sym q ∙ z))) (ap (λ (k : ℕ). refused k r) q)
+
+  expand-full : recordFault prime (recordsOf ws) r ≡ 0 → pool < used + listSize (listAt prime (recordsOf ws) r) → expandAll prime (recordsOf ws) pool (r ∷ done) ≡ refused 16 r
+  unfolding expandAll andThen expandRecord
+  expand-full f l = rw (e, eq-eqb (recordFault prime (recordsOf ws) r) 0 f, lt-leb (used + listSize (listAt prime (recordsOf ws) r)) pool l)
+
+not-here : (i r : ℕ) (done : List ℕ) → member i (r ∷ done) ≡ false → (i ≡ r → ⊥) × (member i done ≡ false)
+unfolding member
+not-here i r done = by-test (λ (t : Bool). t ≡ false → (i ≡ r → ⊥) × (member i done ≡ false)) (eqb i r) (λ e h. not-both refl h) (λ e h. (eqb-false i r e, h))
+
+module _ (ws done pool : List ℕ) (used : ℕ) (h : Holds ws done pool used) (o : Order ws done) (r : ℕ) (lr : r < length (recordsOf ws)) (new : member r done ≡ false) where
+  abbrev L : List Monomial
+  L = listAt prime (recordsOf ws) r
+
+  pub head-room : 2 * r + 2 ≤ used
+  head-room = omega (arith, h .low)
+
+  module _ (fine : recordFault prime (recordsOf ws) r ≡ 0) (few : length L ≤ 256) (fit : All Fits L) (room : used + listSize L ≤ length pool) where
+    abbrev Q : List ℕ
+    Q = withList pool r used L
+
+    long : length Q ≡ length pool
+    long = with-length pool r used L head-room room
+
+    kept-new : Kept ws Q (used + listSize L) r
+    kept-new =
+        let start = with-start pool r used L head-room room in
+        record {
+          stored = record {
+            head = omega (arith, long, h .low, h .high);
+            count-is = with-count pool r used L head-room room;
+            inside = omega (arith, start, long);
+            words-are = subst (λ (s : ℕ). take (listSize L) (drop s Q) ≡ listWords L) (sym start) (with-words pool r used L head-room room);
+            fit = fit;
+          };
+          behind = omega (arith, start, h .low);
+          before = omega (arith, start);
+          few = few;
+        }
+
+    kept-old : (i : ℕ) → member i done ≡ true → Kept ws Q (used + listSize L) i
+    kept-old i m =
+        let k = h .old i m in
+        let b : i < length (recordsOf ws) = o .below i m in
+        let n : i ≡ r → ⊥ = λ e. not-both (subst (λ (j : ℕ). member j done ≡ true) e m) new in
+        let start = with-word pool r used L head-room room (2 * i) (omega (arith, h .low)) (λ e. n (omega arith)) (λ e. omega arith) in
+        let count = with-word pool r used L head-room room (2 * i + 1) (omega (arith, h .low)) (λ e. omega arith) (λ e. n (omega arith)) in
+        let size : ℕ = listSize (listAt prime (recordsOf ws) i) in
+        record {
+          stored = record {
+            head = omega (arith, long, h .low, h .high);
+            count-is = count ∙ k .stored .count-is;
+            inside = omega (arith, start, long, k .stored .inside);
+            words-are =
+                subst (λ (s : ℕ). take size (drop s Q) ≡ listWords (listAt prime (recordsOf ws) i)) (sym start)
+                (with-part pool r used L head-room room (getD pool (2 * i) 0) size (omega (arith, k .behind)) (k .before) ∙ k .stored .words-are);
+            fit = k .stored .fit;
+          };
+          behind = omega (arith, start, k .behind);
+          before = omega (arith, start, k .before);
+          few = k .few;
+        }
+
+    holds-more : Holds ws (r ∷ done) Q (used + listSize L)
+    holds-more = record {
+      used-is = subst (λ (n : ℕ). expandAll prime (recordsOf ws) n (r ∷ done) ≡ good (used + listSize L)) (sym long) (expand-more ws done (length pool) r used (h .used-is) fine room);
+      low = omega (arith, h .low);
+      high = omega (arith, long);
+      small = omega (arith, h .small, size-small L fit);
+      new = λ i l m.
+          let n = not-here i r done m in
+          with-word pool r used L head-room room (2 * i) (omega (arith, h .low)) (λ e. n .0 (omega arith)) (λ e. omega arith) ∙ h .new i l (n .1);
+      old = λ i m. go i (mem-cases i r done m);
+    }
+      where
+        go : (i : ℕ) → (i ≡ r) ⊎ (member i done ≡ true) → Kept ws Q (used + listSize L) i
+        go i (inl e) = subst (Kept ws Q (used + listSize L)) (sym e) kept-new
+        go i (inr m) = kept-old i m
+
+  -- What storing asks, and what it comes to.
+  module _ (checked : check prime ws ≡ good (readSheet ws)) (work : List ℕ) (n : ℕ) (is : held n work ≡ L) (few : n ≤ 256) (fit : All Fits L) where
+    pub storing : 4096 ≤ length work → Storing work n pool r used
+    storing k = record {
+      few = few;
+      room = k;
+      fit = subst (All Fits) (sym is) fit;
+      head = head-room;
+      high = h .high;
+      small = omega (arith, h .small, few-records ws checked, distinct-length (length (recordsOf ws)) done (o .distinct) (o .below));
+    }
+
+    pub stored : recordFault prime (recordsOf ws) r ≡ 0 → (pool′ : List ℕ) → length pool′ ≡ length pool → (u : Expanded) → Stores pool pool′ r used (held n work) u
+        → Expands ws pool′ u (r ∷ done)
+    stored fine pool′ lp (Used u) s =
+        let t : Stores pool pool′ r used L (Used u) = subst (λ (l : List Monomial). Stores pool pool′ r used l (Used u)) is s in
+        let c : length L ≤ 256 = omega (arith, ap length is, held-length n work) in
+        subst (λ (q : List ℕ). Holds ws (r ∷ done) q u) (sym (t .2))
+        (subst (Holds ws (r ∷ done) (withList pool r used L)) (sym (t .0)) (holds-more fine c fit (omega arith)))
+    stored fine pool′ lp (Refused q) s =
+        let t : Stores pool pool′ r used L (Refused q) = subst (λ (l : List Monomial). Stores pool pool′ r used l (Refused q)) is s in
+        subst (λ (k : ℕ). expandAll prime (recordsOf ws) k (r ∷ done) ≡ refused (q .number) (q .place)) (sym lp)
+        (expand-full ws done (length pool) r used (h .used-is) fine (t .2) ∙ λ i. refused (sym (t .0) i) (sym (t .1) i))

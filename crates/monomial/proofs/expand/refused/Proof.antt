@@ -1,0 +1,24 @@
+use Rattle.monomial.specs.Walking.{refusedBy}
+use mathlib.Core.Path.{sym, ap}
+use borrow.Author.Needs.{needs}
+use Rattle.monomial.proofs.expand.refused.Statement.{statement}
+use Rattle.monomial.proofs.expand.refused.Tie as tie
+
+-- src/expand.rt:70:21
+enum-known-made : tie.Need-enum-known-made
+enum-known-made c = search needs
+
+-- src/expand.rt:71:44
+enum-told : tie.Need-enum-told
+enum-told c = search needs
+
+-- src/expand.rt:66:1
+returns : tie.Need-returns
+returns c = ap (λ m. refusedBy m (c .before .before .before .args .r)) (sym (c .before .made .given .1))
+
+-- src/expand.rt:66:1
+returns-2 : tie.Need-returns-2
+returns-2 c = ap (λ m. refusedBy m (c .before .before .args .r)) (sym (c .enum-told .given .1))
+
+pub refused-spec : {M : Type 1} → statement M
+refused-spec = tie.close (tie.spec enum-known-made enum-told returns returns-2)

@@ -1,0 +1,124 @@
+use mathlib.Core.Path.{_≡_, refl, sym, ap, _∙_}
+use Prim.Native.Nat.{ℕ, _+_, _-_, _≤_}
+use native.Mathlib.Omega.{arith}
+use borrow.Author.Needs.{needs}
+use lib.ListN.{length, getD, take, drop, length-set}
+use lib.ListN.{length-map, length-drop}
+use lib.Seq.{getD-drop}
+use Rattle.packed_var.specs.declared.PackedVar.{PackedVar}
+use Rattle.monomial.specs.Words.{num, nums}
+use Rattle.monomial.proofs.ListLaws.{vars-in-is}
+use Rattle.monomial.proofs.Readings.{map-put, alike-more, read-in}
+use Rattle.monomial.proofs.list_steps.monomial_in.Statement.{statement}
+use Rattle.monomial.proofs.list_steps.monomial_in.Tie as tie
+use Rattle.monomial.proofs.list_steps.monomial_in.Reads as reads
+use Rattle.monomial.proofs.list_steps.monomial_in.Lts as lts
+use Rattle.monomial.proofs.list_steps.vars_in.Reads as vars-in-reads
+
+abbrev Inv-loop : tie.InvT-loop
+Inv-loop words at vars₀ count i₀ vars i = (i ≤ count) × (count ≤ 14) × (at + 2 + count ≤ length words) × (length vars ≡ 14) × (take i (nums vars) ≡ take i (drop (at + 2) words))
+
+abbrev μ-loop : tie.MeasureT-loop
+μ-loop words at vars₀ count i₀ vars i = count - i
+
+-- src/list_steps.rt:55:9
+vars-in-requires : tie.Need-vars-in-requires Inv-loop μ-loop
+vars-in-requires c κs = c .before .pre .0
+
+-- src/list_steps.rt:57:5
+loop-holds : tie.Need-loop-holds Inv-loop μ-loop
+loop-holds c =
+    let a = c .before .before .args in
+    (search needs, omega (arith, c .vars-in .ensures, c .before .before .pre .1), omega (arith, c .vars-in .ensures, c .before .before .pre .0, vars-in-is (a .words .now) (a .at)), search needs, refl)
+
+-- src/list_steps.rt:58:35
+add-t8 : tie.Need-add-t8 Inv-loop μ-loop
+add-t8 c = search needs
+
+-- src/list_steps.rt:58:35
+add-t9 : tie.Need-add-t9 Inv-loop μ-loop
+add-t9 c = search needs
+
+-- src/list_steps.rt:58:29
+mul-t10 : tie.Need-mul-t10 Inv-loop μ-loop
+mul-t10 c = search needs
+
+-- src/list_steps.rt:58:29
+shared-slice-read-t12 : tie.Need-shared-slice-read-t12 Inv-loop μ-loop
+shared-slice-read-t12 c = search needs
+
+-- src/list_steps.rt:58:9
+mul-vars : tie.Need-mul-vars Inv-loop μ-loop
+mul-vars c = search needs
+
+-- src/list_steps.rt:58:9
+array-set-from-vars : tie.Need-array-set-from-vars Inv-loop μ-loop
+array-set-from-vars c = search needs
+
+-- src/list_steps.rt:59:9
+add-i : tie.Need-add-i Inv-loop μ-loop
+add-i c = search needs
+
+-- src/list_steps.rt:57:5
+loop-less : tie.Need-loop-less Inv-loop μ-loop
+loop-less c = search needs
+
+-- src/list_steps.rt:57:5
+loop-again : tie.Need-loop-again Inv-loop μ-loop
+loop-again c =
+    let a = c .before .before .before .before .before .args in
+    let b = c .before .before .loop in
+    let h = b .inv in
+    let x : PackedVar = record { 0 = getD (a .words .now) (a .at + 2 + b .i) 0 } in
+    let l = length-map (b .vars) num in
+    let d = length-drop (a .at + 2) (a .words .now) in (
+      omega arith,
+      h .1,
+      h .2,
+      length-set (b .vars) (b .i) x ∙ h .3,
+      ap (take (b .i + 1)) (map-put num (b .vars) (b .i) x)
+          ∙ alike-more (nums (b .vars)) (drop (a .at + 2) (a .words .now)) (b .i) (num x) (omega arith) (omega arith) (h .4) (sym (getD-drop (a .at + 2) (a .words .now) (b .i) 0)),
+    )
+
+-- src/list_steps.rt:64:21
+add-t18 : tie.Need-add-t18 Inv-loop μ-loop
+add-t18 c = search needs
+
+-- src/list_steps.rt:64:15
+mul-t19 : tie.Need-mul-t19 Inv-loop μ-loop
+mul-t19 c = search needs
+
+-- src/list_steps.rt:64:15
+shared-slice-read-t21 : tie.Need-shared-slice-read-t21 Inv-loop μ-loop
+shared-slice-read-t21 c = search needs
+
+-- src/list_steps.rt:50:1
+returns : tie.Need-returns Inv-loop μ-loop
+returns c =
+    let a = c .before .before .before .before .before .args in
+    let b = c .before .before .loop in
+    let n = c .before .before .before .vars-in .result in
+    let q : b .i ≡ n = omega arith in
+    (read-in (a .words .now) (nums (b .vars)) (a .at) n (c .before .before .before .vars-in .ensures) (ap (λ (i : ℕ). take i (nums (b .vars))) (sym q) ∙ b .inv .4 ∙ ap (λ (i : ℕ). take i (drop (a .at + 2) (a .words .now))) q), c .before .before .before .vars-in .ensures)
+
+pub monomial-in-spec : {M : Type 1} → statement M
+monomial-in-spec =
+    tie.close
+    (tie.spec
+    Inv-loop
+    μ-loop
+    vars-in-requires
+    loop-holds
+    add-t8
+    add-t9
+    mul-t10
+    shared-slice-read-t12
+    mul-vars
+    array-set-from-vars
+    add-i
+    loop-less
+    loop-again
+    add-t18
+    mul-t19
+    shared-slice-read-t21
+    returns)

@@ -1,0 +1,6 @@
+pub mod Words
+pub mod Orders
+pub mod Merged
+pub mod Places
+pub mod Making
+pub mod Walking

@@ -1,0 +1,84 @@
+// The variables of monomials: fourteen places by value.
+use packed_var::PackedVar;
+ghost use mathlib.Core.Path.{_≡_};
+ghost use mathlib.Core.List.{_∷_, _++_};
+ghost use Prim.Native.Nat.{_+_, _-_, _≤_, _<_};
+ghost use lib.ListN.{length, take, drop};
+ghost use Rattle.semantics.specs.Monomial.{sort, above};
+ghost use Rattle.semantics.proofs.Sorting.{Sorted};
+ghost use Rattle.monomial.specs.Words.{num, nums};
+ghost use Rattle.monomial.specs.Merged.{merged};
+ghost use Rattle.monomial.specs.Orders.{orderOf};
+
+pub enum Order {
+    Before,
+    Same,
+    After,
+}
+
+// Where variables in hand stand in the order, seen from the m variables that stand at `at`.
+pub fn order_at(words: &[u32], at: usize, m: usize, vars: [PackedVar; 14], n: usize) -> Order
+    requires { ⌜ (n ≤ 14) × (at + m ≤ length (now words)) ⌝ }
+    ensures { λ r. ⌜ r ≡ orderOf (take n (nums vars)) (take m (drop at (now (words .entry)))) ⌝ }
+{
+    if n < m {
+        return Order::Before;
+    }
+    if m < n {
+        return Order::After;
+    }
+    let mut i: usize = 0;
+    while i < n {
+        let x = vars[i].0;
+        let y = words[at + i];
+        if x < y {
+            return Order::Before;
+        }
+        if y < x {
+            return Order::After;
+        }
+        i += 1;
+    }
+    Order::Same
+}
+
+// The next variable of two lists, and how far it takes the left one.
+struct Next {
+    var: PackedVar,
+    left: usize,
+}
+
+// The lower of the first variables that are left: of a from i to n, of b from j to m.
+fn next_var(a: [PackedVar; 14], i: usize, n: usize, b: [PackedVar; 14], j: usize, m: usize) -> Next
+    requires { ⌜ (i ≤ n) × (n ≤ 14) × (j ≤ m) × (m ≤ 14) × (i + j < n + m) ⌝ }
+    ensures { λ r. ⌜ (r .left ≤ 1) × (i + r .left ≤ n) × (j + (1 - r .left) ≤ m) × (merged (take (n - i) (drop i (nums a))) (take (m - j) (drop j (nums b))) ≡ num (r .var) ∷ merged (take (n - (i + r .left)) (drop (i + r .left) (nums a))) (take (m - (j + (1 - r .left))) (drop (j + (1 - r .left)) (nums b)))) ⌝ }
+{
+    if m <= j {
+        return Next { var: a[i], left: 1 };
+    }
+    if n <= i {
+        return Next { var: b[j], left: 0 };
+    }
+    if b[j].0 < a[i].0 {
+        return Next { var: b[j], left: 0 };
+    }
+    Next { var: a[i], left: 1 }
+}
+
+// The sorted variables of two monomials, sorted together.
+pub fn merge_vars(a: [PackedVar; 14], n: usize, b: [PackedVar; 14], m: usize) -> [PackedVar; 14]
+    requires { ⌜ (n + m ≤ 14) × Sorted above (take n (nums a)) × Sorted above (take m (nums b)) ⌝ }
+    ensures { λ r. ⌜ take (n + m) (nums r) ≡ sort above (take n (nums a) ++ take m (nums b)) ⌝ }
+{
+    let mut r = [PackedVar(0); 14];
+    let mut i: usize = 0;
+    let mut j: usize = 0;
+    while i + j < n + m {
+        let next = next_var(a, i, n, b, j, m);
+        let v = next.var;
+        r[i + j] = v;
+        i += next.left;
+        j += 1 - next.left;
+    }
+    r
+}

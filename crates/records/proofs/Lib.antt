@@ -1,0 +1,5 @@
+pub mod Parts
+pub mod Steps
+pub mod Visits
+pub mod Rooting
+pub mod Reading

@@ -1,0 +1,72 @@
+-- Where a sheet's records, constraints and interactions stand in its words (01, "The sheet").
+use mathlib.Core.List.{List, [], _++_}
+use Prim.Native.Nat.{ℕ, zero, suc, _+_, _*_, _≤_, _<_}
+use lib.ListN.{length, getD, take, drop}
+use Rattle.semantics.specs.Sheet as semantics
+use Rattle.semantics.specs.Sheet.{recordOf}
+use Rattle.semantics.specs.Check.{readSheet}
+use Rattle.records.specs.declared.Record.{Record}
+
+-- Five words as a record.
+abbrev pub fiveWords : Record → semantics.Record
+fiveWords r = recordOf (r .kind) (r .a) (r .b) (r .c) (r .d)
+
+-- The five words of record i.
+abbrev pub nodeIn : List ℕ → ℕ → semantics.Record
+nodeIn ws i = recordOf (getD ws (4 + 5 * i) 0) (getD ws (4 + 5 * i + 1) 0) (getD ws (4 + 5 * i + 2) 0) (getD ws (4 + 5 * i + 3) 0) (getD ws (4 + 5 * i + 4) 0)
+
+-- The records that the words say.
+abbrev pub recordsOf : List ℕ → List semantics.Record
+recordsOf ws = readSheet ws .records
+
+-- Where the constraints start, and the interactions.
+abbrev pub constraintsAt : List ℕ → ℕ
+constraintsAt ws = 4 + 5 * length (recordsOf ws)
+
+abbrev pub interactionsAt : List ℕ → ℕ
+interactionsAt ws = constraintsAt ws + length (readSheet ws .constraints)
+
+-- The words from `at` on that name records.
+abbrev pub part : (at count : ℕ) → List ℕ → List ℕ
+part at count ws = take count (drop at ws)
+
+-- The message length of the interaction that stands at `at`.
+abbrev pub messageLength : List ℕ → ℕ → ℕ
+messageLength ws at = getD ws (at + 3) 0
+
+-- The names that n interactions from `at` on have, one interaction after the other; `one` is what is taken of each.
+unfoldable pub eachWords : (one : ℕ → List ℕ) (ws : List ℕ) (at n : ℕ) → List ℕ
+eachWords one ws at zero = []
+eachWords one ws at (suc n) = one at ++ eachWords one ws (at + (4 + messageLength ws at)) n
+
+-- The count of the interaction at `at`, and its fields.
+abbrev pub countAt : (ws : List ℕ) (at : ℕ) → List ℕ
+countAt ws at = part (at + 2) 1 ws
+
+abbrev pub fieldsAt : (ws : List ℕ) (at : ℕ) → List ℕ
+fieldsAt ws at = part (at + 4) (messageLength ws at) ws
+
+-- The records that interactions name: the fields of each before its count; the counts alone; the fields alone.
+abbrev pub rootWords : (ws : List ℕ) (at n : ℕ) → List ℕ
+rootWords ws at n = eachWords (λ (a : ℕ). fieldsAt ws a ++ countAt ws a) ws at n
+
+abbrev pub countWords : (ws : List ℕ) (at n : ℕ) → List ℕ
+countWords ws at n = eachWords (countAt ws) ws at n
+
+abbrev pub fieldWords : (ws : List ℕ) (at n : ℕ) → List ℕ
+fieldWords ws at n = eachWords (fieldsAt ws) ws at n
+
+-- The words from `at` on name records.
+pub record NamesInside (ws : List ℕ) (at count : ℕ) : Type 0 where
+  pub inside : at + count ≤ length ws
+  pub below : (j : ℕ) → j < count → getD ws (at + j) 0 < length (recordsOf ws)
+
+-- The interactions from `at` on name records below a bound.
+pub record RootsInside (bound : ℕ) (ws : List ℕ) (at : ℕ) : Type 0 where
+  pub inside : at + (4 + messageLength ws at) ≤ length ws
+  pub count : getD ws (at + 2) 0 < bound
+  pub message : (j : ℕ) → j < messageLength ws at → getD ws (at + 4 + j) 0 < bound
+
+abbrev pub AllRootsInside : (bound : ℕ) (ws : List ℕ) (at n : ℕ) → Type 0
+AllRootsInside bound ws at zero = Unit {0}
+AllRootsInside bound ws at (suc n) = RootsInside bound ws at × AllRootsInside bound ws (at + (4 + messageLength ws at)) n

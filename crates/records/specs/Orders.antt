@@ -1,0 +1,25 @@
+-- The order in which a walk has reached records of a sheet, newest first.
+use mathlib.Core.Path.{_≡_}
+use mathlib.Core.Bool.{true}
+use mathlib.Core.List.{List}
+use Prim.Native.Nat.{ℕ}
+use lib.ListN.{length}
+use Rattle.semantics.specs.Walk.{childrenAt, member, foldLeft, visit, Distinct}
+use Rattle.semantics.proofs.Members.{Below}
+use Rattle.semantics.proofs.Walks.{Closed}
+use Rattle.records.specs.Access.{recordsOf}
+
+-- An order so far: children before parents, each once, records of the sheet.
+pub record Order (ws done : List ℕ) : Type 0 where
+  pub closed : Closed (childrenAt (recordsOf ws)) done
+  pub distinct : Distinct done
+  pub below : Below (length (recordsOf ws)) done
+
+-- The children of a record are reached.
+abbrev pub There : (ws : List ℕ) (r : ℕ) (done : List ℕ) → Type 0
+There ws r done = (c : ℕ) → member c (childrenAt (recordsOf ws) r) ≡ true → member c done ≡ true
+
+-- What holds of an order before these roots are visited, and what holds of it then.
+abbrev pub Visiting : (ws roots : List ℕ) (before after : List ℕ → Type 0) → Type 0
+Visiting ws roots before after =
+    (done : List ℕ) → Order ws done → before done → after (foldLeft (visit (childrenAt (recordsOf ws)) (length (recordsOf ws))) done roots)
