@@ -1,8 +1,8 @@
 -- The list of a record from its children's lists in the pool, by the record's kind.
 use mathlib.Core.Path.{_≡_, refl, sym, ap, subst, _∙_}
-use mathlib.Core.Bool.{Bool, true, false, cond}
+use mathlib.Core.Bool.{Bool, true, false}
 use mathlib.Core.List.{List, [], _∷_, _++_, map}
-use Prim.Native.Nat.{ℕ, zero, suc, _+_, _*_, _≤_, _<_}
+use Prim.Native.Nat.{ℕ, _+_, _*_, _≤_, _<_}
 use native.Mathlib.Omega.{arith}
 use lib.Dec.{eqb}
 use lib.ListN.{length, getD}
@@ -12,17 +12,17 @@ use Rattle.semantics.specs.Answer.{good, refused}
 use Rattle.semantics.specs.Sheet.{Record, GoodRecord}
 use Rattle.semantics.specs.Check.{readSheet, check}
 use Rattle.semantics.specs.Packing.{packFault}
-use Rattle.semantics.specs.Value.{Node, leaf, const, add, sub, neg, mul, nodeOf, recordAt}
+use Rattle.semantics.specs.Value.{Node, leaf, add, sub, neg, mul, nodeOf, recordAt}
 use Rattle.semantics.specs.Walk.{childrenAt, member}
 use Rattle.semantics.specs.Monomial.{Monomial, negMonomial, products, combine, working, finished, recordList, listAt}
-use Rattle.semantics.specs.Expand.{workFault, recordFault, expandAll}
+use Rattle.semantics.specs.Expand.{workFault, recordFault}
 use Rattle.semantics.proofs.Basics.{by-test, cond-true}
 use Rattle.semantics.proofs.Members.{Mem}
 use Rattle.semantics.proofs.Expansions.{list-at}
 use Rattle.records.specs.declared.Record as declared
 use Rattle.records.specs.Access.{fiveWords, nodeIn, recordsOf}
-use Rattle.records.specs.Orders.{Order, There}
-use Rattle.records.proofs.Steps.{lows, child-inside}
+use Rattle.records.specs.Orders.{Order}
+use Rattle.records.proofs.Steps.{lows}
 use Rattle.records.proofs.Visits.{record-good, kind-limits, is, kind-is, a-is, b-is, has-a, has-b}
 use Rattle.monomial.specs.Words.{held, listIn, signed, ListFits}
 use Rattle.expand.specs.Making.{Makes}
@@ -31,7 +31,6 @@ use Rattle.expand.specs.declared.kinds.Made.{Made}
 use Rattle.expand.specs.declared.kinds.Made.the-variants.{Held, Fault}
 use Rattle.expand.specs.declared.kinds.PoolList.{PoolList}
 use Rattle.expand.specs.declared.Expanded.{Expanded}
-use Rattle.expand.specs.declared.Expanded.the-variants.{Used, Refused}
 use Rattle.monomial.proofs.ListLaws.{list-fits-at}
 use Rattle.expand.proofs.Leaves.{flat-list, flat-fault}
 use Rattle.expand.proofs.Storing.{expand-fault, storing, stored}

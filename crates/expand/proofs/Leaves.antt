@@ -1,18 +1,18 @@
 -- The lists of leaves, and that a leaf of a checked sheet packs or is refused with 8 to 11.
 use mathlib.Core.Path.{_≡_, refl, sym, ap, subst, _∙_}
-use mathlib.Core.Bool.{Bool, true, false, cond, true≢false, _&&_}
-use mathlib.Core.List.{List, [], _∷_, _++_, map}
-use Prim.Native.Nat.{ℕ, zero, suc, _+_, _*_, _≤_, _<_}
+use mathlib.Core.Bool.{Bool, true, false, true≢false, _&&_}
+use mathlib.Core.List.{List, [], _∷_, _++_}
+use Prim.Native.Nat.{ℕ, zero, suc, _+_, _≤_, _<_}
 use native.Mathlib.Omega.{arith}
 use lib.Dec.{eqb, leb, ltb}
 use lib.ListN.{length}
 use borrow.Author.Tests.{eqb-true, eqb-false, ne-eqb, le-leb, leb-true, ltb-true}
 use Rattle.semantics.specs.Arithmetic.{prime}
 use Rattle.semantics.specs.Answer.{Answer, good, refused, andThen}
-use Rattle.semantics.specs.Sheet.{Record, recordOf, recordWords, row, table, fits, passes, GoodRecord}
-use Rattle.semantics.specs.Check.{Scan, reading, scanWords, judged}
+use Rattle.semantics.specs.Sheet.{Record, recordWords, row, table, fits, passes, GoodRecord}
+use Rattle.semantics.specs.Check.{reading, scanWords, judged}
 use Rattle.semantics.specs.Packing.{packed, packFault, leafTests, packRecord, pack}
-use Rattle.semantics.specs.Value.{Node, leaf, const, nodeOf, leafOf}
+use Rattle.semantics.specs.Value.{Node, leaf, nodeOf}
 use Rattle.semantics.specs.Monomial.{Monomial, working, finished, recordList, above}
 use Rattle.semantics.specs.Expand.{longer, workFault}
 use Rattle.semantics.proofs.Basics.{by-test, and-true, true-and}
@@ -25,7 +25,6 @@ use Rattle.packed_var.specs.declared.Refusal.{Refusal}
 use Rattle.packed_var.specs.Packed.{packedAnswer}
 use Rattle.monomial.specs.Words.{held, Fits}
 use Rattle.expand.specs.Making.{single, constant, faultOf, Makes}
-use Rattle.expand.specs.declared.kinds.Made.{Made}
 use Rattle.expand.specs.declared.kinds.Made.the-variants.{Held, Fault}
 use Rattle.monomial.proofs.Sizes.{held-zero}
 

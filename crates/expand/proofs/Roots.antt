@@ -1,20 +1,21 @@
 -- Expanding the records that words of the sheet name, one after the other.
 use mathlib.Core.Path.{_≡_, refl, sym, ap, subst, _∙_}
 use mathlib.Core.List.{List, [], _∷_, _++_, append-assoc}
-use Prim.Native.Nat.{ℕ, zero, suc, _+_, _*_, _-_, _≤_, _<_}
+use Prim.Native.Nat.{ℕ, suc, _+_, _*_, _-_, _≤_, _<_}
 use native.Mathlib.Omega.{arith}
 use lib.ListN.{length, getD, take, drop}
-use lib.Seq.{take-add, drop-drop}
+use lib.Seq.{take-add}
 use Rattle.semantics.specs.Arithmetic.{prime}
 use Rattle.semantics.specs.Answer.{good}
 use Rattle.semantics.specs.Check.{readSheet, check}
-use Rattle.semantics.specs.Walk.{childrenAt, foldLeft, visit}
-use Rattle.semantics.proofs.Members.{Mem, mem-here, not-in, Below, cons-below, append-below}
+use Rattle.semantics.specs.Walk.{childrenAt, foldLeft, visit, order}
+use Rattle.semantics.specs.Expand.{expandAll}
+use Rattle.semantics.proofs.Members.{not-in, Below, cons-below, append-below}
 use Rattle.sheet.specs.declared.Refusal.{Refusal}
 use Rattle.records.specs.Access.{recordsOf, part, messageLength, eachWords, NamesInside, RootsInside, AllRootsInside}
-use Rattle.records.specs.Orders.{Order, Visiting}
+use Rattle.records.specs.Orders.{Visiting}
 use Rattle.records.proofs.Parts.{part-more}
-use Rattle.records.proofs.Rooting.{fold-append, order-walk, visiting-none, visiting-both, visiting-one, names-below, Passed, passed-none, passed-done, passed-next, passed-more}
+use Rattle.records.proofs.Rooting.{fold-append, order-none, order-walk, visiting-none, visiting-both, visiting-one, Passed, passed-none, passed-done, passed-next, passed-more}
 use Rattle.expand.specs.declared.Expanded.{Expanded}
 use Rattle.expand.specs.declared.Expanded.the-variants.{Used, Refused}
 use Rattle.expand.specs.Walking.{Holds, Expands, Walking, Ready}
@@ -162,3 +163,23 @@ module _ (one : ℕ → List ℕ) (ws : List ℕ) (at count : ℕ) (work₀ pool
             let rest : List ℕ = eachWords one ws (from + (4 + messageLength ws from)) (count - (i + 1)) in
             far-refused ws work₀ pool₀ used₀ p (h .roots) work pool used (h .far) (one from) work₁ pool₁ u f v g rest (eachWords one ws at count)
             (sym (h .passed .whole) ∙ ap (λ (n : ℕ). h .roots ++ eachWords one ws from n) k)
+
+-- From a pool whose records have no list yet, to all that some roots reach.
+module _ (ws pool : List ℕ) (room : 2 * length (recordsOf ws) ≤ length pool) (clear : (i : ℕ) → i < length (recordsOf ws) → getD pool (2 * i) 0 ≡ 0) where
+  holds-none : Holds ws [] pool (2 * length (recordsOf ws))
+  unfolding expandAll
+  holds-none = record {
+    used-is = refl;
+    low = omega arith;
+    high = room;
+    small = omega arith;
+    new = λ i l m. clear i l;
+    old = λ i m. not-in i m;
+  }
+
+  pub start-walking : check prime ws ≡ good (readSheet ws) → (work : List ℕ) → 4096 ≤ length work → Walking ws work pool (2 * length (recordsOf ws))
+  start-walking checked work l = record { checked = checked; room = l; done = []; order = order-none ws; holds = holds-none }
+
+  pub all-expanded : (roots pool′ : List ℕ) (u : Expanded) → Roots ws roots pool (2 * length (recordsOf ws)) pool′ u → Expands ws pool′ u (order (recordsOf ws) roots)
+  unfolding order
+  all-expanded roots pool′ u f = f [] (order-none ws) holds-none

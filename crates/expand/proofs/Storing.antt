@@ -1,16 +1,16 @@
 -- A list stored in the pool: what stands there then, and what the walk holds.
 use mathlib.Core.Path.{_≡_, refl, sym, ap, subst, _∙_}
 use mathlib.Core.Logic.{_⊎_, inl, inr}
-use mathlib.Core.Bool.{Bool, true, false, cond}
+use mathlib.Core.Bool.{Bool, true, false}
 use mathlib.Core.List.{List, [], _∷_, _++_, append-nil}
 use Prim.Native.Nat.{ℕ, zero, suc, _+_, _*_, _-_, _≤_, _<_}
 use native.Mathlib.Omega.{arith}
-use lib.Dec.{eqb, leb}
+use lib.Dec.{eqb}
 use lib.ListN.{length, getD, set, take, drop, length-set, length-append, length-drop, take-append-drop, drop-of-length-le, List·getD-append}
 use lib.Seq.{length-take-le, take-all, take-at, drop-at, drop-drop, getD-take, getD-set-same, getD-set-other, drop-set-lt, take-append-le, drop-append-le}
-use borrow.Author.Tests.{eqb-true, eqb-false, eq-eqb, ne-eqb, le-leb, lt-leb}
+use borrow.Author.Tests.{eqb-false, eq-eqb, ne-eqb, le-leb, lt-leb}
 use Rattle.semantics.specs.Arithmetic.{prime}
-use Rattle.semantics.specs.Answer.{Answer, good, refused, andThen}
+use Rattle.semantics.specs.Answer.{good, refused, andThen}
 use Rattle.semantics.specs.Check.{readSheet, check}
 use Rattle.semantics.specs.Walk.{member}
 use Rattle.semantics.specs.Monomial.{Monomial, listAt}
@@ -22,7 +22,7 @@ use Rattle.semantics.proofs.Sorting.{All}
 use Rattle.records.specs.Access.{recordsOf}
 use Rattle.records.specs.Orders.{Order}
 use Rattle.records.proofs.Steps.{few-records}
-use Rattle.monomial.specs.Words.{held, listWords, Fits, Stored}
+use Rattle.monomial.specs.Words.{held, listWords, Fits}
 use Rattle.expand.specs.Walking.{Kept, Holds, Expands, withList, Storing, Stores}
 use Rattle.expand.specs.declared.Expanded.{Expanded}
 use Rattle.expand.specs.declared.Expanded.the-variants.{Used, Refused}

@@ -1,6 +1,6 @@
 -- The working lists of Neg, Add, Sub and Mul: their faults, and what is held of them.
 use mathlib.Core.Path.{_≡_, refl, sym, ap, subst, _∙_}
-use mathlib.Core.Bool.{Bool, true, false, cond, _||_}
+use mathlib.Core.Bool.{Bool, true, false, _||_}
 use mathlib.Core.List.{List, [], _∷_, _++_, map}
 use Prim.Native.Nat.{ℕ, zero, suc, _+_, _*_, _≤_, _<_, max}
 use native.Mathlib.Omega.{arith}
@@ -14,7 +14,6 @@ use Rattle.semantics.proofs.Sorting.{All, all-append}
 use Rattle.semantics.proofs.Combining.{Asc}
 use Rattle.monomial.specs.Words.{held, listIn, readList, longestOf, insertAll, signed, Fits, ListFits, Summed}
 use Rattle.expand.specs.Making.{Makes}
-use Rattle.expand.specs.declared.kinds.Made.{Made}
 use Rattle.expand.specs.declared.kinds.Made.the-variants.{Held, Fault}
 use Rattle.monomial.proofs.Canons.{sum-append, sum-combine, fits-sum, asc-sum, fits-negative, all-map, fits-product, sort-length, small-of-fits}
 use Rattle.monomial.proofs.ListLaws.{list-zero, list-suc}

@@ -2,7 +2,6 @@
 use mathlib.Core.Path.{_≡_}
 use mathlib.Core.List.{List, [], _∷_}
 use Prim.Native.Nat.{ℕ, _≤_}
-use lib.ListN.{length}
 use Rattle.semantics.specs.Monomial.{Monomial}
 use Rattle.semantics.proofs.Sorting.{All}
 use Rattle.packed_var.specs.declared.Packed.{Packed}

@@ -46,10 +46,11 @@ abbrev pub refusedBy : Made → (r : ℕ) → Expanded
 refusedBy (Held n) r = Refused (record { number = 0; place = r })
 refusedBy (Fault f) r = Refused (record { number = f; place = r })
 
--- What storing a list for record r comes to: its words behind those that are taken, and the record's two words; or no room.
+-- The pool with a list stored for record r: its words behind those that are taken, and its place in the record's two words.
 abbrev pub withList : (pool : List ℕ) (r used : ℕ) → List Monomial → List ℕ
 withList pool r used l = set (set (take used pool ++ (listWords l ++ drop (used + listSize l) pool)) (2 * r) used) (2 * r + 1) (length l)
 
+-- What storing comes to: the list is stored, or there is no room for it.
 abbrev pub Stores : (pool pool′ : List ℕ) (r used : ℕ) → List Monomial → Expanded → Type 0
 Stores pool pool′ r used l (Used u) = (u ≡ used + listSize l) × (u ≤ length pool) × (pool′ ≡ withList pool r used l)
 Stores pool pool′ r used l (Refused q) = (q .number ≡ 16) × (q .place ≡ r) × (length pool < used + listSize l)

@@ -1,7 +1,6 @@
 // The list of a record, made in the work from its children's lists, by the record's kind.
 ghost use mathlib.Core.Path.{_≡_};
-ghost use mathlib.Core.Bool.{Bool};
-ghost use mathlib.Core.List.{List, [], _∷_, _++_, map};
+ghost use mathlib.Core.List.{[], _++_, map};
 ghost use Prim.Native.Nat.{ℕ, _+_, _*_, _≤_, _<_};
 ghost use lib.ListN.{length, getD};
 ghost use Rattle.semantics.specs.Arithmetic.{prime};

@@ -5,15 +5,8 @@ pub mod Sizes
 pub mod Summing
 pub mod RowWords
 pub mod Products
-pub mod Shifts
 pub mod Rows
 pub mod Orderings
 pub mod Merging
 pub mod Searches
 pub mod Inserting
-pub mod Leaves
-pub mod Working
-pub mod Storing
-pub mod Finishes
-pub mod Expanding
-pub mod Roots

@@ -2,5 +2,3 @@ pub mod Words
 pub mod Orders
 pub mod Merged
 pub mod Places
-pub mod Making
-pub mod Walking

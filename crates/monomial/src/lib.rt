@@ -9,11 +9,8 @@ ghost use Rattle.semantics.specs.Monomial.{above, mulMonomial, negMonomial};
 ghost use Rattle.semantics.proofs.Sorting.{Sorted};
 ghost use Rattle.monomial.specs.Words.{nums, monomialOf, readMonomial};
 
-pub mod expand;
-mod kinds;
 mod list_steps;
 pub mod lists;
-mod shift;
 mod slots;
 pub mod vars;
 

@@ -9,9 +9,9 @@ ghost use Rattle.semantics.proofs.Combining.{Asc};
 ghost use Rattle.monomial.specs.Words.{nums, monomialOf, held};
 ghost use Rattle.monomial.specs.Places.{one, Stands};
 use crate::Monomial;
-use crate::shift;
 use crate::vars;
 use crate::vars::Order;
+use slices::shift;
 
 // The place of a monomial with the same variables, or the place where one is to be put.
 pub enum Found {

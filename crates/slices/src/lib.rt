@@ -4,6 +4,8 @@ ghost use mathlib.Core.List.{_++_};
 ghost use Prim.Native.Nat.{_-_};
 ghost use lib.ListN.{length, take, drop, replicate};
 
+pub mod shift;
+
 // Zeros from k on: the first k words stay.
 pub fn zero_from(s: &mut [u32], k: usize)
     ensures { λ _. ⌜ now (s .exit) ≡ take k (now (s .entry)) ++ replicate (length (now (s .entry)) - k) 0 ⌝ }

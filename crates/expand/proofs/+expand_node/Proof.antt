@@ -1,9 +1,6 @@
-use mathlib.Core.Path.{_≡_, refl, sym, ap, subst, _∙_}
-use mathlib.Core.Bool.{Bool, true, false}
-use mathlib.Core.List.{List, [], _∷_, _++_}
+use mathlib.Core.Path.{subst}
 use native.Mathlib.Omega.{arith}
 use borrow.Author.Needs.{needs}
-use lib.ListN.{length, getD}
 use Prim.Native.Nat.{ℕ, _<_}
 use Rattle.records.proofs.Visits.{record-inside}
 use Rattle.expand.proofs.Expanding.{visits-seen, finishing-none, visits-none, left-low, ready-left, left-refused, finishing-one, visits-one, right-low, ready-right, right-refused, finishing-two, visits-two}

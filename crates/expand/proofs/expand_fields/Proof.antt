@@ -1,18 +1,13 @@
-use mathlib.Core.Path.{_≡_, refl, sym, ap, subst, _∙_}
-use mathlib.Core.List.{List, [], _∷_, _++_}
+use mathlib.Core.Path.{subst, _∙_}
 use Prim.Native.Nat.{ℕ, _+_, _-_, _≤_, _<_}
 use native.Mathlib.Omega.{arith}
 use borrow.Author.Needs.{needs}
-use lib.ListN.{length, getD}
-use Rattle.records.specs.Access.{part, countAt, fieldsAt}
+use lib.ListN.{length}
+use Rattle.records.specs.Access.{part, fieldsAt}
 use Rattle.records.proofs.Rooting.{message-inside, fields-below}
 use Rattle.expand.proofs.Roots.{Roots, Passing, passing-none, passing-walking, passing-done, next-inside, passing-more, passing-refused}
 use Rattle.expand.proofs.expand_fields.Statement.{statement}
 use Rattle.expand.proofs.expand_fields.Tie as tie
-use Rattle.expand.proofs.expand_fields.Reads as reads
-use Rattle.expand.proofs.expand_fields.Lts as lts
-use Rattle.expand.proofs.expand_names.Reads as expand-names-reads
-use Rattle.records.proofs.wide.Reads as wide-reads
 
 abbrev Inv-loop : tie.InvT-loop
 Inv-loop sheet at count work₀ pool₀ used taken₀ from₀ i₀ work pool taken from i = Passing (fieldsAt sheet) sheet at count work₀ pool₀ used work pool taken from i

@@ -1,16 +1,11 @@
-use mathlib.Core.Path.{_≡_, refl, sym, ap, subst, _∙_}
-use mathlib.Core.List.{List, [], _∷_, _++_}
-use Prim.Native.Nat.{ℕ, _+_, _-_, _≤_, _<_}
+use mathlib.Core.Path.{_∙_}
+use Prim.Native.Nat.{_+_, _-_, _<_}
 use native.Mathlib.Omega.{arith}
 use borrow.Author.Needs.{needs}
-use lib.ListN.{length, getD}
+use lib.ListN.{length}
 use Rattle.expand.proofs.Roots.{Naming, naming-none, naming-done, ready-name, naming-more, naming-refused}
 use Rattle.expand.proofs.expand_names.Statement.{statement}
 use Rattle.expand.proofs.expand_names.Tie as tie
-use Rattle.expand.proofs.expand_names.Reads as reads
-use Rattle.expand.proofs.expand_names.Lts as lts
-use Rattle.expand.proofs.expand_node.Reads as expand-node-reads
-use Rattle.records.proofs.wide.Reads as wide-reads
 
 abbrev Inv-loop : tie.InvT-loop
 Inv-loop sheet at count work₀ pool₀ used taken₀ j₀ work pool taken j = Naming sheet at count work₀ pool₀ used work pool taken j

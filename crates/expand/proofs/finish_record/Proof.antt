@@ -2,11 +2,6 @@ use borrow.Author.Needs.{needs}
 use Rattle.expand.proofs.Finishes.{finish-refused, finish-storing, finish-stored}
 use Rattle.expand.proofs.finish_record.Statement.{statement}
 use Rattle.expand.proofs.finish_record.Tie as tie
-use Rattle.expand.proofs.finish_record.Reads as reads
-use Rattle.expand.proofs.finish_record.Lts as lts
-use Rattle.expand.proofs.make_list.Reads as make-list-reads
-use Rattle.expand.proofs.refused.Reads as refused-reads
-use Rattle.expand.proofs.store_list.Reads as store-list-reads
 
 -- src/expand.rt:89:9
 make-list-requires : tie.Need-make-list-requires

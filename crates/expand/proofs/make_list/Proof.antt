@@ -1,23 +1,11 @@
-use mathlib.Core.Path.{_≡_, refl, sym, ap, subst, _∙_}
-use mathlib.Core.List.{List, [], _∷_, _++_}
-use Prim.Native.Nat.{ℕ, _+_, _*_, _-_, _≤_, _<_}
+use mathlib.Core.Path.{refl}
 use native.Mathlib.Omega.{arith}
 use borrow.Author.Needs.{needs}
 use lib.Dec.{eqb}
-use lib.ListN.{length, getD}
 use Rattle.records.proofs.Visits.{record-inside}
 use Rattle.expand.proofs.Finishes.{leaf-good, finishes-leaf, child-head, child-fits, has-left, finishes-neg, has-right, finishes-mul, finishes-sum}
 use Rattle.expand.proofs.make_list.Statement.{statement}
 use Rattle.expand.proofs.make_list.Tie as tie
-use Rattle.expand.proofs.make_list.Reads as reads
-use Rattle.expand.proofs.make_list.Lts as lts
-use Rattle.expand.proofs.kinds.expand_leaf.Reads as expand-leaf-reads
-use Rattle.expand.proofs.kinds.expand_neg.Reads as expand-neg-reads
-use Rattle.expand.proofs.kinds.expand_product.Reads as expand-product-reads
-use Rattle.expand.proofs.kinds.expand_sum.Reads as expand-sum-reads
-use Rattle.expand.proofs.kinds.list_of.Reads as list-of-reads
-use Rattle.records.proofs.record_at.Reads as record-at-reads
-use Rattle.records.proofs.wide.Reads as wide-reads
 
 -- src/expand.rt:32:9
 record-at-requires : tie.Need-record-at-requires

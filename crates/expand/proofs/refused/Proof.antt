@@ -1,14 +1,8 @@
 use Rattle.expand.specs.Walking.{refusedBy}
-use lib.ListN.{length, getD, set, take, drop}
-use native.Mathlib.Omega.{arith}
-use Prim.Native.Nat.{ℕ, _+_, _*_, _-_, _≤_, _<_}
-use mathlib.Core.List.{List, [], _∷_, _++_}
-use mathlib.Core.Path.{_≡_, refl, sym, ap, subst, _∙_}
+use mathlib.Core.Path.{sym, ap}
 use borrow.Author.Needs.{needs}
 use Rattle.expand.proofs.refused.Statement.{statement}
 use Rattle.expand.proofs.refused.Tie as tie
-use Rattle.expand.proofs.refused.Reads as reads
-use Rattle.expand.proofs.refused.Lts as lts
 
 -- src/expand.rt:70:21
 enum-known-made : tie.Need-enum-known-made

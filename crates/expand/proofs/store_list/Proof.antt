@@ -3,18 +3,14 @@ use Rattle.monomial.specs.Words.{held, listWords}
 use Rattle.semantics.specs.Monomial as semantics
 use Rattle.semantics.specs.Expand.{listSize}
 use lib.ListN.{length-set}
-use lib.ListN.{length, getD, set, take, drop}
+use lib.ListN.{set}
 use native.Mathlib.Omega.{arith}
-use Prim.Native.Nat.{ℕ, _+_, _*_, _-_, _≤_, _<_}
-use mathlib.Core.List.{List, [], _∷_, _++_}
-use mathlib.Core.Path.{_≡_, refl, sym, ap, subst, _∙_}
+use Prim.Native.Nat.{_+_, _*_}
+use mathlib.Core.List.{List}
+use mathlib.Core.Path.{sym}
 use borrow.Author.Needs.{needs}
 use Rattle.expand.proofs.store_list.Statement.{statement}
 use Rattle.expand.proofs.store_list.Tie as tie
-use Rattle.expand.proofs.store_list.Reads as reads
-use Rattle.expand.proofs.store_list.Lts as lts
-use Rattle.monomial.proofs.lists.list_size.Reads as list-size-reads
-use Rattle.monomial.proofs.lists.write_list.Reads as write-list-reads
 
 -- src/expand.rt:52:9
 list-size-requires : tie.Need-list-size-requires

@@ -1,20 +1,10 @@
 use Rattle.expand.proofs.Leaves.{constant-made, single-made, leaf-refused}
 use Rattle.records.specs.Access.{fiveWords}
-use lib.ListN.{length, getD, set, take, drop}
 use native.Mathlib.Omega.{arith}
-use Prim.Native.Nat.{ℕ, _+_, _*_, _-_, _≤_, _<_}
-use mathlib.Core.List.{List, [], _∷_, _++_}
-use mathlib.Core.Path.{_≡_, refl, sym, ap, subst, _∙_}
+use mathlib.Core.List.{[]}
 use borrow.Author.Needs.{needs}
 use Rattle.expand.proofs.kinds.expand_leaf.Statement.{statement}
 use Rattle.expand.proofs.kinds.expand_leaf.Tie as tie
-use Rattle.expand.proofs.kinds.expand_leaf.Reads as reads
-use Rattle.expand.proofs.kinds.expand_leaf.Lts as lts
-use Rattle.expand.proofs.kinds.constant_monomial.Reads as constant-monomial-reads
-use Rattle.expand.proofs.kinds.pack_fault.Reads as pack-fault-reads
-use Rattle.expand.proofs.kinds.single_monomial.Reads as single-monomial-reads
-use Rattle.monomial.proofs.lists.put_monomial.Reads as put-monomial-reads
-use Rattle.packing.proofs.pack.Reads as pack-reads
 
 -- src/kinds.rt:83:38
 constant-monomial-requires : tie.Need-constant-monomial-requires

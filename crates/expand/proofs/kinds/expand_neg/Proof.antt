@@ -1,15 +1,7 @@
 use Rattle.expand.proofs.Working.{neg-made}
 use borrow.Author.Needs.{needs}
-use lib.ListN.{length, getD, set, take, drop}
-use native.Mathlib.Omega.{arith}
-use Prim.Native.Nat.{ℕ, _+_, _*_, _-_, _≤_, _<_}
-use mathlib.Core.List.{List, [], _∷_, _++_}
-use mathlib.Core.Path.{_≡_, refl, sym, ap, subst, _∙_}
 use Rattle.expand.proofs.kinds.expand_neg.Statement.{statement}
 use Rattle.expand.proofs.kinds.expand_neg.Tie as tie
-use Rattle.expand.proofs.kinds.expand_neg.Reads as reads
-use Rattle.expand.proofs.kinds.expand_neg.Lts as lts
-use Rattle.monomial.proofs.lists.negate_list.Reads as negate-list-reads
 
 -- src/kinds.rt:99:5
 negate-list-requires : tie.Need-negate-list-requires

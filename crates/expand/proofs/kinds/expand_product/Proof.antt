@@ -1,17 +1,9 @@
 use Rattle.expand.proofs.Working.{product-many, longest-small, product-long, product-made}
 use native.Mathlib.Nat.{mul-le-mul}
 use borrow.Author.Needs.{needs}
-use lib.ListN.{length, getD, set, take, drop}
 use native.Mathlib.Omega.{arith}
-use Prim.Native.Nat.{ℕ, _+_, _*_, _-_, _≤_, _<_}
-use mathlib.Core.List.{List, [], _∷_, _++_}
-use mathlib.Core.Path.{_≡_, refl, sym, ap, subst, _∙_}
 use Rattle.expand.proofs.kinds.expand_product.Statement.{statement}
 use Rattle.expand.proofs.kinds.expand_product.Tie as tie
-use Rattle.expand.proofs.kinds.expand_product.Reads as reads
-use Rattle.expand.proofs.kinds.expand_product.Lts as lts
-use Rattle.monomial.proofs.lists.longest.Reads as longest-reads
-use Rattle.monomial.proofs.lists.multiply_lists.Reads as multiply-lists-reads
 
 -- src/kinds.rt:121:14
 mul-if1 : tie.Need-mul-if1

@@ -1,16 +1,9 @@
 use Rattle.monomial.proofs.Products.{no-product}
 use Rattle.expand.proofs.Working.{sum-many, sum-second, sum-made}
 use borrow.Author.Needs.{needs}
-use lib.ListN.{length, getD, set, take, drop}
 use native.Mathlib.Omega.{arith}
-use Prim.Native.Nat.{ℕ, _+_, _*_, _-_, _≤_, _<_}
-use mathlib.Core.List.{List, [], _∷_, _++_}
-use mathlib.Core.Path.{_≡_, refl, sym, ap, subst, _∙_}
 use Rattle.expand.proofs.kinds.expand_sum.Statement.{statement}
 use Rattle.expand.proofs.kinds.expand_sum.Tie as tie
-use Rattle.expand.proofs.kinds.expand_sum.Reads as reads
-use Rattle.expand.proofs.kinds.expand_sum.Lts as lts
-use Rattle.monomial.proofs.lists.combine_list.Reads as combine-list-reads
 
 -- src/kinds.rt:108:14
 add-if1 : tie.Need-add-if1
