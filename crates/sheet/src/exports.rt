@@ -77,7 +77,7 @@ fn number_fields(counted: Counted) -> SuhkelvaNumber
     }
 }
 
-fn written_fields(written: Written) -> SuhkelvaWritten
+pub fn written_fields(written: Written) -> SuhkelvaWritten
     ensures { λ r. ⌜ r ≡ writtenFields (writtenReply written) ⌝ }
 {
     match written {
