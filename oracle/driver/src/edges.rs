@@ -30,37 +30,7 @@ pub struct Edge {
     due: Due,
 }
 
-/// Rows of inputs, then of the lengths lent, then of what is written and read again.
-const INPUTS: [&str; 27] = [
-    "no words: 4, place 0",
-    "a head alone",
-    "a small sheet with all kinds",
-    "each front of the same: 4",
-    "each word of the same replaced by bounds and neighbours",
-    "126 spare words",
-    "127 spare words: 7",
-    "E 4,096",
-    "E 4,097: 3, place 1",
-    "C 1,024",
-    "C 1,025: 3, place 2",
-    "I 1,024",
-    "I 1,025: 3, place 3",
-    "a message of 63",
-    "a message of 64: 6",
-    "L 90,116, the largest",
-    "L 90,116 and 54 spare words, as read from 710 blocks",
-    "L 90,116 and a 127th spare word: 7",
-    "L 90,116 without its last word: 4",
-    "no bytes: 1",
-    "one byte less than a block: 1",
-    "one byte more than a block: 1",
-    "710 blocks",
-    "711 blocks: 1",
-    "one byte less than 710 blocks: 1",
-    "one byte more than 710 blocks: 1",
-    "the last of 710 blocks changed: 2, place 709",
-];
-
+/// Each call that is lent something for writing, by what it is lent.
 const LENT: [[&str; 3]; 5] = [
     [
         "convert, output one short: 15",
@@ -93,7 +63,9 @@ const ROUND_TRIP: &str = "blocks written and read: the sheet's words, then zeros
 
 /// All kinds, in the order of the table.
 pub fn kinds() -> Vec<&'static str> {
-    [&INPUTS[..], &LENT.concat(), &[ROUND_TRIP]].concat()
+    let mut rows: Vec<&str> = edges().iter().map(|edge| edge.row).collect();
+    rows.dedup();
+    [&rows[..], &LENT.concat(), &[ROUND_TRIP]].concat()
 }
 
 /// So many records of all kinds but row marks, none equal to another.
@@ -163,56 +135,111 @@ fn most() -> Sheet {
 /// The sheets at the limits, for the comparison of their graphs with the Rust's.
 pub fn edge_sheets() -> Vec<(&'static str, Sheet)> {
     vec![
-        (INPUTS[1], Sheet::default()),
-        (INPUTS[2], small()),
-        (INPUTS[7], sized(4_096, 1, 0, 0)),
-        (INPUTS[9], sized(2, 1_024, 0, 0)),
-        (INPUTS[11], sized(2, 0, 1_024, 1)),
-        (INPUTS[13], sized(9, 0, 1, 63)),
-        (INPUTS[15], most()),
+        ("a head alone", Sheet::default()),
+        ("a small sheet with all kinds", small()),
+        ("E 4,096", sized(4_096, 1, 0, 0)),
+        ("C 1,024", sized(2, 1_024, 0, 0)),
+        ("I 1,024", sized(2, 0, 1_024, 1)),
+        ("a message of 63", sized(9, 0, 1, 63)),
+        ("L 90,116, the largest", most()),
     ]
 }
 
 /// The edges among words and bytes.
 pub fn edges() -> Vec<Edge> {
     let mut edges = vec![];
-    let mut say = |row, input, due| {
-        edges.push(Edge {
-            row: INPUTS[row],
-            input,
-            due,
-        })
-    };
+    let mut say = |row, input, due| edges.push(Edge { row, input, due });
     let spare = |words: &[u32], zeros| Input::Words([words, &vec![0; zeros]].concat());
     let words = |sheet: Sheet| Input::Words(sheet.encode());
 
-    say(0, Input::Words(vec![]), Due::Refused(4, 0));
-    say(1, words(Sheet::default()), Due::Accepted);
-    say(2, words(small()), Due::Accepted);
+    say(
+        "no words: 4, place 0",
+        Input::Words(vec![]),
+        Due::Refused(4, 0),
+    );
+    say("a head alone", words(Sheet::default()), Due::Accepted);
+    say(
+        "a small sheet with all kinds",
+        words(small()),
+        Due::Accepted,
+    );
     let good = small().encode();
     for k in 0..good.len() {
-        say(3, Input::Words(good[..k].to_vec()), Due::Refused(4, k));
+        say(
+            "each front of the same: 4",
+            Input::Words(good[..k].to_vec()),
+            Due::Refused(4, k),
+        );
     }
     for changed in replaced(&small()) {
-        say(4, Input::Words(changed), Due::AsPlain);
+        say(
+            "each word of the same replaced by bounds and neighbours",
+            Input::Words(changed),
+            Due::AsPlain,
+        );
     }
-    say(5, spare(&good, 126), Due::Accepted);
-    say(6, spare(&good, 127), Due::Refused(7, good.len() + 126));
-    say(7, words(sized(4_096, 1, 0, 0)), Due::Accepted);
-    say(8, words(sized(4_097, 1, 0, 0)), Due::Refused(3, 1));
-    say(9, words(sized(2, 1_024, 0, 0)), Due::Accepted);
-    say(10, words(sized(2, 1_025, 0, 0)), Due::Refused(3, 2));
-    say(11, words(sized(2, 0, 1_024, 1)), Due::Accepted);
-    say(12, words(sized(2, 0, 1_025, 1)), Due::Refused(3, 3));
-    say(13, words(sized(9, 0, 1, 63)), Due::Accepted);
+    say("126 spare words", spare(&good, 126), Due::Accepted);
+    say(
+        "127 spare words: 7",
+        spare(&good, 127),
+        Due::Refused(7, good.len() + 126),
+    );
+    for at in (0..126).step_by(25) {
+        let mut changed = [&good[..], &[0; 126]].concat();
+        changed[good.len() + at] = 1;
+        say(
+            "a spare word that is not zero: 7",
+            Input::Words(changed),
+            Due::Refused(7, good.len() + at),
+        );
+    }
+    say("E 4,096", words(sized(4_096, 1, 0, 0)), Due::Accepted);
+    say(
+        "E 4,097: 3, place 1",
+        words(sized(4_097, 1, 0, 0)),
+        Due::Refused(3, 1),
+    );
+    say("C 1,024", words(sized(2, 1_024, 0, 0)), Due::Accepted);
+    say(
+        "C 1,025: 3, place 2",
+        words(sized(2, 1_025, 0, 0)),
+        Due::Refused(3, 2),
+    );
+    say("I 1,024", words(sized(2, 0, 1_024, 1)), Due::Accepted);
+    say(
+        "I 1,025: 3, place 3",
+        words(sized(2, 0, 1_025, 1)),
+        Due::Refused(3, 3),
+    );
+    say("a message of 63", words(sized(9, 0, 1, 63)), Due::Accepted);
     // four head words, nine records, bus, weight, count
-    say(14, words(sized(9, 0, 1, 64)), Due::Refused(6, 4 + 45 + 3));
+    say(
+        "a message of 64: 6",
+        words(sized(9, 0, 1, 64)),
+        Due::Refused(6, 4 + 45 + 3),
+    );
     let most = most().encode();
-    say(15, Input::Words(most.clone()), Due::Accepted);
-    say(16, spare(&most, 54), Due::Accepted);
-    say(17, spare(&most, 127), Due::Refused(7, MOST_WORDS + 126));
+    say(
+        "L 90,116, the largest",
+        Input::Words(most.clone()),
+        Due::Accepted,
+    );
+    say(
+        "L 90,116 and 54 spare words, as read from 710 blocks",
+        spare(&most, 54),
+        Due::Accepted,
+    );
+    say(
+        "L 90,116 and a 127th spare word: 7",
+        spare(&most, 127),
+        Due::Refused(7, MOST_WORDS + 126),
+    );
     let cut = most[..MOST_WORDS - 1].to_vec();
-    say(18, Input::Words(cut), Due::Refused(4, MOST_WORDS - 1));
+    say(
+        "L 90,116 without its last word: 4",
+        Input::Words(cut),
+        Due::Refused(4, MOST_WORDS - 1),
+    );
 
     let any_words = |blocks: usize| -> Vec<u32> {
         let word = |k| (k as u32).wrapping_mul(0x9e37_79b9);
@@ -224,18 +251,50 @@ pub fn edges() -> Vec<Edge> {
         Input::Bytes(bytes)
     };
     let all = 710 * BLOCK_BYTES;
-    say(19, bytes(1, 0), Due::Refused(1, 0));
-    say(20, bytes(1, BLOCK_BYTES - 1), Due::Refused(1, 0));
-    say(20, bytes(2, 2 * BLOCK_BYTES - 1), Due::Refused(1, 0));
-    say(21, bytes(1, BLOCK_BYTES + 1), Due::Refused(1, 0));
-    say(21, bytes(2, 2 * BLOCK_BYTES + 1), Due::Refused(1, 0));
-    say(22, bytes(710, all), Due::Accepted);
-    say(23, bytes(711, all + BLOCK_BYTES), Due::Refused(1, 0));
-    say(24, bytes(710, all - 1), Due::Refused(1, 0));
-    say(25, bytes(710, all + 1), Due::Refused(1, 0));
+    say("no bytes: 1", bytes(1, 0), Due::Refused(1, 0));
+    say(
+        "one byte less than a block: 1",
+        bytes(1, BLOCK_BYTES - 1),
+        Due::Refused(1, 0),
+    );
+    say(
+        "one byte less than a block: 1",
+        bytes(2, 2 * BLOCK_BYTES - 1),
+        Due::Refused(1, 0),
+    );
+    say(
+        "one byte more than a block: 1",
+        bytes(1, BLOCK_BYTES + 1),
+        Due::Refused(1, 0),
+    );
+    say(
+        "one byte more than a block: 1",
+        bytes(2, 2 * BLOCK_BYTES + 1),
+        Due::Refused(1, 0),
+    );
+    say("710 blocks", bytes(710, all), Due::Accepted);
+    say(
+        "711 blocks: 1",
+        bytes(711, all + BLOCK_BYTES),
+        Due::Refused(1, 0),
+    );
+    say(
+        "one byte less than 710 blocks: 1",
+        bytes(710, all - 1),
+        Due::Refused(1, 0),
+    );
+    say(
+        "one byte more than 710 blocks: 1",
+        bytes(710, all + 1),
+        Due::Refused(1, 0),
+    );
     let mut changed = write_blocks(&any_words(710));
     changed[all - 5] ^= 1;
-    say(26, Input::Bytes(changed), Due::Refused(2, 709));
+    say(
+        "the last of 710 blocks changed: 2, place 709",
+        Input::Bytes(changed),
+        Due::Refused(2, 709),
+    );
     edges
 }
 

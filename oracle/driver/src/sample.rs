@@ -6,7 +6,7 @@ use std::fmt::Write;
 use plain::sheet::{MAIN, NEG, VARIABLE};
 use plain::Sheet;
 
-use crate::edges::{edge_sheets, edges};
+use crate::edges::{edge_sheets, edges, Edge};
 use crate::examples::examples;
 use crate::implementation::{Implementation, Plain};
 use crate::rng::Rng;
@@ -15,11 +15,12 @@ use crate::sheet_calls::Input;
 use crate::sheets::{SHAPES, SIZED};
 
 /// Of each shape so many sheets of at most so many words.
-const SHORT: (usize, usize) = (16, 150);
+const SHORT: (usize, usize) = (20, 150);
 const LONG: (usize, usize) = (1, 800);
 
-/// Every so many-th of the refused sheets among the edges.
-const REFUSED: usize = 23;
+/// Of the refused sheets among the edges so many for each number, and none longer.
+const REFUSED: usize = 14;
+const REFUSED_WORDS: usize = 250;
 
 pub fn sample() -> String {
     let mut text = String::from(HEAD);
@@ -47,12 +48,13 @@ pub fn sample() -> String {
         accepted(&mut text, &make(&mut Rng::new(1), 100), 0);
     }
     accepted(&mut text, &negatives(4_096), 0);
-    let refused_words = edges().into_iter().filter_map(|edge| match edge.input {
-        Input::Words(words) if words.len() < 500 && Sheet::decode(&words).is_err() => Some(words),
-        _ => None,
-    });
-    for words in refused_words.step_by(REFUSED) {
-        refused(&mut text, &words);
+    for number in 3..=7 {
+        let words: Vec<Vec<u32>> = edges().into_iter().filter_map(|e| by(e, number)).collect();
+        for words in words.iter().step_by(words.len().div_ceil(REFUSED)) {
+            line(&mut text, "sheet", words);
+            let refusal = Sheet::decode(words).expect_err("no sheet");
+            line(&mut text, "refused", &[refusal.number, refusal.place]);
+        }
     }
     text
 }
@@ -98,11 +100,15 @@ fn accepted(text: &mut String, sheet: &Sheet, spare: usize) {
     }
 }
 
-/// Words that are no sheet.
-fn refused(text: &mut String, words: &[u32]) {
-    line(text, "sheet", words);
-    let refusal = Sheet::decode(words).expect_err("no sheet");
-    line(text, "refused", &[refusal.number, refusal.place]);
+/// The words of an edge that is refused by this number.
+fn by(edge: Edge, number: u32) -> Option<Vec<u32>> {
+    match edge.input {
+        Input::Words(words) if words.len() < REFUSED_WORDS => {
+            let refused = Sheet::decode(&words).is_err_and(|r| r.number == number);
+            refused.then_some(words)
+        }
+        _ => None,
+    }
 }
 
 fn line(text: &mut String, name: &str, numbers: &[u32]) {
