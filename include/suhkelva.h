@@ -228,8 +228,8 @@ SuhkelvaWritten suhkelva_write_blocks(const uint32_t *s, size_t s_len, uint8_t *
  * Refused by 3 to 7; then by 14, place the words of scratch that are needed; then by 15, place the words of output that are
  * needed. All of scratch and of `out` is then 0.
  *
- * Stack. The call recurses once for each record of the longest chain of children, at most 4,096 deep. docs/DECISIONS.md says
- * how much stack that took where it was measured.
+ * Stack. The call recurses once for each record of the longest chain of children, at most 4,096 deep. Where it was measured, on
+ * x86-64, that took 584 KiB, 144 bytes a level; the proofs promise no figure.
  */
 SuhkelvaWritten suhkelva_build(const uint32_t *s, size_t s_len, uint32_t *scratch, size_t scratch_len, uint32_t *out, size_t out_len);
 

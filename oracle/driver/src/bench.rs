@@ -1,7 +1,8 @@
-//! The rewrite's builder against the Rust's, timed in one process. Only the ratio is given: the machine may do other work.
+//! The rewrite's builder against the Rust's, timed in one thread. Only the ratio is given, and only the time that the thread ran
+//! is counted: the machine may do other work.
 
 use std::hint::black_box;
-use std::time::{Duration, Instant};
+use std::time::Duration;
 
 use openvm_stark_backend::air_builders::symbolic::SymbolicConstraintsDag;
 use plain::Sheet;
@@ -17,6 +18,29 @@ const SIZES: [usize; 3] = [50, 500, 4_096];
 const SHEETS: u64 = 5;
 const TIMINGS: usize = 15;
 const LONG_ENOUGH: Duration = Duration::from_micros(500);
+
+/// Linux's clock of the time that the calling thread ran.
+const THREAD_TIME: i32 = 3;
+
+#[repr(C)]
+struct Time {
+    seconds: i64,
+    nanoseconds: i64,
+}
+
+extern "C" {
+    fn clock_gettime(clock: i32, time: *mut Time) -> i32;
+}
+
+fn thread_time() -> Duration {
+    let mut time = Time {
+        seconds: 0,
+        nanoseconds: 0,
+    };
+    let failed = unsafe { clock_gettime(THREAD_TIME, &mut time) };
+    assert_eq!(failed, 0, "no clock of the thread's time");
+    Duration::new(time.seconds as u64, time.nanoseconds as u32)
+}
 
 /// The table: medians of the ratios, the rewrite's time over the Rust's.
 pub fn bench() {
@@ -49,12 +73,12 @@ fn ratio(sheet: &Sheet) -> f64 {
     let words = sheet.encode();
     let (mut scratch, mut out) = (vec![0; sheet.records.len()], vec![0; words.len()]);
     let mut ours = |runs: usize| {
-        let start = Instant::now();
+        let start = thread_time();
         for _ in 0..runs {
             let built = builds(black_box(&words), &mut scratch, &mut out);
             assert!(black_box(built), "a graph");
         }
-        start.elapsed()
+        thread_time() - start
     };
     // The tree stands before the time starts. The call consumes its constraints, so each run has a copy of them, which shares
     // what is below; the graphs are dropped after the time ends.
@@ -62,11 +86,11 @@ fn ratio(sheet: &Sheet) -> f64 {
     let of_rust = |runs: usize| {
         let copies: Vec<_> = (0..runs).map(|_| tree.clone()).collect();
         let mut graphs = Vec::with_capacity(runs);
-        let start = Instant::now();
+        let start = thread_time();
         for copy in copies {
             graphs.push(SymbolicConstraintsDag::from(black_box(copy)));
         }
-        let time = start.elapsed();
+        let time = thread_time() - start;
         black_box(&graphs);
         time
     };

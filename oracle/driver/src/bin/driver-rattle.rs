@@ -56,23 +56,25 @@ fn main() -> ExitCode {
     let calls = cases.unwrap_or(400_000);
     let run: Box<dyn FnOnce() -> bool + Send> = match (named.copied(), &numbers[..]) {
         (None, [] | [_] | [_, _]) => Box::new(move || {
-            print_all(vec![
-                compare_single(calls, seed),
-                compare_calls(calls, seed),
-                compare_edges(),
-                compare_graphs(calls / 2, seed),
-            ])
+            print_all(|| {
+                vec![
+                    compare_single(calls, seed),
+                    compare_calls(calls, seed),
+                    compare_edges(),
+                    compare_graphs(calls / 2, seed),
+                ]
+            })
         }),
         (Some("single"), [] | [_] | [_, _]) => {
-            Box::new(move || print_all(vec![compare_single(calls, seed)]))
+            Box::new(move || print_all(|| vec![compare_single(calls, seed)]))
         }
         (Some("calls"), [] | [_] | [_, _]) => {
-            Box::new(move || print_all(vec![compare_calls(calls, seed)]))
+            Box::new(move || print_all(|| vec![compare_calls(calls, seed)]))
         }
-        (Some("edges"), []) => Box::new(|| print_all(vec![compare_edges()])),
+        (Some("edges"), []) => Box::new(|| print_all(|| vec![compare_edges()])),
         (Some("graphs"), [] | [_] | [_, _]) => {
             let sheets = cases.unwrap_or(200_000);
-            Box::new(move || print_all(vec![compare_graphs(sheets, seed)]))
+            Box::new(move || print_all(|| vec![compare_graphs(sheets, seed)]))
         }
         (Some("stack"), []) => Box::new(|| {
             stack::measure();
@@ -102,8 +104,9 @@ fn usage() -> ExitCode {
 }
 
 /// Whether there is no difference and no row without a case.
-fn print_all(compared: Vec<Compared>) -> bool {
+fn print_all(compare: impl FnOnce() -> Vec<Compared>) -> bool {
     println!("{} against plain and the Rust", Rattle.name());
+    let compared = compare();
     for (table, title, kinds) in &compared {
         table.print_counts(title, kinds);
     }
