@@ -214,10 +214,11 @@ SuhkelvaWritten suhkelva_write_blocks(const uint32_t *s, size_t s_len, uint8_t *
 /* ---- Graphs ---- */
 
 /*
- * The graph of a sheet: again a sheet, in which each of its records, called nodes, stands once. Constants are folded, sums with 0
- * and products with 0 and 1 are left out, v + (-w) becomes v - w and v - (-w) becomes v + w. Its constraints are node numbers in
- * ascending order, each once, so there may be fewer than in the sheet; its interactions are those of the sheet in their order,
- * and name nodes. Any column, part, offset and challenge is taken.
+ * The graph of a sheet: again a sheet, whose records, called nodes, are those that a constraint or an interaction reaches, equal
+ * ones once, each behind its children. Constants are folded; v + 0, 0 + v, v - 0, v * 1 and 1 * v become v; v * 0 and 0 * v
+ * become 0; v + (-w) becomes v - w, and v - (-w) becomes v + w; a node that is left unused by this stays. The constraints of the
+ * graph are node numbers in ascending order, each once, so there may be fewer than in the sheet; its interactions are those of
+ * the sheet in their order, and name nodes. Any column, part, offset and challenge is taken.
  *
  * Ask suhkelva_check_sheet first and lend
  *     scratch   at least `records` words; anything may be in them, and after the call, also a refused one, all of it is 0;
