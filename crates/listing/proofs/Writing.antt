@@ -79,6 +79,10 @@ module _ {out : List ℕ} {at : ℕ} {xs : List ℕ} {out′ : List ℕ} {next :
       next-is = omega (arith, h .next-is, k .next-is, length-append xs ys, ap length e);
     }
 
+  -- There is room for what comes next.
+  pub room-then : (ys rest : List ℕ) {zs : List ℕ} → xs ++ (ys ++ rest) ≡ zs → Room out at zs → Room out′ next ys
+  room-then ys rest e room = room-front out′ next ys rest refl (room-next (ys ++ rest) e room)
+
 -- One more byte of a text.
 module _ (text : List ℕ) (i : ℕ) (l : i < length text) where
   text-more : take i text ++ (getD text i 0 ∷ []) ≡ take (i + 1) text
