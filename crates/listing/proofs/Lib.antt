@@ -2,3 +2,5 @@ pub mod Writing
 pub mod Digits
 pub mod Signs
 pub mod Pieces
+pub mod Rows
+pub mod Heads

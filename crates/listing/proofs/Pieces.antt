@@ -22,10 +22,10 @@ ending-pieces c = refl
 
 -- A term's words.
 module _ (ts : List ℕ) (k : ℕ) where
-  word-first : (w : ℕ) → 0 < w → getD (take w (drop k ts)) 0 0 ≡ getD ts k 0
+  pub word-first : (w : ℕ) → 0 < w → getD (take w (drop k ts)) 0 0 ≡ getD ts k 0
   word-first w h = getD-take w (drop k ts) 0 0 h ∙ getD-drop k ts 0 0 ∙ ap (λ (i : ℕ). getD ts i 0) (add-zero k)
 
-  word-at : (w j : ℕ) → j < w → getD (take w (drop k ts)) j 0 ≡ getD ts (k + j) 0
+  pub word-at : (w j : ℕ) → j < w → getD (take w (drop k ts)) j 0 ≡ getD ts (k + j) 0
   word-at w j h = getD-take w (drop k ts) j 0 h ∙ getD-drop k ts j 0
 
   module _ (n : ℕ) where

@@ -1,6 +1,6 @@
 -- Bytes put one behind the other.
 use mathlib.Core.Path.{_≡_, refl, sym, ap, _∙_}
-use mathlib.Core.List.{List, [], _∷_, _++_, append-assoc}
+use mathlib.Core.List.{List, [], _∷_, _++_, append-assoc, append-nil}
 use Prim.Native.Nat.{ℕ, suc, _+_, _≤_, _<_}
 use native.Mathlib.Omega.{arith}
 use native.Mathlib.Nat.{add-zero}
@@ -97,3 +97,34 @@ module _ (text : List ℕ) (i : ℕ) (l : i < length text) where
 
     pub text-next : {out″ : List ℕ} {last : ℕ} → Puts out′ next (getD text i 0 ∷ []) out″ last → Puts out at (take (i + 1) text) out″ last
     text-next k = puts-next h (getD text i 0 ∷ []) text-more more-room k
+
+-- What is put so far, and what is left of the whole.
+pub record Done (out : List ℕ) (at : ℕ) (whole rest : List ℕ) (out′ : List ℕ) (next : ℕ) : Type 0 where
+  pub words : List ℕ
+  pub puts : Puts out at words out′ next
+  pub joins : words ++ rest ≡ whole
+
+pub done-none : (out : List ℕ) (at : ℕ) {whole rest : List ℕ} → rest ≡ whole → Done out at whole rest out at
+done-none out at e = record { words = []; puts = puts-none out at; joins = e }
+
+pub done-all : {out : List ℕ} {at : ℕ} {whole rest out′ : List ℕ} {next : ℕ} → Done out at whole rest out′ next → rest ≡ [] → Puts out at whole out′ next
+done-all h e = puts-is (h .puts) (sym (append-nil (h .words)) ∙ ap (λ (l : List ℕ). h .words ++ l) (sym e) ∙ h .joins)
+
+module _ {out : List ℕ} {at : ℕ} {whole rest out′ : List ℕ} {next : ℕ} (room : Room out at whole) (h : Done out at whole rest out′ next) where
+  pub done-length : length out′ ≡ length out
+  done-length = puts-length (h .puts) (omega (arith, length-append (h .words) rest, ap length (h .joins)))
+
+  -- One piece more.
+  module _ (xs more : List ℕ) (e : rest ≡ xs ++ more) where
+    joined : h .words ++ (xs ++ more) ≡ whole
+    joined = ap (λ (l : List ℕ). h .words ++ l) (sym e) ∙ h .joins
+
+    pub done-room : Room out′ next xs
+    done-room = room-then (h .puts) xs more joined room
+
+    pub done-more : {out″ : List ℕ} {last : ℕ} → Puts out′ next xs out″ last → Done out at whole more out″ last
+    done-more k = record {
+      words = h .words ++ xs;
+      puts = puts-next (h .puts) xs refl (room-front out at (h .words ++ xs) more (append-assoc (h .words) xs more ∙ joined) room) k;
+      joins = append-assoc (h .words) xs more ∙ joined;
+    }

@@ -11,7 +11,7 @@ use crate::numbers::put_decimal;
 use crate::numbers::put_signed;
 use crate::numbers::put_text;
 
-fn wide(w: u32) -> usize
+pub fn wide(w: u32) -> usize
     ensures { λ r. ⌜ r ≡ w ⌝ }
 {
     w as usize
