@@ -4,3 +4,5 @@ pub mod Signs
 pub mod Pieces
 pub mod Rows
 pub mod Heads
+pub mod Lengths
+pub mod Layouts
