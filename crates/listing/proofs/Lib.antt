@@ -6,3 +6,4 @@ pub mod Rows
 pub mod Heads
 pub mod Lengths
 pub mod Layouts
+pub mod Handing

@@ -31,12 +31,11 @@ small-fits (negsuc n) h = record { sfits = omega arith }
 pub record Plain (z : ℤ) : Type 0 where
   pub nonneg : T (nonNeg z)
   pub fits : Fits w64 (natAbs z)
-  pub below : natAbs z < 10000000000
   pub text : decimal (natAbs z) ≡ integer z
 
 plain : (z : ℤ) → natAbs z ≤ 4294967295 → leZ (pos 0) z ≡ true → Plain z
 unfolding integer
-plain (pos n) h t = record { nonneg = tt; fits = record { fits = omega arith }; below = omega arith; text = refl }
+plain (pos n) h t = record { nonneg = tt; fits = record { fits = omega arith }; text = refl }
 plain (negsuc n) h t = not-both t refl
 
 -- A number below 0: a minus sign, and the number less the sign.
@@ -47,7 +46,6 @@ pub record Minus (z : ℤ) : Type 0 where
   pub turns : SFits w64 (pos 0 -ℤ z)
   pub nonneg : T (nonNeg (turned z))
   pub fits : Fits w64 (natAbs (turned z))
-  pub below : natAbs (turned z) < 10000000000
   pub text : 45 ∷ decimal (natAbs (turned z)) ≡ integer z
 
 minus : (z : ℤ) → natAbs z ≤ 4294967295 → leZ (pos 0) z ≡ false → Minus z
@@ -59,7 +57,6 @@ minus (negsuc n) h t =
       turns = record { sfits = omega arith };
       nonneg = rw e tt;
       fits = rw e (record { fits = omega arith });
-      below = rw e (omega arith);
       text = rw e;
     }
 

@@ -1,7 +1,7 @@
 // The lines that are not headers: words parted by spaces, and the end of the line.
 ghost use mathlib.Core.Path.{_≡_};
 ghost use mathlib.Core.List.{[], _∷_};
-ghost use Prim.Native.Nat.{_+_, _≤_, _<_};
+ghost use Prim.Native.Nat.{_+_, _≤_};
 ghost use lib.ListN.{length, take, drop};
 ghost use Rattle.semantics.specs.Arithmetic.{prime};
 ghost use Rattle.semantics.specs.Sheetlist.{decimal, signed, line, dagText, endText, refusedText, tLine, uLine, wLine};
@@ -19,7 +19,7 @@ pub fn wide(w: u32) -> usize
 
 // A space and a number.
 fn put_number(out: &mut [u8], at: usize, n: usize) -> usize
-    requires { ⌜ (n < 10000000000) × Room (now out) at (32 ∷ decimal n) ⌝ }
+    requires { ⌜ Room (now out) at (32 ∷ decimal n) ⌝ }
     ensures { λ r. ⌜ Puts (now (out .entry)) at (32 ∷ decimal n) (now (out .exit)) r ⌝ }
 {
     let next = put_byte(out, at, b' ');
@@ -81,7 +81,7 @@ pub fn put_dag_line(out: &mut [u8], at: usize, nodes: u32, constraints: u32, rot
 
 // A refusal: the step, its number and its place.
 pub fn put_refused(out: &mut [u8], at: usize, step: &[u8], number: usize, place: usize) -> usize
-    requires { ⌜ (number < 10000000000) × (place < 10000000000) × Room (now out) at (line (refusedText ∷ now step ∷ decimal number ∷ decimal place ∷ [])) ⌝ }
+    requires { ⌜ Room (now out) at (line (refusedText ∷ now step ∷ decimal number ∷ decimal place ∷ [])) ⌝ }
     ensures { λ r. ⌜ Puts (now (out .entry)) at (line (refusedText ∷ now (step .entry) ∷ decimal number ∷ decimal place ∷ [])) (now (out .exit)) r ⌝ }
 {
     let a = put_text(out, at, b"refused ");

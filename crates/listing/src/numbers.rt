@@ -3,7 +3,7 @@ ghost use mathlib.Core.Path.{_≡_};
 ghost use mathlib.Core.List.{[], _∷_};
 ghost use Prim.Native.Nat.{_+_, _<_};
 ghost use Rattle.semantics.specs.Arithmetic.{prime};
-ghost use Rattle.semantics.specs.Sheetlist.{decimal, hexDigit, hexDigits, signed};
+ghost use Rattle.semantics.specs.Sheetlist.{digits, decimal, hexDigit, hexDigits, signed};
 ghost use Rattle.listing.specs.Putting.{Room, Puts};
 
 pub fn put_byte(out: &mut [u8], at: usize, byte: u8) -> usize
@@ -36,16 +36,27 @@ fn digit(d: usize) -> u8
     48 + d as u8
 }
 
-// A number in decimal, of at most ten digits.
-pub fn put_decimal(out: &mut [u8], at: usize, n: usize) -> usize
-    requires { ⌜ (n < 10000000000) × Room (now out) at (decimal n) ⌝ }
-    ensures { λ r. ⌜ Puts (now (out .entry)) at (decimal n) (now (out .exit)) r ⌝ }
+// The low digits of a number in decimal, at most as many as said.
+fn put_digits(out: &mut [u8], at: usize, most: usize, n: usize) -> usize
+    requires { ⌜ Room (now out) at (digits most n) ⌝ }
+    ensures { λ r. ⌜ Puts (now (out .entry)) at (digits most n) (now (out .exit)) r ⌝ }
 {
+    if most == 0 {
+        return at;
+    }
     if n < 10 {
         return put_byte(out, at, digit(n));
     }
-    let next = put_decimal(out, at, n / 10);
+    let next = put_digits(out, at, most - 1, n / 10);
     put_byte(out, next, digit(n % 10))
+}
+
+// A number in decimal.
+pub fn put_decimal(out: &mut [u8], at: usize, n: usize) -> usize
+    requires { ⌜ Room (now out) at (decimal n) ⌝ }
+    ensures { λ r. ⌜ Puts (now (out .entry)) at (decimal n) (now (out .exit)) r ⌝ }
+{
+    put_digits(out, at, 10, n)
 }
 
 fn hex_digit(d: u32) -> u8

@@ -116,7 +116,7 @@ put-terms-requires c κs =
     let lines = flatMap (lineOf (a .family)) (rows (widthOf (a .family)) (c .before .before .before .before .before .before .wide4 .result) (drop (w * x) (a .terms .now))) in
     let p = c .before .before .before .before .before .before .before .before .before .before .before .before .before .before .before .before .before .before .before .pre in
     let e = header-joins (a .family) (a .headers .now) (a .variables .now) (a .terms .now) (a .h) r in
-    (header-terms (a .family) (a .headers .now) (a .variables .now) (a .terms .now) (a .h) r (p .1), room-next (c .before .before .before .put-header-line .ensures) lines e (p .2))
+    (header-terms (a .family) (a .headers .now) (a .variables .now) (a .terms .now) (a .h) r (p .1), room-next {xs = line} (c .before .before .before .put-header-line .ensures) lines e (p .2))
 
 -- src/headers.rt:123:1
 same-length : tie.Need-same-length
@@ -134,7 +134,7 @@ returns c =
     let lines = flatMap (lineOf (a .family)) (rows (widthOf (a .family)) (c .before .before .before .before .before .before .before .before .before .wide4 .result) (drop (w * x) (a .terms .now))) in
     let p = c .before .before .before .before .before .before .before .before .before .before .before .before .before .before .before .before .before .before .before .before .before .before .pre in
     let e = header-joins (a .family) (a .headers .now) (a .variables .now) (a .terms .now) (a .h) r in
-    puts-next (c .before .before .before .before .before .before .put-header-line .ensures) lines e (p .2) (c .before .before .put-terms .ensures)
+    puts-next {xs = line} (c .before .before .before .before .before .before .put-header-line .ensures) lines e (p .2) (c .before .before .put-terms .ensures)
 
 pub put-header-spec : {M : Type 1} → statement M
 put-header-spec =

@@ -9,21 +9,21 @@ use Rattle.listing.proofs.lines.put_number.Lts as lts
 use Rattle.listing.proofs.numbers.put_byte.Reads as put-byte-reads
 use Rattle.listing.proofs.numbers.put_decimal.Reads as put-decimal-reads
 
--- src/lines.rt:26:9
+-- src/lines.rt:25:9
 put-byte-requires : tie.Need-put-byte-requires
 put-byte-requires c κs = search needs
 
--- src/lines.rt:27:5
+-- src/lines.rt:26:5
 put-decimal-requires : tie.Need-put-decimal-requires
 put-decimal-requires c κs = search needs
 
--- src/lines.rt:22:1
+-- src/lines.rt:21:1
 same-length : tie.Need-same-length
 same-length c = search needs
 
--- src/lines.rt:22:1
+-- src/lines.rt:21:1
 returns : tie.Need-returns
-returns c = puts-next (c .before .before .before .before .before .before .put-byte .ensures) (decimal (c .before .before .before .before .before .before .before .before .before .args .n)) refl (c .before .before .before .before .before .before .before .before .before .pre .1) (c .before .before .put-decimal .ensures)
+returns c = puts-next (c .before .before .before .before .before .before .put-byte .ensures) (decimal (c .before .before .before .before .before .before .before .before .before .args .n)) refl (c .before .before .before .before .before .before .before .before .before .pre) (c .before .before .put-decimal .ensures)
 
 pub put-number-spec : {M : Type 1} → statement M
 put-number-spec = tie.close (tie.spec put-byte-requires put-decimal-requires same-length returns)

@@ -17,59 +17,57 @@ use Rattle.field.proofs.signed.Reads as signed-reads
 use Rattle.listing.proofs.numbers.put_byte.Reads as put-byte-reads
 use Rattle.listing.proofs.numbers.put_decimal.Reads as put-decimal-reads
 
--- src/numbers.rt:86:9
+-- src/numbers.rt:97:9
 signed-requires : tie.Need-signed-requires
 signed-requires c κs = search needs
 
--- src/numbers.rt:88:37
+-- src/numbers.rt:99:37
 cast-put-decimal : tie.Need-cast-put-decimal
 cast-put-decimal c = let h = signed-plain (c .before .before .before .before .args .c) (search needs) (c .before .before .signed .result) (c .before .before .signed .ensures) (c .before .if1 .taken) in (h .nonneg, h .fits)
 
--- src/numbers.rt:88:9
+-- src/numbers.rt:99:9
 put-decimal-requires : tie.Need-put-decimal-requires
 put-decimal-requires c κs =
     let h = signed-plain (c .before .before .before .before .args .c) (search needs) (c .before .before .signed .result) (c .before .before .signed .ensures) (c .before .if1 .taken) in
-    (h .below, room-is (c .before .before .before .before .args .out .now) (c .before .before .before .before .args .at) (h .text ∙ signed-text (c .before .before .before .before .args .c) (search needs) (c .before .before .signed .result) (c .before .before .signed .ensures)) (c .before .before .before .before .pre))
+    room-is (c .before .before .before .before .args .out .now) (c .before .before .before .before .args .at) (h .text ∙ signed-text (c .before .before .before .before .args .c) (search needs) (c .before .before .signed .result) (c .before .before .signed .ensures)) (c .before .before .before .before .pre)
 
--- src/numbers.rt:88:9
+-- src/numbers.rt:99:9
 same-length : tie.Need-same-length
 same-length c = search needs
 
--- src/numbers.rt:88:9
+-- src/numbers.rt:99:9
 returns : tie.Need-returns
 returns c =
     let h = signed-plain (c .before .before .before .before .before .before .before .args .c) (search needs) (c .before .before .before .before .before .signed .result) (c .before .before .before .before .before .signed .ensures) (c .before .before .before .before .if1 .taken) in
     puts-is (c .before .before .put-decimal .ensures) (h .text ∙ signed-text (c .before .before .before .before .before .before .before .args .c) (search needs) (c .before .before .before .before .before .signed .result) (c .before .before .before .before .before .signed .ensures))
 
--- src/numbers.rt:90:9
+-- src/numbers.rt:101:9
 put-byte-requires : tie.Need-put-byte-requires
 put-byte-requires c κs =
     let h = signed-minus (c .before .before .before .before .args .c) (search needs) (c .before .before .signed .result) (c .before .before .signed .ensures) (c .before .if1 .left) in
     room-front (c .before .before .before .before .args .out .now) (c .before .before .before .before .args .at) (45 ∷ []) (decimal (natAbs (turned (toZ w64 (ofZ w64 (c .before .before .signed .result))))))
     (h .text ∙ signed-text (c .before .before .before .before .args .c) (search needs) (c .before .before .signed .result) (c .before .before .signed .ensures)) (c .before .before .before .before .pre)
 
--- src/numbers.rt:91:29
+-- src/numbers.rt:102:29
 sub-put-decimal : tie.Need-sub-put-decimal
 sub-put-decimal c = let h = signed-minus (c .before .before .before .before .before .before .before .before .args .c) (search needs) (c .before .before .before .before .before .before .signed .result) (c .before .before .before .before .before .before .signed .ensures) (c .before .before .before .before .before .if1 .left) in h .turns
 
--- src/numbers.rt:91:28
+-- src/numbers.rt:102:28
 cast-put-decimal-2 : tie.Need-cast-put-decimal-2
 cast-put-decimal-2 c = let h = signed-minus (c .before .before .before .before .before .before .before .before .args .c) (search needs) (c .before .before .before .before .before .before .signed .result) (c .before .before .before .before .before .before .signed .ensures) (c .before .before .before .before .before .if1 .left) in (h .nonneg, h .fits)
 
--- src/numbers.rt:91:5
+-- src/numbers.rt:102:5
 put-decimal-requires-2 : tie.Need-put-decimal-requires-2
 put-decimal-requires-2 c κs =
-    let h = signed-minus (c .before .before .before .before .before .before .before .before .args .c) (search needs) (c .before .before .before .before .before .before .signed .result) (c .before .before .before .before .before .before .signed .ensures) (c .before .before .before .before .before .if1 .left) in (
-      h .below,
-      room-next (c .before .before .before .put-byte .ensures) (decimal (natAbs (turned (toZ w64 (ofZ w64 (c .before .before .before .before .before .before .signed .result))))))
-          (h .text ∙ signed-text (c .before .before .before .before .before .before .before .before .args .c) (search needs) (c .before .before .before .before .before .before .signed .result) (c .before .before .before .before .before .before .signed .ensures)) (c .before .before .before .before .before .before .before .before .pre),
-    )
+    let h = signed-minus (c .before .before .before .before .before .before .before .before .args .c) (search needs) (c .before .before .before .before .before .before .signed .result) (c .before .before .before .before .before .before .signed .ensures) (c .before .before .before .before .before .if1 .left) in
+    room-next (c .before .before .before .put-byte .ensures) (decimal (natAbs (turned (toZ w64 (ofZ w64 (c .before .before .before .before .before .before .signed .result))))))
+    (h .text ∙ signed-text (c .before .before .before .before .before .before .before .before .args .c) (search needs) (c .before .before .before .before .before .before .signed .result) (c .before .before .before .before .before .before .signed .ensures)) (c .before .before .before .before .before .before .before .before .pre)
 
--- src/numbers.rt:82:1
+-- src/numbers.rt:93:1
 same-length-2 : tie.Need-same-length-2
 same-length-2 c = search needs
 
--- src/numbers.rt:82:1
+-- src/numbers.rt:93:1
 returns-2 : tie.Need-returns-2
 returns-2 c =
     let h = signed-minus (c .before .before .before .before .before .before .before .before .before .before .before .args .c) (search needs) (c .before .before .before .before .before .before .before .before .before .signed .result) (c .before .before .before .before .before .before .before .before .before .signed .ensures) (c .before .before .before .before .before .before .before .before .if1 .left) in
