@@ -99,3 +99,45 @@ module _ (p : ℕ) (ws : List ℕ) (work pool : ℕ) where
         let fits = output-fits p ws work pool lent constraintRoots (constraintOutputs p) (λ s. []) room a in
         handed Constraints constraintTerm constraint-wide (groups (listAt p (x .sheet .records)) (constraintRoots (x .sheet))) _ _ _ h v t
         (x .words 0) (x .words 1) (x .words 2) (omega (arith, fits 0 (omega arith))) (fits 1 (omega arith)) (omega (arith, fits 2 (omega arith)))
+
+  -- Numerators and denominators, for slices of at most 4 h, v and 3 t words each.
+  module _ (hs-lent v ts-lent h t : ℕ) (few : hs-lent ≤ 4 * h) (less : ts-lent ≤ 3 * t)
+      (a : Accepted (interactionCall p ws work pool hs-lent v ts-lent hs-lent v ts-lent)) where
+    abbrev call : Outcome
+    call = interactionCall p ws work pool hs-lent v ts-lent hs-lent v ts-lent
+
+    abbrev lent : List ℕ
+    lent = hs-lent ∷ v ∷ ts-lent ∷ hs-lent ∷ v ∷ ts-lent ∷ []
+
+    abbrev all-roots : Sheet → List Root
+    all-roots s = countRoots s ++ fieldRoots s
+
+    abbrev also : Sheet → List ℕ
+    also s = length (s .interactions) ∷ maxFieldsLen s ∷ []
+
+    six : (s : Sheet) → length (interactionOutputs p s) ≡ 6
+    unfolding interactionOutputs family layout
+    six s = refl
+
+    enough : (s : Sheet) → length (interactionOutputs p s) ≤ length lent
+    enough s = omega (arith, six s)
+
+    told : Expanded p ws pool all-roots (interactionOutputs p) call
+    unfolding interactionCall
+    told = known p ws work pool lent all-roots (interactionOutputs p) also enough a
+
+    told-fits : (j : ℕ) → j < 6 → length (getD (interactionOutputs p (told .sheet)) j []) ≤ getD lent j 0
+    unfolding interactionCall told
+    told-fits j l = output-fits p ws work pool lent all-roots (interactionOutputs p) also enough a j (omega (arith, six (told .sheet)))
+
+    pub numerators-handed : Handed Numerators (handedBack 2 call 0) (handedBack 2 call 1) (handedBack 2 call 2) h v t
+    unfolding interactionOutputs family layout
+    numerators-handed =
+        handed Numerators interactionTerm interaction-wide (groups (listAt p (told .sheet .records)) (countRoots (told .sheet))) _ _ _ h v t
+        (told .words 0) (told .words 1) (told .words 2) (omega (arith, told-fits 0 (omega arith))) (told-fits 1 (omega arith)) (omega (arith, told-fits 2 (omega arith)))
+
+    pub denominators-handed : Handed Denominators (handedBack 2 call 3) (handedBack 2 call 4) (handedBack 2 call 5) h v t
+    unfolding interactionOutputs family layout
+    denominators-handed =
+        handed Denominators interactionTerm interaction-wide (groups (listAt p (told .sheet .records)) (fieldRoots (told .sheet))) _ _ _ h v t
+        (told .words 3) (told .words 4) (told .words 5) (omega (arith, told-fits 3 (omega arith))) (told-fits 4 (omega arith)) (omega (arith, told-fits 5 (omega arith)))

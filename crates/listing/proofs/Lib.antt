@@ -7,3 +7,4 @@ pub mod Heads
 pub mod Lengths
 pub mod Layouts
 pub mod Handing
+pub mod Totals
