@@ -1,20 +1,19 @@
 -- What accepted expansions hand back: headers that stand inside their lists, and lists that fit their slices.
-use mathlib.Core.Path.{_≡_, refl, sym, ap, subst, _∙_}
+use mathlib.Core.Path.{_≡_, refl, subst}
 use mathlib.Core.Bool.{Bool, true, false, cond}
 use mathlib.Core.List.{List, [], _∷_, _++_, map}
-use Prim.Native.Nat.{ℕ, zero, suc, _+_, _*_, _/_, _≤_, _<_}
+use Prim.Native.Nat.{ℕ, zero, suc, _+_, _*_, _≤_, _<_}
 use native.Mathlib.Omega.{arith}
 use lib.Dec.{eqb, leb}
 use lib.ListN.{length, getD}
 use borrow.Author.Tests.{eqb-true, leb-true}
-use Rattle.semantics.specs.Answer.{Answer, good, refused, andThen}
-use Rattle.semantics.specs.Sheet.{Record, Sheet}
-use Rattle.semantics.specs.Check.{check}
+use Rattle.semantics.specs.Answer.{Answer, andThen}
+use Rattle.semantics.specs.Sheet.{Sheet}
 use Rattle.semantics.specs.Walk.{order}
 use Rattle.semantics.specs.Expand.{expandAll}
 use Rattle.semantics.specs.Monomial.{listAt}
 use Rattle.semantics.specs.Group.{Root, Item, Group, constraintRoots, countRoots, fieldRoots, constraintTerm, interactionTerm, groups, headers, variables, terms, layout}
-use Rattle.semantics.specs.Call.{Outcome, Result, Accepted, outcome, needs, result, onSheet, firstShort, fitted, family, handedBack, expansion, constraintOutputs, constraintCall, interactionOutputs, maxFieldsLen, interactionCall}
+use Rattle.semantics.specs.Call.{Outcome, Result, Accepted, outcome, needs, onSheet, firstShort, fitted, family, handedBack, expansion, constraintOutputs, constraintCall, interactionOutputs, maxFieldsLen, interactionCall}
 use Rattle.semantics.proofs.Basics.{by-test}
 use Rattle.semantics.proofs.Demands.{Expanded, expanded}
 use Rattle.semantics.proofs.Grouping.{constraint-wide, interaction-wide}

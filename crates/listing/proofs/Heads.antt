@@ -1,17 +1,17 @@
 -- Headers, each with its terms.
 use mathlib.Core.Path.{_≡_, refl, sym, ap, _∙_}
 use mathlib.Core.List.{List, [], _∷_, _++_, map, flatMap}
-use Prim.Native.Nat.{ℕ, zero, suc, _+_, _*_, _-_, _/_, _^_, _≤_, _<_}
+use Prim.Native.Nat.{ℕ, _+_, _*_, _/_, _≤_, _<_}
 use native.Mathlib.Omega.{arith}
 use native.Mathlib.Nat.{mul-le-mul}
 use lib.ListN.{length, getD, take, drop}
 use mir.Syntax.{w64}
 use mir.Val.{Fits}
-use Rattle.semantics.specs.Group.{Listed, listedAt, listed, rows}
+use Rattle.semantics.specs.Group.{listedAt, listed, rows}
 use Rattle.semantics.specs.Sheetlist.{headerLines}
 use Rattle.listing.specs.declared.headers.Family.{Family}
 use Rattle.listing.specs.declared.headers.Family.the-variants.{Constraints, Numerators, Denominators}
-use Rattle.listing.specs.Families.{letterOf, widthOf, lineOf, headerLine, headerText, familyLines, HeaderInside, HeadersInside}
+use Rattle.listing.specs.Families.{letterOf, widthOf, lineOf, headerLine, headerText, familyLines, HeaderInside}
 use Rattle.listing.proofs.Pieces.{word-first, word-at}
 use Rattle.listing.proofs.Rows.{rowLines}
 

@@ -1,18 +1,18 @@
 -- What an expansion lays out: each header stands inside its lists, and how many bytes the lists take.
 use mathlib.Core.Path.{_≡_, refl, sym, ap, subst, _∙_}
 use mathlib.Core.List.{List, [], _∷_, _++_, map, flatMap}
-use Prim.Native.Nat.{ℕ, zero, suc, _+_, _*_, _/_, _≤_, _<_}
+use Prim.Native.Nat.{ℕ, zero, suc, _+_, _*_, _≤_, _<_}
 use native.Mathlib.Omega.{arith}
-use native.Mathlib.Nat.{mul-add, mul-suc, mul-zero, mul-le-mul-left, le-of-mul-le-mul-left}
+use native.Mathlib.Nat.{mul-add, mul-zero, mul-le-mul-left, le-of-mul-le-mul-left}
 use lib.ListN.{length, getD, take, drop, length-append, length-map}
 use lib.Seq.{drop-drop}
 use Rattle.semantics.specs.Arithmetic.{prime}
-use Rattle.semantics.specs.Group.{Item, Group, headers, variables, terms, Listed, listed}
+use Rattle.semantics.specs.Group.{Item, Group, headers, variables, terms, listed}
 use Rattle.semantics.specs.Sheetlist.{headerLines}
 use Rattle.semantics.proofs.Grouping.{shown, listed-layout}
 use Rattle.listing.specs.declared.headers.Family.{Family}
 use Rattle.listing.specs.declared.headers.Family.the-variants.{Constraints, Numerators, Denominators}
-use Rattle.listing.specs.Families.{letterOf, widthOf, lineOf, headerLine, headerText, familyLines, HeaderInside, HeadersInside}
+use Rattle.listing.specs.Families.{letterOf, widthOf, lineOf, headerLine, familyLines, HeadersInside}
 use Rattle.listing.proofs.Lengths.{flat-length, flat-most, header-length, t-most, u-most, w-most}
 
 headers-length : (vo to : ℕ) (gs : List Group) → length (headers vo to gs) ≡ 4 * length gs

@@ -1,12 +1,12 @@
 -- Rows of words, one after the other.
 use mathlib.Core.Path.{_≡_, refl, sym, ap, subst, _∙_}
 use mathlib.Core.List.{List, [], _∷_, _++_, map, flatMap, append-assoc}
-use Prim.Native.Nat.{ℕ, zero, suc, _+_, _*_, _-_, _/_, _≤_, _<_}
+use Prim.Native.Nat.{ℕ, suc, _+_, _*_, _-_, _≤_, _<_}
 use native.Mathlib.Omega.{arith}
 use native.Mathlib.Nat.{mul-suc, mul-zero, mul-le-mul-left}
 use native.Mathlib.Numerals.{add-one}
-use lib.ListN.{length, getD, take, drop, length-drop}
-use lib.Seq.{drop-drop, drop-cons, getD-drop}
+use lib.ListN.{length, getD, take, drop}
+use lib.Seq.{drop-drop, drop-cons}
 use Rattle.semantics.specs.Group.{rows}
 use Rattle.semantics.specs.Sheetlist.{line, hexDigits}
 use Rattle.listing.specs.Putting.{Room, Puts}

@@ -1,15 +1,13 @@
 -- All that `sheetlist` prints is at most 42,728 bytes.
-use mathlib.Core.Path.{_≡_, refl}
-use mathlib.Core.Bool.{cond}
 use mathlib.Core.List.{List, [], _∷_, _++_}
-use Prim.Native.Nat.{ℕ, _+_, _*_, _≤_}
+use Prim.Native.Nat.{ℕ, _+_, _≤_}
 use native.Mathlib.Omega.{arith}
 use lib.Dec.{eqb, leb}
 use lib.ListN.{length, getD, length-append}
 use borrow.Author.Tests.{eqb-true}
 use Rattle.semantics.specs.Arithmetic.{prime}
 use Rattle.semantics.specs.Call.{Outcome, Accepted, handedBack, readerCall, builderCall, maxRotationCall, constraintCall, interactionCall}
-use Rattle.semantics.specs.Sheetlist.{decimal, line, dagText, endText, refusedText, readText, consText, interText, step, interactionLines, constraintLines, graphLines, sheetLines, sheetlist}
+use Rattle.semantics.specs.Sheetlist.{decimal, line, dagText, endText, readText, consText, interText, step, interactionLines, constraintLines, graphLines, sheetLines, sheetlist}
 use Rattle.semantics.proofs.Basics.{by-test}
 use Rattle.listing.specs.declared.headers.Family.the-variants.{Constraints, Numerators, Denominators}
 use Rattle.listing.specs.Families.{familyLines}
@@ -35,9 +33,14 @@ interactions-most graph a =
     let i = interactions graph in
     let n : List ℕ = familyLines Numerators (handedBack 2 i 0) (handedBack 2 i 1) (handedBack 2 i 2) in
     let d : List ℕ = familyLines Denominators (handedBack 2 i 3) (handedBack 2 i 4) (handedBack 2 i 5) in
-    omega (arith, length-append n (d ++ line (endText ∷ [])), length-append d (line (endText ∷ [])), end-length,
-    numerators-handed prime graph 4096 4096 512 512 512 128 171 (omega arith) (omega arith) a .most,
-    denominators-handed prime graph 4096 4096 512 512 512 128 171 (omega arith) (omega arith) a .most)
+    omega (
+      arith,
+      length-append n (d ++ line (endText ∷ [])),
+      length-append d (line (endText ∷ [])),
+      end-length,
+      numerators-handed prime graph 4096 4096 512 512 512 128 171 (omega arith) (omega arith) a .most,
+      denominators-handed prime graph 4096 4096 512 512 512 128 171 (omega arith) (omega arith) a .most,
+    )
 
 constraints-most : (graph : List ℕ) → Accepted (constraints graph) → length (constraintLines prime graph (constraints graph)) ≤ 42691
 unfolding constraintLines
@@ -45,9 +48,12 @@ constraints-most graph a =
     let c = constraints graph in
     let i = interactions graph in
     let m : List ℕ = familyLines Constraints (handedBack 2 c 0) (handedBack 2 c 1) (handedBack 2 c 2) in
-    omega (arith, length-append m (step interText i (interactionLines prime i)),
-    step-most interText i (interactionLines prime i) 20163 (omega arith) (interactions-most graph),
-    constraints-handed prime graph 4096 4096 1024 1024 1024 256 512 (omega arith) (omega arith) a .most)
+    omega (
+      arith,
+      length-append m (step interText i (interactionLines prime i)),
+      step-most interText i (interactionLines prime i) 20163 (omega arith) (interactions-most graph),
+      constraints-handed prime graph 4096 4096 1024 1024 1024 256 512 (omega arith) (omega arith) a .most,
+    )
 
 graph-most : (graph : List ℕ) → length (graphLines prime graph) ≤ 42728
 unfolding graphLines
@@ -55,8 +61,12 @@ graph-most graph =
     let c = constraints graph in
     let rotation = getD (maxRotationCall prime graph .reply .numbers) 0 0 in
     let first : List ℕ = line (dagText ∷ decimal (getD graph 1 0) ∷ decimal (getD graph 2 0) ∷ decimal rotation ∷ []) in
-    omega (arith, length-append first (step consText c (constraintLines prime graph c)), dag-most (getD graph 1 0) (getD graph 2 0) rotation,
-    step-most consText c (constraintLines prime graph c) 42691 (omega arith) (constraints-most graph))
+    omega (
+      arith,
+      length-append first (step consText c (constraintLines prime graph c)),
+      dag-most (getD graph 1 0) (getD graph 2 0) rotation,
+      step-most consText c (constraintLines prime graph c) 42691 (omega arith) (constraints-most graph),
+    )
 
 sheet-most : (sheet : List ℕ) → length (sheetLines prime sheet) ≤ 42728
 unfolding sheetLines

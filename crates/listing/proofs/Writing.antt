@@ -1,12 +1,12 @@
 -- Bytes put one behind the other.
 use mathlib.Core.Path.{_≡_, refl, sym, ap, _∙_}
 use mathlib.Core.List.{List, [], _∷_, _++_, append-assoc, append-nil}
-use Prim.Native.Nat.{ℕ, suc, _+_, _≤_, _<_}
+use Prim.Native.Nat.{ℕ, _+_, _≤_, _<_}
 use native.Mathlib.Omega.{arith}
 use native.Mathlib.Nat.{add-zero}
 use native.Mathlib.Numerals.{add-one}
 use lib.ListN.{length, getD, set, take, drop, length-append, length-take, length-drop, take-append-drop}
-use lib.Seq.{set-split, take-at, drop-at, drop-drop, take-suc, take-all}
+use lib.Seq.{set-split, take-at, drop-at, drop-drop, take-suc}
 use Rattle.listing.specs.Putting.{put, Room, Puts}
 
 put-put : (out : List ℕ) (at : ℕ) (xs ys : List ℕ) → at + length xs + length ys ≤ length out

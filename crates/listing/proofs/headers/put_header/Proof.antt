@@ -1,6 +1,5 @@
-use mathlib.Core.Path.{_≡_, refl}
 use mathlib.Core.List.{flatMap}
-use Prim.Native.Nat.{_+_, _*_, _≤_}
+use Prim.Native.Nat.{_+_, _*_}
 use native.Mathlib.Omega.{arith}
 use lib.ListN.{take, drop}
 use Rattle.semantics.specs.Group.{rows}
@@ -10,87 +9,61 @@ use Rattle.listing.proofs.Heads.{first-fits, HeaderRead, header-joins, 
 use borrow.Author.Needs.{needs}
 use Rattle.listing.proofs.headers.put_header.Statement.{statement}
 use Rattle.listing.proofs.headers.put_header.Tie as tie
-use Rattle.listing.proofs.headers.put_header.Reads as reads
-use Rattle.listing.proofs.headers.put_header.Lts as lts
-use Rattle.listing.proofs.headers.letter.Reads as letter-reads
-use Rattle.listing.proofs.headers.put_header_line.Reads as put-header-line-reads
-use Rattle.listing.proofs.headers.put_terms.Reads as put-terms-reads
-use Rattle.listing.proofs.headers.width.Reads as width-reads
-use Rattle.listing.proofs.lines.wide.Reads as wide-reads
 
--- src/headers.rt:135:21
 mul-wide : tie.Need-mul-wide
 mul-wide c = search needs
 
--- src/headers.rt:135:21
 shared-slice-read-wide : tie.Need-shared-slice-read-wide
 shared-slice-read-wide c = search needs
 
--- src/headers.rt:135:9
 wide-requires : tie.Need-wide-requires
 wide-requires c κs = search needs
 
--- src/headers.rt:136:17
 width-requires : tie.Need-width-requires
 width-requires c κs = search needs
 
--- src/headers.rt:136:46
 add-wide : tie.Need-add-wide
 add-wide c = search needs
 
--- src/headers.rt:136:38
 mul-wide-2 : tie.Need-mul-wide-2
 mul-wide-2 c = search needs
 
--- src/headers.rt:136:38
 shared-slice-read-wide-2 : tie.Need-shared-slice-read-wide-2
 shared-slice-read-wide-2 c = search needs
 
--- src/headers.rt:136:33
 wide-requires-2 : tie.Need-wide-requires-2
 wide-requires-2 c κs = search needs
 
--- src/headers.rt:136:17
 mul-first : tie.Need-mul-first
 mul-first c = first-fits (c .before .before .before .before .before .before .before .before .before .args .family) (c .before .before .width .result) (c .wide2 .result) (c .before .before .width .ensures) (omega (arith, c .wide2 .ensures, c .before .shared-slice-known5 .given (c .before .before .before .before .before .before .before .before .before .args .h + 1)))
 
--- src/headers.rt:137:33
 add-wide-2 : tie.Need-add-wide-2
 add-wide-2 c = search needs
 
--- src/headers.rt:137:25
 mul-wide-3 : tie.Need-mul-wide-3
 mul-wide-3 c = search needs
 
--- src/headers.rt:137:25
 shared-slice-read-wide-3 : tie.Need-shared-slice-read-wide-3
 shared-slice-read-wide-3 c = search needs
 
--- src/headers.rt:137:9
 wide-requires-3 : tie.Need-wide-requires-3
 wide-requires-3 c κs = search needs
 
--- src/headers.rt:138:34
 add-wide-3 : tie.Need-add-wide-3
 add-wide-3 c = search needs
 
--- src/headers.rt:138:26
 mul-wide-4 : tie.Need-mul-wide-4
 mul-wide-4 c = search needs
 
--- src/headers.rt:138:26
 shared-slice-read-wide-4 : tie.Need-shared-slice-read-wide-4
 shared-slice-read-wide-4 c = search needs
 
--- src/headers.rt:138:9
 wide-requires-4 : tie.Need-wide-requires-4
 wide-requires-4 c κs = search needs
 
--- src/headers.rt:139:41
 letter-requires : tie.Need-letter-requires
 letter-requires c κs = search needs
 
--- src/headers.rt:139:9
 put-header-line-requires : tie.Need-put-header-line-requires
 put-header-line-requires c κs =
     let a = c .before .before .before .before .before .before .before .before .before .before .before .before .before .before .before .args in
@@ -104,7 +77,6 @@ put-header-line-requires c κs =
     let e = header-joins (a .family) (a .headers .now) (a .variables .now) (a .terms .now) (a .h) r in
     (header-vars (a .family) (a .headers .now) (a .variables .now) (a .terms .now) (a .h) r (p .1), room-front (a .out .now) (a .at) line lines e (p .2))
 
--- src/headers.rt:140:5
 put-terms-requires : tie.Need-put-terms-requires
 put-terms-requires c κs =
     let a = c .before .before .before .before .before .before .before .before .before .before .before .before .before .before .before .before .before .before .before .args in
@@ -118,11 +90,9 @@ put-terms-requires c κs =
     let e = header-joins (a .family) (a .headers .now) (a .variables .now) (a .terms .now) (a .h) r in
     (header-terms (a .family) (a .headers .now) (a .variables .now) (a .terms .now) (a .h) r (p .1), room-next {xs = line} (c .before .before .before .put-header-line .ensures) lines e (p .2))
 
--- src/headers.rt:123:1
 same-length : tie.Need-same-length
 same-length c = search needs
 
--- src/headers.rt:123:1
 returns : tie.Need-returns
 returns c =
     let a = c .before .before .before .before .before .before .before .before .before .before .before .before .before .before .before .before .before .before .before .before .before .before .args in

@@ -7,37 +7,28 @@ use Rattle.listing.proofs.Rows.{header-pieces}
 use borrow.Author.Needs.{needs}
 use Rattle.listing.proofs.headers.put_header_line.Statement.{statement}
 use Rattle.listing.proofs.headers.put_header_line.Tie as tie
-use Rattle.listing.proofs.headers.put_header_line.Reads as reads
-use Rattle.listing.proofs.headers.put_header_line.Lts as lts
-use Rattle.listing.proofs.headers.put_variables.Reads as put-variables-reads
-use Rattle.listing.proofs.numbers.put_byte.Reads as put-byte-reads
 
--- src/headers.rt:117:9
 put-byte-requires : tie.Need-put-byte-requires
 put-byte-requires c κs =
     let a = c .before .before .before .args in
     let vs = take (a .count) (drop (a .from) (a .variables .now)) in
     room-front (a .out .now) (a .at) (a .letter ∷ []) (spaced vs ++ (10 ∷ [])) (header-pieces (a .letter) vs) (c .before .before .before .pre .1)
 
--- src/headers.rt:118:9
 put-variables-requires : tie.Need-put-variables-requires
 put-variables-requires c κs =
     let a = c .before .before .before .before .before .before .before .args in
     let vs = take (a .count) (drop (a .from) (a .variables .now)) in
     (c .before .before .before .before .before .before .before .pre .0, room-then (c .before .before .before .put-byte .ensures) (spaced vs) (10 ∷ []) (header-pieces (a .letter) vs) (c .before .before .before .before .before .before .before .pre .1))
 
--- src/headers.rt:119:5
 put-byte-requires-2 : tie.Need-put-byte-requires-2
 put-byte-requires-2 c κs =
     let a = c .before .before .before .before .before .before .before .before .before .before .before .args in
     let vs = take (a .count) (drop (a .from) (a .variables .now)) in
     room-next (c .before .before .before .put-variables .ensures) (10 ∷ []) refl (room-next (c .before .before .before .before .before .before .before .put-byte .ensures) (spaced vs ++ (10 ∷ [])) (header-pieces (a .letter) vs) (c .before .before .before .before .before .before .before .before .before .before .before .pre .1))
 
--- src/headers.rt:106:1
 same-length : tie.Need-same-length
 same-length c = search needs
 
--- src/headers.rt:106:1
 returns : tie.Need-returns
 returns c =
     let a = c .before .before .before .before .before .before .before .before .before .before .before .before .before .before .args in

@@ -3,57 +3,40 @@ use Rattle.listing.proofs.Rows.{term-is, term-asks}
 use borrow.Author.Needs.{needs}
 use Rattle.listing.proofs.headers.put_term.Statement.{statement}
 use Rattle.listing.proofs.headers.put_term.Tie as tie
-use Rattle.listing.proofs.headers.put_term.Reads as reads
-use Rattle.listing.proofs.headers.put_term.Lts as lts
-use Rattle.listing.proofs.lines.put_t_line.Reads as put-t-line-reads
-use Rattle.listing.proofs.lines.put_u_line.Reads as put-u-line-reads
-use Rattle.listing.proofs.lines.put_w_line.Reads as put-w-line-reads
 
--- src/headers.rt:52:43
 enum-told : tie.Need-enum-told
 enum-told c = search needs
 
--- src/headers.rt:52:32
 put-t-line-requires : tie.Need-put-t-line-requires
 put-t-line-requires c κs = term-asks (c .before .enum-told .given .1) (c .before .before .before .before .before .args .terms .now) (c .before .before .before .before .before .args .k) (c .before .before .before .before .before .args .out .now) (c .before .before .before .before .before .args .at) (c .before .before .before .before .before .pre)
 
--- src/headers.rt:53:42
 enum-told-2 : tie.Need-enum-told-2
 enum-told-2 c = search needs
 
--- src/headers.rt:53:31
 put-u-line-requires : tie.Need-put-u-line-requires
 put-u-line-requires c κs = term-asks (c .before .enum-told2 .given .1) (c .before .before .before .before .before .args .terms .now) (c .before .before .before .before .before .args .k) (c .before .before .before .before .before .args .out .now) (c .before .before .before .before .before .args .at) (c .before .before .before .before .before .pre)
 
--- src/headers.rt:54:44
 enum-told-3 : tie.Need-enum-told-3
 enum-told-3 c = search needs
 
--- src/headers.rt:54:33
 put-w-line-requires : tie.Need-put-w-line-requires
 put-w-line-requires c κs = term-asks (c .before .enum-told3 .given .1) (c .before .before .before .before .before .args .terms .now) (c .before .before .before .before .before .args .k) (c .before .before .before .before .before .args .out .now) (c .before .before .before .before .before .args .at) (c .before .before .before .before .before .pre)
 
--- src/headers.rt:47:1
 same-length : tie.Need-same-length
 same-length c = search needs
 
--- src/headers.rt:47:1
 returns : tie.Need-returns
 returns c = puts-is (c .before .before .put-t-line .ensures) (term-is (c .before .before .before .before .enum-told .given .1) (c .before .before .before .before .before .before .before .before .args .terms .now) (c .before .before .before .before .before .before .before .before .args .k))
 
--- src/headers.rt:47:1
 same-length-2 : tie.Need-same-length-2
 same-length-2 c = search needs
 
--- src/headers.rt:47:1
 returns-2 : tie.Need-returns-2
 returns-2 c = puts-is (c .before .before .put-u-line .ensures) (term-is (c .before .before .before .before .enum-told2 .given .1) (c .before .before .before .before .before .before .before .before .args .terms .now) (c .before .before .before .before .before .before .before .before .args .k))
 
--- src/headers.rt:47:1
 same-length-3 : tie.Need-same-length-3
 same-length-3 c = search needs
 
--- src/headers.rt:47:1
 returns-3 : tie.Need-returns-3
 returns-3 c = puts-is (c .before .before .put-w-line .ensures) (term-is (c .before .before .before .before .enum-told3 .given .1) (c .before .before .before .before .before .before .before .before .args .terms .now) (c .before .before .before .before .before .before .before .before .args .k))
 

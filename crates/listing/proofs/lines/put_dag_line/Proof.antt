@@ -1,60 +1,42 @@
-use mathlib.Core.Path.{_≡_, refl}
+use mathlib.Core.Path.{refl}
 use mathlib.Core.List.{[], _∷_, _++_}
-use Prim.Native.Nat.{_<_}
 use Rattle.semantics.specs.Sheetlist.{dagText}
 use Rattle.listing.proofs.Writing.{room-front, room-next, room-then, puts-next}
 use Rattle.listing.proofs.Pieces.{number, dag-pieces}
 use borrow.Author.Needs.{needs}
 use Rattle.listing.proofs.lines.put_dag_line.Statement.{statement}
 use Rattle.listing.proofs.lines.put_dag_line.Tie as tie
-use Rattle.listing.proofs.lines.put_dag_line.Reads as reads
-use Rattle.listing.proofs.lines.put_dag_line.Lts as lts
-use Rattle.listing.proofs.lines.put_number.Reads as put-number-reads
-use Rattle.listing.proofs.lines.wide.Reads as wide-reads
-use Rattle.listing.proofs.numbers.put_byte.Reads as put-byte-reads
-use Rattle.listing.proofs.numbers.put_text.Reads as put-text-reads
 
--- src/lines.rt:75:31
 slice-aggregate-put-text : tie.Need-slice-aggregate-put-text
 slice-aggregate-put-text c = search needs
 
--- src/lines.rt:75:9
 put-text-requires : tie.Need-put-text-requires
 put-text-requires c κs = room-front (c .before .before .before .args .out .now) (c .before .before .before .args .at) dagText (number (c .before .before .before .args .nodes) ++ (number (c .before .before .before .args .constraints) ++ (number (c .before .before .before .args .rotation) ++ (10 ∷ [])))) (dag-pieces (c .before .before .before .args .nodes) (c .before .before .before .args .constraints) (c .before .before .before .args .rotation) (c .before .before .before .args .nodes) (c .before .before .before .args .constraints) (c .before .before .before .args .rotation) refl refl refl) (c .before .before .before .pre)
 
--- src/lines.rt:76:32
 wide-requires : tie.Need-wide-requires
 wide-requires c κs = search needs
 
--- src/lines.rt:76:9
 put-number-requires : tie.Need-put-number-requires
 put-number-requires c κs = room-then (c .before .before .before .before .put-text .ensures) (number (c .wide .result)) (number (c .before .before .before .before .before .before .before .before .args .constraints) ++ (number (c .before .before .before .before .before .before .before .before .args .rotation) ++ (10 ∷ []))) (dag-pieces (c .wide .result) (c .before .before .before .before .before .before .before .before .args .constraints) (c .before .before .before .before .before .before .before .before .args .rotation) (c .before .before .before .before .before .before .before .before .args .nodes) (c .before .before .before .before .before .before .before .before .args .constraints) (c .before .before .before .before .before .before .before .before .args .rotation) (c .wide .ensures) refl refl) (c .before .before .before .before .before .before .before .before .pre)
 
--- src/lines.rt:77:32
 wide-requires-2 : tie.Need-wide-requires-2
 wide-requires-2 c κs = search needs
 
--- src/lines.rt:77:9
 put-number-requires-2 : tie.Need-put-number-requires-2
 put-number-requires-2 c κs = room-then (c .before .before .before .before .put-number .ensures) (number (c .wide2 .result)) (number (c .before .before .before .before .before .before .before .before .before .before .before .before .before .args .rotation) ++ (10 ∷ [])) refl (room-next (c .before .before .before .before .before .before .before .before .before .put-text .ensures) (number (c .before .before .before .before .before .wide .result) ++ (number (c .wide2 .result) ++ (number (c .before .before .before .before .before .before .before .before .before .before .before .before .before .args .rotation) ++ (10 ∷ [])))) (dag-pieces (c .before .before .before .before .before .wide .result) (c .wide2 .result) (c .before .before .before .before .before .before .before .before .before .before .before .before .before .args .rotation) (c .before .before .before .before .before .before .before .before .before .before .before .before .before .args .nodes) (c .before .before .before .before .before .before .before .before .before .before .before .before .before .args .constraints) (c .before .before .before .before .before .before .before .before .before .before .before .before .before .args .rotation) (c .before .before .before .before .before .wide .ensures) (c .wide2 .ensures) refl) (c .before .before .before .before .before .before .before .before .before .before .before .before .before .pre))
 
--- src/lines.rt:78:32
 wide-requires-3 : tie.Need-wide-requires-3
 wide-requires-3 c κs = search needs
 
--- src/lines.rt:78:9
 put-number-requires-3 : tie.Need-put-number-requires-3
 put-number-requires-3 c κs = room-then (c .before .before .before .before .put-number2 .ensures) (number (c .wide3 .result)) (10 ∷ []) refl (room-next (c .before .before .before .before .before .before .before .before .before .put-number .ensures) (number (c .before .before .before .before .before .wide2 .result) ++ (number (c .wide3 .result) ++ (10 ∷ []))) refl (room-next (c .before .before .before .before .before .before .before .before .before .before .before .before .before .before .put-text .ensures) (number (c .before .before .before .before .before .before .before .before .before .before .wide .result) ++ (number (c .before .before .before .before .before .wide2 .result) ++ (number (c .wide3 .result) ++ (10 ∷ [])))) (dag-pieces (c .before .before .before .before .before .before .before .before .before .before .wide .result) (c .before .before .before .before .before .wide2 .result) (c .wide3 .result) (c .before .before .before .before .before .before .before .before .before .before .before .before .before .before .before .before .before .before .args .nodes) (c .before .before .before .before .before .before .before .before .before .before .before .before .before .before .before .before .before .before .args .constraints) (c .before .before .before .before .before .before .before .before .before .before .before .before .before .before .before .before .before .before .args .rotation) (c .before .before .before .before .before .before .before .before .before .before .wide .ensures) (c .before .before .before .before .before .wide2 .ensures) (c .wide3 .ensures)) (c .before .before .before .before .before .before .before .before .before .before .before .before .before .before .before .before .before .before .pre)))
 
--- src/lines.rt:79:5
 put-byte-requires : tie.Need-put-byte-requires
 put-byte-requires c κs = room-next (c .before .before .before .put-number3 .ensures) (10 ∷ []) refl (room-next (c .before .before .before .before .before .before .before .before .put-number2 .ensures) (number (c .before .before .before .before .wide3 .result) ++ (10 ∷ [])) refl (room-next (c .before .before .before .before .before .before .before .before .before .before .before .before .before .put-number .ensures) (number (c .before .before .before .before .before .before .before .before .before .wide2 .result) ++ (number (c .before .before .before .before .wide3 .result) ++ (10 ∷ []))) refl (room-next (c .before .before .before .before .before .before .before .before .before .before .before .before .before .before .before .before .before .before .put-text .ensures) (number (c .before .before .before .before .before .before .before .before .before .before .before .before .before .before .wide .result) ++ (number (c .before .before .before .before .before .before .before .before .before .wide2 .result) ++ (number (c .before .before .before .before .wide3 .result) ++ (10 ∷ [])))) (dag-pieces (c .before .before .before .before .before .before .before .before .before .before .before .before .before .before .wide .result) (c .before .before .before .before .before .before .before .before .before .wide2 .result) (c .before .before .before .before .wide3 .result) (c .before .before .before .before .before .before .before .before .before .before .before .before .before .before .before .before .before .before .before .before .before .before .args .nodes) (c .before .before .before .before .before .before .before .before .before .before .before .before .before .before .before .before .before .before .before .before .before .before .args .constraints) (c .before .before .before .before .before .before .before .before .before .before .before .before .before .before .before .before .before .before .before .before .before .before .args .rotation) (c .before .before .before .before .before .before .before .before .before .before .before .before .before .before .wide .ensures) (c .before .before .before .before .before .before .before .before .before .wide2 .ensures) (c .before .before .before .before .wide3 .ensures)) (c .before .before .before .before .before .before .before .before .before .before .before .before .before .before .before .before .before .before .before .before .before .before .pre))))
 
--- src/lines.rt:71:1
 same-length : tie.Need-same-length
 same-length c = search needs
 
--- src/lines.rt:71:1
 returns : tie.Need-returns
 returns c =
     let e = (dag-pieces (c .before .before .before .before .before .before .before .before .before .before .before .before .before .before .before .before .before .wide .result) (c .before .before .before .before .before .before .before .before .before .before .before .before .wide2 .result) (c .before .before .before .before .before .before .before .wide3 .result) (c .before .before .before .before .before .before .before .before .before .before .before .before .before .before .before .before .before .before .before .before .before .before .before .before .before .args .nodes) (c .before .before .before .before .before .before .before .before .before .before .before .before .before .before .before .before .before .before .before .before .before .before .before .before .before .args .constraints) (c .before .before .before .before .before .before .before .before .before .before .before .before .before .before .before .before .before .before .before .before .before .before .before .before .before .args .rotation) (c .before .before .before .before .before .before .before .before .before .before .before .before .before .before .before .before .before .wide .ensures) (c .before .before .before .before .before .before .before .before .before .before .before .before .wide2 .ensures) (c .before .before .before .before .before .before .before .wide3 .ensures)) in

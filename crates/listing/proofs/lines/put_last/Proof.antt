@@ -7,28 +7,19 @@ use Rattle.listing.proofs.Pieces.{ending-pieces}
 use borrow.Author.Needs.{needs}
 use Rattle.listing.proofs.lines.put_last.Statement.{statement}
 use Rattle.listing.proofs.lines.put_last.Tie as tie
-use Rattle.listing.proofs.lines.put_last.Reads as reads
-use Rattle.listing.proofs.lines.put_last.Lts as lts
-use Rattle.listing.proofs.numbers.put_byte.Reads as put-byte-reads
-use Rattle.listing.proofs.numbers.put_signed.Reads as put-signed-reads
 
--- src/lines.rt:34:9
 put-byte-requires : tie.Need-put-byte-requires
 put-byte-requires c κs = search needs
 
--- src/lines.rt:35:9
 put-signed-requires : tie.Need-put-signed-requires
 put-signed-requires c κs = room-then (c .before .before .before .put-byte .ensures) (signed prime (c .before .before .before .before .before .before .args .c)) (10 ∷ []) (ending-pieces (c .before .before .before .before .before .before .args .c)) (c .before .before .before .before .before .before .pre)
 
--- src/lines.rt:36:5
 put-byte-requires-2 : tie.Need-put-byte-requires-2
 put-byte-requires-2 c κs = room-next (c .before .before .before .put-signed .ensures) (10 ∷ []) refl (room-next (c .before .before .before .before .before .before .before .put-byte .ensures) (signed prime (c .before .before .before .before .before .before .before .before .before .before .args .c) ++ (10 ∷ [])) (ending-pieces (c .before .before .before .before .before .before .before .before .before .before .args .c)) (c .before .before .before .before .before .before .before .before .before .before .pre))
 
--- src/lines.rt:30:1
 same-length : tie.Need-same-length
 same-length c = search needs
 
--- src/lines.rt:30:1
 returns : tie.Need-returns
 returns c =
     let r = room-next (c .before .before .before .before .before .before .before .before .before .before .put-byte .ensures) (signed prime (c .before .before .before .before .before .before .before .before .before .before .before .before .before .args .c) ++ (10 ∷ [])) (ending-pieces (c .before .before .before .before .before .before .before .before .before .before .before .before .before .args .c)) (c .before .before .before .before .before .before .before .before .before .before .before .before .before .pre) in

@@ -4,24 +4,16 @@ use Rattle.listing.proofs.Writing.{puts-next}
 use borrow.Author.Needs.{needs}
 use Rattle.listing.proofs.lines.put_number.Statement.{statement}
 use Rattle.listing.proofs.lines.put_number.Tie as tie
-use Rattle.listing.proofs.lines.put_number.Reads as reads
-use Rattle.listing.proofs.lines.put_number.Lts as lts
-use Rattle.listing.proofs.numbers.put_byte.Reads as put-byte-reads
-use Rattle.listing.proofs.numbers.put_decimal.Reads as put-decimal-reads
 
--- src/lines.rt:25:9
 put-byte-requires : tie.Need-put-byte-requires
 put-byte-requires c κs = search needs
 
--- src/lines.rt:26:5
 put-decimal-requires : tie.Need-put-decimal-requires
 put-decimal-requires c κs = search needs
 
--- src/lines.rt:21:1
 same-length : tie.Need-same-length
 same-length c = search needs
 
--- src/lines.rt:21:1
 returns : tie.Need-returns
 returns c = puts-next (c .before .before .before .before .before .before .put-byte .ensures) (decimal (c .before .before .before .before .before .before .before .before .before .args .n)) refl (c .before .before .before .before .before .before .before .before .before .pre) (c .before .before .put-decimal .ensures)
 

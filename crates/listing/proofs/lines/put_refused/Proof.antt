@@ -1,47 +1,33 @@
-use mathlib.Core.Path.{_≡_, refl}
+use mathlib.Core.Path.{refl}
 use mathlib.Core.List.{[], _∷_, _++_}
-use Prim.Native.Nat.{_<_}
 use Rattle.semantics.specs.Sheetlist.{refusedText}
 use Rattle.listing.proofs.Writing.{room-front, room-next, room-then, puts-next}
 use Rattle.listing.proofs.Pieces.{number, refused-pieces}
 use borrow.Author.Needs.{needs}
 use Rattle.listing.proofs.lines.put_refused.Statement.{statement}
 use Rattle.listing.proofs.lines.put_refused.Tie as tie
-use Rattle.listing.proofs.lines.put_refused.Reads as reads
-use Rattle.listing.proofs.lines.put_refused.Lts as lts
-use Rattle.listing.proofs.lines.put_number.Reads as put-number-reads
-use Rattle.listing.proofs.numbers.put_byte.Reads as put-byte-reads
-use Rattle.listing.proofs.numbers.put_text.Reads as put-text-reads
 
--- src/lines.rt:87:31
 slice-aggregate-put-text : tie.Need-slice-aggregate-put-text
 slice-aggregate-put-text c = search needs
 
--- src/lines.rt:87:9
 put-text-requires : tie.Need-put-text-requires
 put-text-requires c κs = room-front (c .before .before .before .before .args .out .now) (c .before .before .before .before .args .at) (refusedText ++ (32 ∷ [])) ((c .before .before .before .before .args .step .now) ++ (number (c .before .before .before .before .args .number) ++ (number (c .before .before .before .before .args .place) ++ (10 ∷ [])))) (refused-pieces (c .before .before .before .before .args .step .now) (c .before .before .before .before .args .number) (c .before .before .before .before .args .place)) (c .before .before .before .before .pre)
 
--- src/lines.rt:88:9
 put-text-requires-2 : tie.Need-put-text-requires-2
 put-text-requires-2 c κs = room-then (c .before .before .before .put-text .ensures) (c .before .before .before .before .before .before .before .before .args .step .now) (number (c .before .before .before .before .before .before .before .before .args .number) ++ (number (c .before .before .before .before .before .before .before .before .args .place) ++ (10 ∷ []))) (refused-pieces (c .before .before .before .before .before .before .before .before .args .step .now) (c .before .before .before .before .before .before .before .before .args .number) (c .before .before .before .before .before .before .before .before .args .place)) (c .before .before .before .before .before .before .before .before .pre)
 
--- src/lines.rt:89:9
 put-number-requires : tie.Need-put-number-requires
 put-number-requires c κs = room-then (c .before .before .before .put-text2 .ensures) (number (c .before .before .before .before .before .before .before .before .before .before .before .before .args .number)) (number (c .before .before .before .before .before .before .before .before .before .before .before .before .args .place) ++ (10 ∷ [])) refl (room-next (c .before .before .before .before .before .before .before .put-text .ensures) ((c .before .before .before .before .before .before .before .before .before .before .before .before .args .step .now) ++ (number (c .before .before .before .before .before .before .before .before .before .before .before .before .args .number) ++ (number (c .before .before .before .before .before .before .before .before .before .before .before .before .args .place) ++ (10 ∷ [])))) (refused-pieces (c .before .before .before .before .before .before .before .before .before .before .before .before .args .step .now) (c .before .before .before .before .before .before .before .before .before .before .before .before .args .number) (c .before .before .before .before .before .before .before .before .before .before .before .before .args .place)) (c .before .before .before .before .before .before .before .before .before .before .before .before .pre))
 
--- src/lines.rt:90:9
 put-number-requires-2 : tie.Need-put-number-requires-2
 put-number-requires-2 c κs = room-then (c .before .before .before .put-number .ensures) (number (c .before .before .before .before .before .before .before .before .before .before .before .before .before .before .before .before .args .place)) (10 ∷ []) refl (room-next (c .before .before .before .before .before .before .before .put-text2 .ensures) (number (c .before .before .before .before .before .before .before .before .before .before .before .before .before .before .before .before .args .number) ++ (number (c .before .before .before .before .before .before .before .before .before .before .before .before .before .before .before .before .args .place) ++ (10 ∷ []))) refl (room-next (c .before .before .before .before .before .before .before .before .before .before .before .put-text .ensures) ((c .before .before .before .before .before .before .before .before .before .before .before .before .before .before .before .before .args .step .now) ++ (number (c .before .before .before .before .before .before .before .before .before .before .before .before .before .before .before .before .args .number) ++ (number (c .before .before .before .before .before .before .before .before .before .before .before .before .before .before .before .before .args .place) ++ (10 ∷ [])))) (refused-pieces (c .before .before .before .before .before .before .before .before .before .before .before .before .before .before .before .before .args .step .now) (c .before .before .before .before .before .before .before .before .before .before .before .before .before .before .before .before .args .number) (c .before .before .before .before .before .before .before .before .before .before .before .before .before .before .before .before .args .place)) (c .before .before .before .before .before .before .before .before .before .before .before .before .before .before .before .before .pre)))
 
--- src/lines.rt:91:5
 put-byte-requires : tie.Need-put-byte-requires
 put-byte-requires c κs = room-next (c .before .before .before .put-number2 .ensures) (10 ∷ []) refl (room-next (c .before .before .before .before .before .before .before .put-number .ensures) (number (c .before .before .before .before .before .before .before .before .before .before .before .before .before .before .before .before .before .before .before .before .args .place) ++ (10 ∷ [])) refl (room-next (c .before .before .before .before .before .before .before .before .before .before .before .put-text2 .ensures) (number (c .before .before .before .before .before .before .before .before .before .before .before .before .before .before .before .before .before .before .before .before .args .number) ++ (number (c .before .before .before .before .before .before .before .before .before .before .before .before .before .before .before .before .before .before .before .before .args .place) ++ (10 ∷ []))) refl (room-next (c .before .before .before .before .before .before .before .before .before .before .before .before .before .before .before .put-text .ensures) ((c .before .before .before .before .before .before .before .before .before .before .before .before .before .before .before .before .before .before .before .before .args .step .now) ++ (number (c .before .before .before .before .before .before .before .before .before .before .before .before .before .before .before .before .before .before .before .before .args .number) ++ (number (c .before .before .before .before .before .before .before .before .before .before .before .before .before .before .before .before .before .before .before .before .args .place) ++ (10 ∷ [])))) (refused-pieces (c .before .before .before .before .before .before .before .before .before .before .before .before .before .before .before .before .before .before .before .before .args .step .now) (c .before .before .before .before .before .before .before .before .before .before .before .before .before .before .before .before .before .before .before .before .args .number) (c .before .before .before .before .before .before .before .before .before .before .before .before .before .before .before .before .before .before .before .before .args .place)) (c .before .before .before .before .before .before .before .before .before .before .before .before .before .before .before .before .before .before .before .before .pre))))
 
--- src/lines.rt:83:1
 same-length : tie.Need-same-length
 same-length c = search needs
 
--- src/lines.rt:83:1
 returns : tie.Need-returns
 returns c =
     let r = room-next (c .before .before .before .before .before .before .before .before .before .before .before .before .before .before .before .before .before .before .put-text .ensures) ((c .before .before .before .before .before .before .before .before .before .before .before .before .before .before .before .before .before .before .before .before .before .before .before .args .step .now) ++ (number (c .before .before .before .before .before .before .before .before .before .before .before .before .before .before .before .before .before .before .before .before .before .before .before .args .number) ++ (number (c .before .before .before .before .before .before .before .before .before .before .before .before .before .before .before .before .before .before .before .before .before .before .before .args .place) ++ (10 ∷ [])))) (refused-pieces (c .before .before .before .before .before .before .before .before .before .before .before .before .before .before .before .before .before .before .before .before .before .before .before .args .step .now) (c .before .before .before .before .before .before .before .before .before .before .before .before .before .before .before .before .before .before .before .before .before .before .before .args .number) (c .before .before .before .before .before .before .before .before .before .before .before .before .before .before .before .before .before .before .before .before .before .before .before .args .place)) (c .before .before .before .before .before .before .before .before .before .before .before .before .before .before .before .before .before .before .before .before .before .before .before .pre) in

@@ -1,60 +1,43 @@
-use mathlib.Core.Path.{_≡_, refl}
+use mathlib.Core.Path.{refl}
 use mathlib.Core.List.{[], _∷_, _++_}
-use Prim.Native.Nat.{_+_, _<_}
+use Prim.Native.Nat.{_+_}
 use lib.ListN.{getD}
 use Rattle.listing.proofs.Writing.{room-front, room-next, room-then, puts-next}
 use Rattle.listing.proofs.Pieces.{number, ending, t-pieces}
 use borrow.Author.Needs.{needs}
 use Rattle.listing.proofs.lines.put_t_line.Statement.{statement}
 use Rattle.listing.proofs.lines.put_t_line.Tie as tie
-use Rattle.listing.proofs.lines.put_t_line.Reads as reads
-use Rattle.listing.proofs.lines.put_t_line.Lts as lts
-use Rattle.listing.proofs.lines.put_last.Reads as put-last-reads
-use Rattle.listing.proofs.lines.put_number.Reads as put-number-reads
-use Rattle.listing.proofs.lines.wide.Reads as wide-reads
-use Rattle.listing.proofs.numbers.put_byte.Reads as put-byte-reads
 
--- src/lines.rt:44:9
 put-byte-requires : tie.Need-put-byte-requires
 put-byte-requires c κs = room-front (c .before .before .before .args .out .now) (c .before .before .before .args .at) (116 ∷ []) (number (getD (c .before .before .before .args .terms .now) (c .before .before .before .args .k) 0) ++ ending (getD (c .before .before .before .args .terms .now) (c .before .before .before .args .k + 1) 0)) (t-pieces (c .before .before .before .args .terms .now) (c .before .before .before .args .k) (getD (c .before .before .before .args .terms .now) (c .before .before .before .args .k) 0) refl) (c .before .before .before .pre .1)
 
--- src/lines.rt:45:37
 mul-wide : tie.Need-mul-wide
 mul-wide c = search needs
 
--- src/lines.rt:45:37
 shared-slice-read-wide : tie.Need-shared-slice-read-wide
 shared-slice-read-wide c = search needs
 
--- src/lines.rt:45:32
 wide-requires : tie.Need-wide-requires
 wide-requires c κs = search needs
 
--- src/lines.rt:45:9
 put-number-requires : tie.Need-put-number-requires
 put-number-requires c κs = room-then (c .before .before .before .before .before .put-byte .ensures) (number (c .wide .result)) (ending (getD (c .before .before .before .before .before .before .before .before .before .args .terms .now) (c .before .before .before .before .before .before .before .before .before .args .k + 1) 0)) (t-pieces (c .before .before .before .before .before .before .before .before .before .args .terms .now) (c .before .before .before .before .before .before .before .before .before .args .k) (c .wide .result) (c .wide .ensures)) (c .before .before .before .before .before .before .before .before .before .pre .1)
 
--- src/lines.rt:46:28
 add-put-last : tie.Need-add-put-last
 add-put-last c = search needs
 
--- src/lines.rt:46:22
 mul-put-last : tie.Need-mul-put-last
 mul-put-last c = search needs
 
--- src/lines.rt:46:22
 shared-slice-read-put-last : tie.Need-shared-slice-read-put-last
 shared-slice-read-put-last c = search needs
 
--- src/lines.rt:46:5
 put-last-requires : tie.Need-put-last-requires
 put-last-requires c κs = room-next (c .before .before .before .before .put-number .ensures) (ending (getD (c .before .before .before .before .before .before .before .before .before .before .before .before .before .before .args .terms .now) (c .before .before .before .before .before .before .before .before .before .before .before .before .before .before .args .k + 1) 0)) refl (room-next (c .before .before .before .before .before .before .before .before .before .before .put-byte .ensures) (number (c .before .before .before .before .before .wide .result) ++ ending (getD (c .before .before .before .before .before .before .before .before .before .before .before .before .before .before .args .terms .now) (c .before .before .before .before .before .before .before .before .before .before .before .before .before .before .args .k + 1) 0)) (t-pieces (c .before .before .before .before .before .before .before .before .before .before .before .before .before .before .args .terms .now) (c .before .before .before .before .before .before .before .before .before .before .before .before .before .before .args .k) (c .before .before .before .before .before .wide .result) (c .before .before .before .before .before .wide .ensures)) (c .before .before .before .before .before .before .before .before .before .before .before .before .before .before .pre .1))
 
--- src/lines.rt:40:1
 same-length : tie.Need-same-length
 same-length c = search needs
 
--- src/lines.rt:40:1
 returns : tie.Need-returns
 returns c =
     let y = (number (c .before .before .before .before .before .before .before .before .wide .result) ++ ending (getD (c .before .before .before .before .before .before .before .before .before .before .before .before .before .before .before .before .before .args .terms .now) (c .before .before .before .before .before .before .before .before .before .before .before .before .before .before .before .before .before .args .k + 1) 0)) in

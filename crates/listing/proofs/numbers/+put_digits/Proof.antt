@@ -1,12 +1,11 @@
-use mathlib.Core.Path.{_≡_, refl, sym}
-use mathlib.Core.List.{List, [], _∷_}
-use Prim.Native.Nat.{_+_, _-_, _/_, _%_}
+use mathlib.Core.Path.{refl}
+use mathlib.Core.List.{[], _∷_}
+use Prim.Native.Nat.{_<_, _+_, _-_, _/_, _%_, ℕ}
 use native.Mathlib.Omega.{arith}
 use borrow.Author.Needs.{needs}
 use Rattle.semantics.specs.Sheetlist.{digits}
 use Rattle.listing.proofs.Writing.{room-is, room-front, room-next, puts-none, puts-is, puts-next}
 use Rattle.listing.proofs.Digits.{digits-none, digits-one, digits-more}
-use Prim.Native.Nat.{ℕ, _<_}
 use borrow.Fn.Kinds.{In}
 use borrow.Fn.PlainCycle.{Measures, is, falls, and}
 use Rattle.listing.proofs.numbers.put_digits.Reads as put-digits
@@ -28,7 +27,6 @@ abbrev put-digits-below : ℕ → In 1 put-digits-kinds.ps
 put-digits-below t =
     and 1 put-digits-kinds.ps (falls 1 put-digits-kinds.ps _<_ μ-put-digits t) put-digits.Pre
 
--- src/numbers.rt:45:9
 put-digits-returns : (t : ℕ) → put-digits-lts.Need-returns (
   digit-reads.Asked,
   digit-reads.Learnt,
@@ -39,7 +37,6 @@ put-digits-returns : (t : ℕ) → put-digits-lts.Need-returns (
 ) (put-digits-at t) put-digits.Post
 put-digits-returns t c = puts-is (puts-none (c .before .before .args .out .now) (c .before .before .args .at)) (digits-none (c .before .before .args .most) (c .before .before .args .n) (c .if1 .taken))
 
--- src/numbers.rt:48:34
 put-digits-digit-requires : (t : ℕ) → put-digits-lts.Need-digit-requires (
   digit-reads.Asked,
   digit-reads.Learnt,
@@ -50,7 +47,6 @@ put-digits-digit-requires : (t : ℕ) → put-digits-lts.Need-digit-requires (
 ) (put-digits-at t) put-digits.Post
 put-digits-digit-requires t c κs = search needs
 
--- src/numbers.rt:48:9
 put-digits-put-byte-requires : (t : ℕ) → put-digits-lts.Need-put-byte-requires (
   digit-reads.Asked,
   digit-reads.Learnt,
@@ -61,7 +57,6 @@ put-digits-put-byte-requires : (t : ℕ) → put-digits-lts.Need-put-byte-requir
 ) (put-digits-at t) put-digits.Post
 put-digits-put-byte-requires t c κs = room-is (c .before .before .before .before .before .args .out .now) (c .before .before .before .before .before .args .at) (digits-one (c .before .before .before .before .before .args .most) (c .before .before .before .before .before .args .n) (c .digit .result) (c .before .before .before .if1 .left) (c .before .before .if2 .taken) (c .digit .ensures)) (c .before .before .before .before .before .pre .1)
 
--- src/numbers.rt:48:9
 put-digits-same-length : (t : ℕ) → put-digits-lts.Need-same-length (
   digit-reads.Asked,
   digit-reads.Learnt,
@@ -72,7 +67,6 @@ put-digits-same-length : (t : ℕ) → put-digits-lts.Need-same-length (
 ) (put-digits-at t) put-digits.Post
 put-digits-same-length t c = search needs
 
--- src/numbers.rt:48:9
 put-digits-returns-2 : (t : ℕ) → put-digits-lts.Need-returns-2 (
   digit-reads.Asked,
   digit-reads.Learnt,
@@ -83,7 +77,6 @@ put-digits-returns-2 : (t : ℕ) → put-digits-lts.Need-returns-2 (
 ) (put-digits-at t) put-digits.Post
 put-digits-returns-2 t c = puts-is (c .before .before .put-byte .ensures) (digits-one (c .before .before .before .before .before .before .before .before .args .most) (c .before .before .before .before .before .before .before .before .args .n) (c .before .before .before .digit .result) (c .before .before .before .before .before .before .if1 .left) (c .before .before .before .before .before .if2 .taken) (c .before .before .before .digit .ensures))
 
--- src/numbers.rt:50:36
 put-digits-sub-put-digits : (t : ℕ) → put-digits-lts.Need-sub-put-digits (
   digit-reads.Asked,
   digit-reads.Learnt,
@@ -94,7 +87,6 @@ put-digits-sub-put-digits : (t : ℕ) → put-digits-lts.Need-sub-put-digits (
 ) (put-digits-at t) put-digits.Post
 put-digits-sub-put-digits t c = search needs
 
--- src/numbers.rt:50:9
 put-digits-put-digits-requires : (t : ℕ) → put-digits-lts.Need-put-digits-requires (
   digit-reads.Asked,
   digit-reads.Learnt,
@@ -105,7 +97,6 @@ put-digits-put-digits-requires : (t : ℕ) → put-digits-lts.Need-put-digits-re
 ) (put-digits-at t) put-digits.Post
 put-digits-put-digits-requires t c κs = (omega arith, room-front (c .before .before .before .before .args .out .now) (c .before .before .before .before .args .at) (digits (c .before .before .before .before .args .most - 1) (c .before .before .before .before .args .n / 10)) ((48 + c .before .before .before .before .args .n % 10) ∷ []) (digits-more (c .before .before .before .before .args .most) (c .before .before .before .before .args .n) (48 + c .before .before .before .before .args .n % 10) (c .before .before .if1 .left) (c .before .if2 .left) refl) (c .before .before .before .before .pre .1))
 
--- src/numbers.rt:51:25
 put-digits-digit-requires-2 : (t : ℕ) → put-digits-lts.Need-digit-requires-2 (
   digit-reads.Asked,
   digit-reads.Learnt,
@@ -116,7 +107,6 @@ put-digits-digit-requires-2 : (t : ℕ) → put-digits-lts.Need-digit-requires-2
 ) (put-digits-at t) put-digits.Post
 put-digits-digit-requires-2 t c κs = search needs
 
--- src/numbers.rt:51:5
 put-digits-put-byte-requires-2 : (t : ℕ) → put-digits-lts.Need-put-byte-requires-2 (
   digit-reads.Asked,
   digit-reads.Learnt,
@@ -127,7 +117,6 @@ put-digits-put-byte-requires-2 : (t : ℕ) → put-digits-lts.Need-put-byte-requ
 ) (put-digits-at t) put-digits.Post
 put-digits-put-byte-requires-2 t c κs = room-next (c .before .before .before .before .put-digits .ensures) (c .digit2 .result ∷ []) (digits-more (c .before .before .before .before .before .before .before .before .before .args .most) (c .before .before .before .before .before .before .before .before .before .args .n) (c .digit2 .result) (c .before .before .before .before .before .before .before .if1 .left) (c .before .before .before .before .before .before .if2 .left) (c .digit2 .ensures)) (c .before .before .before .before .before .before .before .before .before .pre .1)
 
--- src/numbers.rt:40:1
 put-digits-same-length-2 : (t : ℕ) → put-digits-lts.Need-same-length-2 (
   digit-reads.Asked,
   digit-reads.Learnt,
@@ -138,7 +127,6 @@ put-digits-same-length-2 : (t : ℕ) → put-digits-lts.Need-same-length-2 (
 ) (put-digits-at t) put-digits.Post
 put-digits-same-length-2 t c = search needs
 
--- src/numbers.rt:40:1
 put-digits-returns-3 : (t : ℕ) → put-digits-lts.Need-returns-3 (
   digit-reads.Asked,
   digit-reads.Learnt,

@@ -1,12 +1,11 @@
-use mathlib.Core.Path.{_≡_, refl, sym}
-use mathlib.Core.List.{List, [], _∷_}
-use Prim.Native.Nat.{_+_, _-_, _/_, _%_}
+use mathlib.Core.Path.{refl}
+use mathlib.Core.List.{[], _∷_}
+use Prim.Native.Nat.{_<_, _-_, _/_, _%_, ℕ}
 use native.Mathlib.Omega.{arith}
 use borrow.Author.Needs.{needs}
 use Rattle.semantics.specs.Sheetlist.{hexDigit, hexDigits}
 use Rattle.listing.proofs.Writing.{room-front, room-next, puts-none, puts-is, puts-next}
 use Rattle.listing.proofs.Digits.{hex-none, hex-more}
-use Prim.Native.Nat.{ℕ, _<_}
 use borrow.Fn.Kinds.{In}
 use borrow.Fn.PlainCycle.{Measures, is, falls, and}
 use Rattle.listing.proofs.numbers.put_hex_digits.Reads as put-hex-digits
@@ -36,7 +35,6 @@ put-hex-digits-below t =
     (falls 1 put-hex-digits-kinds.ps _<_ μ-put-hex-digits t)
     put-hex-digits.Pre
 
--- src/numbers.rt:67:9
 put-hex-digits-returns : (t : ℕ) → put-hex-digits-lts.Need-returns (
   put-hex-digits-below t,
   put-hex-digits.Post,
@@ -47,7 +45,6 @@ put-hex-digits-returns : (t : ℕ) → put-hex-digits-lts.Need-returns (
 ) (put-hex-digits-at t) put-hex-digits.Post
 put-hex-digits-returns t c = puts-is (puts-none (c .before .before .args .out .now) (c .before .before .args .at)) (hex-none (c .before .before .args .count) (c .before .before .args .word) (c .if1 .taken))
 
--- src/numbers.rt:69:40
 put-hex-digits-sub-put-hex-digits : (t : ℕ) → put-hex-digits-lts.Need-sub-put-hex-digits (
   put-hex-digits-below t,
   put-hex-digits.Post,
@@ -58,7 +55,6 @@ put-hex-digits-sub-put-hex-digits : (t : ℕ) → put-hex-digits-lts.Need-sub-pu
 ) (put-hex-digits-at t) put-hex-digits.Post
 put-hex-digits-sub-put-hex-digits t c = search needs
 
--- src/numbers.rt:69:9
 put-hex-digits-put-hex-digits-requires : (t : ℕ) → put-hex-digits-lts.Need-put-hex-digits-requires (
   put-hex-digits-below t,
   put-hex-digits.Post,
@@ -69,7 +65,6 @@ put-hex-digits-put-hex-digits-requires : (t : ℕ) → put-hex-digits-lts.Need-p
 ) (put-hex-digits-at t) put-hex-digits.Post
 put-hex-digits-put-hex-digits-requires t c κs = (omega arith, room-front (c .before .before .before .args .out .now) (c .before .before .before .args .at) (hexDigits (c .before .before .before .args .count - 1) (c .before .before .before .args .word / 16)) (hexDigit (c .before .before .before .args .word % 16) ∷ []) (hex-more (c .before .before .before .args .count) (c .before .before .before .args .word) (hexDigit (c .before .before .before .args .word % 16)) (c .before .if1 .left) refl) (c .before .before .before .pre .1))
 
--- src/numbers.rt:70:25
 put-hex-digits-hex-digit-requires : (t : ℕ) → put-hex-digits-lts.Need-hex-digit-requires (
   put-hex-digits-below t,
   put-hex-digits.Post,
@@ -80,7 +75,6 @@ put-hex-digits-hex-digit-requires : (t : ℕ) → put-hex-digits-lts.Need-hex-di
 ) (put-hex-digits-at t) put-hex-digits.Post
 put-hex-digits-hex-digit-requires t c κs = search needs
 
--- src/numbers.rt:70:5
 put-hex-digits-put-byte-requires : (t : ℕ) → put-hex-digits-lts.Need-put-byte-requires (
   put-hex-digits-below t,
   put-hex-digits.Post,
@@ -91,7 +85,6 @@ put-hex-digits-put-byte-requires : (t : ℕ) → put-hex-digits-lts.Need-put-byt
 ) (put-hex-digits-at t) put-hex-digits.Post
 put-hex-digits-put-byte-requires t c κs = room-next (c .before .before .before .before .put-hex-digits .ensures) (c .hex-digit .result ∷ []) (hex-more (c .before .before .before .before .before .before .before .before .args .count) (c .before .before .before .before .before .before .before .before .args .word) (c .hex-digit .result) (c .before .before .before .before .before .before .if1 .left) (c .hex-digit .ensures)) (c .before .before .before .before .before .before .before .before .pre .1)
 
--- src/numbers.rt:62:1
 put-hex-digits-same-length : (t : ℕ) → put-hex-digits-lts.Need-same-length (
   put-hex-digits-below t,
   put-hex-digits.Post,
@@ -102,7 +95,6 @@ put-hex-digits-same-length : (t : ℕ) → put-hex-digits-lts.Need-same-length (
 ) (put-hex-digits-at t) put-hex-digits.Post
 put-hex-digits-same-length t c = search needs
 
--- src/numbers.rt:62:1
 put-hex-digits-returns-2 : (t : ℕ) → put-hex-digits-lts.Need-returns-2 (
   put-hex-digits-below t,
   put-hex-digits.Post,

@@ -7,9 +7,6 @@ use borrow.Author.Needs.{needs}
 use Rattle.listing.specs.Putting.{Puts}
 use Rattle.listing.proofs.numbers.put_text.Statement.{statement}
 use Rattle.listing.proofs.numbers.put_text.Tie as tie
-use Rattle.listing.proofs.numbers.put_text.Reads as reads
-use Rattle.listing.proofs.numbers.put_text.Lts as lts
-use Rattle.listing.proofs.numbers.put_byte.Reads as put-byte-reads
 
 abbrev Inv-loop : tie.InvT-loop
 Inv-loop out₀ at text next₀ i₀ out next i = (i ≤ length text) × Puts out₀ at (take i text) out next
@@ -17,35 +14,27 @@ Inv-loop out₀ at text next₀ i₀ out next i = (i ≤ length text) × Puts ou
 abbrev μ-loop : tie.MeasureT-loop
 μ-loop out₀ at text next₀ i₀ out next i = length text - i
 
--- src/numbers.rt:23:5
 loop-holds : tie.Need-loop-holds Inv-loop μ-loop
 loop-holds c = (omega arith, puts-none (c .before .before .args .out .now) (c .before .before .args .at))
 
--- src/numbers.rt:24:41
 shared-slice-read-put-byte : tie.Need-shared-slice-read-put-byte Inv-loop μ-loop
 shared-slice-read-put-byte c = search needs
 
--- src/numbers.rt:24:13
 put-byte-requires : tie.Need-put-byte-requires Inv-loop μ-loop
 put-byte-requires c κs = text-room (c .before .before .before .before .before .before .args .text .now) (c .before .before .before .loop .i) (c .before .before .loop-test .taken) (c .before .before .before .before .before .before .pre) (c .before .before .before .loop .inv .1)
 
--- src/numbers.rt:26:9
 add-i : tie.Need-add-i Inv-loop μ-loop
 add-i c = search needs
 
--- src/numbers.rt:23:5
 loop-less : tie.Need-loop-less Inv-loop μ-loop
 loop-less c = search needs
 
--- src/numbers.rt:23:5
 loop-again : tie.Need-loop-again Inv-loop μ-loop
 loop-again c = (omega arith, text-next (c .before .before .before .before .before .before .before .before .before .args .text .now) (c .before .before .before .before .before .before .loop .i) (c .before .before .before .before .before .loop-test .taken) (c .before .before .before .before .before .before .before .before .before .pre) (c .before .before .before .before .before .before .loop .inv .1) (c .before .before .put-byte .ensures))
 
--- src/numbers.rt:17:1
 same-length : tie.Need-same-length Inv-loop μ-loop
 same-length c = puts-length (c .before .loop .inv .1) (omega (arith, c .before .before .before .before .pre, length-take (c .before .loop .i) (c .before .before .before .before .args .text .now)))
 
--- src/numbers.rt:17:1
 returns : tie.Need-returns Inv-loop μ-loop
 returns c = puts-is (c .before .loop .inv .1) (take-all (c .before .loop .i) (c .before .before .before .before .args .text .now) (c .loop-test .left))
 
