@@ -1,15 +1,16 @@
 use mathlib.Core.Path.{refl}
-use mathlib.Core.List.{[], _∷_, _++_}
-use Prim.Native.Nat.{_+_}
+use mathlib.Core.List.{[], _∷_}
 use lib.ListN.{getD}
-use Rattle.listing.proofs.Writing.{room-front, room-next, room-then, puts-next}
-use Rattle.listing.proofs.Pieces.{number, ending, t-pieces}
 use borrow.Author.Needs.{needs}
+use Rattle.listing.proofs.Writing.{room-front, room-next, room-then, puts-next}
+use Rattle.listing.proofs.Pieces.{number, t-pieces}
 use Rattle.listing.proofs.lines.put_t_line.Statement.{statement}
 use Rattle.listing.proofs.lines.put_t_line.Tie as tie
 
 put-byte-requires : tie.Need-put-byte-requires
-put-byte-requires c κs = room-front (c .before .before .before .args .out .now) (c .before .before .before .args .at) (116 ∷ []) (number (getD (c .before .before .before .args .terms .now) (c .before .before .before .args .k) 0) ++ ending (getD (c .before .before .before .args .terms .now) (c .before .before .before .args .k + 1) 0)) (t-pieces (c .before .before .before .args .terms .now) (c .before .before .before .args .k) (getD (c .before .before .before .args .terms .now) (c .before .before .before .args .k) 0) refl) (c .before .before .before .pre .1)
+put-byte-requires c κs =
+    let a = c .before .before .before .args in
+    room-front (a .out .now) (a .at) (116 ∷ []) _ (t-pieces (a .terms .now) (a .k) (getD (a .terms .now) (a .k) 0) refl) (c .before .before .before .pre .1)
 
 mul-wide : tie.Need-mul-wide
 mul-wide c = search needs
@@ -21,7 +22,9 @@ wide-requires : tie.Need-wide-requires
 wide-requires c κs = search needs
 
 put-number-requires : tie.Need-put-number-requires
-put-number-requires c κs = room-then (c .before .before .before .before .before .put-byte .ensures) (number (c .wide .result)) (ending (getD (c .before .before .before .before .before .before .before .before .before .args .terms .now) (c .before .before .before .before .before .before .before .before .before .args .k + 1) 0)) (t-pieces (c .before .before .before .before .before .before .before .before .before .args .terms .now) (c .before .before .before .before .before .before .before .before .before .args .k) (c .wide .result) (c .wide .ensures)) (c .before .before .before .before .before .before .before .before .before .pre .1)
+put-number-requires c κs =
+    let a = c .before .before .before .before .before .before .before .before .before .args in
+    room-then (c .before .before .before .before .before .put-byte .ensures) (number (c .wide .result)) _ (t-pieces (a .terms .now) (a .k) (c .wide .result) (c .wide .ensures)) (c .before .before .before .before .before .before .before .before .before .pre .1)
 
 add-put-last : tie.Need-add-put-last
 add-put-last c = search needs
@@ -33,16 +36,20 @@ shared-slice-read-put-last : tie.Need-shared-slice-read-put-last
 shared-slice-read-put-last c = search needs
 
 put-last-requires : tie.Need-put-last-requires
-put-last-requires c κs = room-next (c .before .before .before .before .put-number .ensures) (ending (getD (c .before .before .before .before .before .before .before .before .before .before .before .before .before .before .args .terms .now) (c .before .before .before .before .before .before .before .before .before .before .before .before .before .before .args .k + 1) 0)) refl (room-next (c .before .before .before .before .before .before .before .before .before .before .put-byte .ensures) (number (c .before .before .before .before .before .wide .result) ++ ending (getD (c .before .before .before .before .before .before .before .before .before .before .before .before .before .before .args .terms .now) (c .before .before .before .before .before .before .before .before .before .before .before .before .before .before .args .k + 1) 0)) (t-pieces (c .before .before .before .before .before .before .before .before .before .before .before .before .before .before .args .terms .now) (c .before .before .before .before .before .before .before .before .before .before .before .before .before .before .args .k) (c .before .before .before .before .before .wide .result) (c .before .before .before .before .before .wide .ensures)) (c .before .before .before .before .before .before .before .before .before .before .before .before .before .before .pre .1))
+put-last-requires c κs =
+    let a = c .before .before .before .before .before .before .before .before .before .before .before .before .before .before .args in
+    room-next (c .before .before .before .before .put-number .ensures) _ refl
+    (room-next (c .before .before .before .before .before .before .before .before .before .before .put-byte .ensures) _ (t-pieces (a .terms .now) (a .k) (c .before .before .before .before .before .wide .result) (c .before .before .before .before .before .wide .ensures)) (c .before .before .before .before .before .before .before .before .before .before .before .before .before .before .pre .1))
 
 same-length : tie.Need-same-length
 same-length c = search needs
 
 returns : tie.Need-returns
 returns c =
-    let y = (number (c .before .before .before .before .before .before .before .before .wide .result) ++ ending (getD (c .before .before .before .before .before .before .before .before .before .before .before .before .before .before .before .before .before .args .terms .now) (c .before .before .before .before .before .before .before .before .before .before .before .before .before .before .before .before .before .args .k + 1) 0)) in
-    let e = (t-pieces (c .before .before .before .before .before .before .before .before .before .before .before .before .before .before .before .before .before .args .terms .now) (c .before .before .before .before .before .before .before .before .before .before .before .before .before .before .before .before .before .args .k) (c .before .before .before .before .before .before .before .before .wide .result) (c .before .before .before .before .before .before .before .before .wide .ensures)) in
-    puts-next (c .before .before .before .before .before .before .before .before .before .before .before .before .before .put-byte .ensures) y e (c .before .before .before .before .before .before .before .before .before .before .before .before .before .before .before .before .before .pre .1) (puts-next (c .before .before .before .before .before .before .before .put-number .ensures) (ending (getD (c .before .before .before .before .before .before .before .before .before .before .before .before .before .before .before .before .before .args .terms .now) (c .before .before .before .before .before .before .before .before .before .before .before .before .before .before .before .before .before .args .k + 1) 0)) refl (room-next (c .before .before .before .before .before .before .before .before .before .before .before .before .before .put-byte .ensures) y e (c .before .before .before .before .before .before .before .before .before .before .before .before .before .before .before .before .before .pre .1)) (c .before .before .put-last .ensures))
+    let a = c .before .before .before .before .before .before .before .before .before .before .before .before .before .before .before .before .before .args in
+    let e = t-pieces (a .terms .now) (a .k) (c .before .before .before .before .before .before .before .before .wide .result) (c .before .before .before .before .before .before .before .before .wide .ensures) in
+    let r = room-next (c .before .before .before .before .before .before .before .before .before .before .before .before .before .put-byte .ensures) _ e (c .before .before .before .before .before .before .before .before .before .before .before .before .before .before .before .before .before .pre .1) in
+    puts-next (c .before .before .before .before .before .before .before .before .before .before .before .before .before .put-byte .ensures) _ e (c .before .before .before .before .before .before .before .before .before .before .before .before .before .before .before .before .before .pre .1) (puts-next (c .before .before .before .before .before .before .before .put-number .ensures) _ refl r (c .before .before .put-last .ensures))
 
 pub put-t-line-spec : {M : Type 1} → statement M
 put-t-line-spec =
