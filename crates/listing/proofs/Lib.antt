@@ -7,4 +7,5 @@ pub mod Heads
 pub mod Lengths
 pub mod Layouts
 pub mod Handing
+pub mod Steps
 pub mod Totals
