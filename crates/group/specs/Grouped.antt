@@ -7,8 +7,8 @@ use lib.Dec.{eqb}
 use lib.ListN.{length, getD, take, drop, set}
 use Rattle.semantics.specs.Monomial.{Monomial, beforeVars}
 use Rattle.semantics.specs.Expand.{listSize}
-use Rattle.semantics.specs.Group.{Root, labelled, Item, itemsOf, Group, constraintTerm, interactionTerm, headers, variables, terms, layout, rows}
-use Rattle.semantics.specs.Call.{zeros, padded, firstShort}
+use Rattle.semantics.specs.Group.{Item, itemsOf, constraintTerm, interactionTerm, rows}
+use Rattle.semantics.specs.Call.{zeros, padded}
 use Rattle.semantics.proofs.Sorting.{All}
 use Rattle.monomial.specs.Words.{listIn, Stored}
 use Rattle.group.specs.declared.Found.{Found}
@@ -191,13 +191,6 @@ pub record Rooted (pool : List ℕ) (i : ℕ) : Type 0 where
   pub inPool : InPool pool i
   pub few : length (listOf pool i) ≤ 256
 
--- Records named one after another, as roots numbered from 0; their variables, and their items, numbered from j.
-unfoldable pub rootsNamed : List ℕ → List Root
-rootsNamed names = labelled (λ j (c : ℕ). record { node = c; index = j; field = 0 } ∷ []) 0 names
-
+-- The variables of the monomials that the lists of these records have, zero coefficients left out.
 unfoldable pub varsNamed : (pool names : List ℕ) → List (List ℕ)
 varsNamed pool names = flatMap (λ (i : ℕ). nonZero (listOf pool i)) names
-
-unfoldable pub itemsNamed : (pool : List ℕ) (j : ℕ) (names : List ℕ) → List Item
-itemsNamed pool j [] = []
-itemsNamed pool j (c ∷ cs) = itemsAt j 0 (listOf pool c) ++ itemsNamed pool (suc j) cs

@@ -1,0 +1,29 @@
+use mathlib.Core.Path.{_≡_, refl, sym, ap, subst, _∙_}
+use mathlib.Core.List.{List, [], _∷_, _++_}
+use Prim.Native.Nat.{ℕ, _-_}
+use lib.ListN.{length, take, replicate}
+use Rattle.expansion.specs.Answers.{lengthsOf}
+use borrow.Author.Needs.{needs}
+use Rattle.expansion.proofs.lengths_of.Statement.{statement}
+use Rattle.expansion.proofs.lengths_of.Tie as tie
+use Rattle.expansion.proofs.lengths_of.Reads as reads
+use Rattle.expansion.proofs.lengths_of.Lts as lts
+
+-- src/calls.rt:76:34
+enum-known-lists : tie.Need-enum-known-lists
+enum-known-lists c = search needs
+
+-- src/calls.rt:77:40
+enum-told : tie.Need-enum-told
+enum-told c = search needs
+
+-- src/calls.rt:72:1
+returns : tie.Need-returns
+returns c = search needs
+
+-- src/calls.rt:72:1
+returns-2 : tie.Need-returns-2
+returns-2 c = ap lengthsOf (sym (c .enum-told .given .1))
+
+pub lengths-of-spec : {M : Type 1} → statement M
+lengths-of-spec = tie.close (tie.spec enum-known-lists enum-told returns returns-2)

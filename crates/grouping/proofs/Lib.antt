@@ -1,0 +1,4 @@
+pub mod Finished
+pub mod NamedLists
+pub mod RootItems
+pub mod Fitting

@@ -1,0 +1,220 @@
+-- Counting the lists of records that words name: what is left to count gives the whole.
+use mathlib.Core.Path.{_≡_, refl, sym, ap, subst, _∙_}
+use mathlib.Core.List.{List, [], _∷_, _++_, flatMap, append-assoc, append-nil}
+use Prim.Native.Nat.{ℕ, zero, suc, _+_, _*_, _-_, _≤_, _<_}
+use native.Mathlib.Omega.{arith}
+use lib.ListN.{length, getD, take, drop, length-append}
+use lib.Seq.{drop-cons}
+use Rattle.semantics.proofs.Sorting.{All}
+use Rattle.records.specs.Access.{recordsOf, part, messageLength, eachWords, RootsInside, AllRootsInside}
+use Rattle.group.specs.declared.Tallied.the-variants.{Headers, Full}
+use Rattle.group.specs.Grouped.{Tally, tallyAll, total, tallied, Rows, Counted, nonZero, listOf, InPool, Rooted, varsNamed}
+use Rattle.grouping.specs.Families.{ToTally}
+use Rattle.group.proofs.Tallies.{tallyAll-append, tallyAll-grows, total-all}
+use Rattle.group.proofs.PoolLists.{nonZero-length}
+
+pub all-front : {X : Type 0} (Q : X → Type 0) (xs ys : List X) → All Q (xs ++ ys) → All Q xs
+all-front Q [] ys h = tt
+all-front Q (x ∷ xs) ys h = (h .0, all-front Q xs ys (h .1))
+
+pub all-back : {X : Type 0} (Q : X → Type 0) (xs ys : List X) → All Q (xs ++ ys) → All Q ys
+all-back Q [] ys h = h
+all-back Q (x ∷ xs) ys h = all-back Q xs ys (h .1)
+
+-- The next of the words that a loop goes through, and the end.
+pub part-next : (ws : List ℕ) (at count j : ℕ) → j < count → at + count ≤ length ws
+    → part (at + j) (count - j) ws ≡ getD ws (at + j) 0 ∷ part (at + (j + 1)) (count - (j + 1)) ws
+part-next ws at count j h l =
+    let k : count - j ≡ suc (count - (j + 1)) = omega arith in
+    let e : suc (at + j) ≡ at + (j + 1) = omega arith in
+    ap (λ (n : ℕ). take n (drop (at + j) ws)) k
+    ∙ ap (take (suc (count - (j + 1)))) (drop-cons ws (at + j) 0 (omega arith))
+    ∙ ap (λ (n : ℕ). getD ws (at + j) 0 ∷ take (count - (j + 1)) (drop n ws)) e
+
+pub part-first : (ws : List ℕ) (at count : ℕ) → part (at + 0) (count - 0) ws ≡ part at count ws
+part-first ws at count =
+    let a : at + 0 ≡ at = omega arith in
+    let b : count - 0 ≡ count = omega arith in
+    λ i. part (a i) (b i) ws
+
+pub part-end : (ws : List ℕ) (at count j : ℕ) → count ≤ j → part (at + j) (count - j) ws ≡ []
+part-end ws at count j h = let z : count - j ≡ 0 = omega arith in ap (λ (n : ℕ). take n (drop (at + j) ws)) z
+
+-- The next interaction, and the end.
+pub each-next : (one : ℕ → List ℕ) (ws : List ℕ) (from count i from′ : ℕ) → i < count → from′ ≡ from + (4 + messageLength ws from)
+    → eachWords one ws from (count - i) ≡ one from ++ eachWords one ws from′ (count - (i + 1))
+unfolding eachWords
+each-next one ws from count i from′ h e =
+    let k : count - i ≡ suc (count - (i + 1)) = omega arith in
+    ap (eachWords one ws from) k ∙ ap (λ (a : ℕ). one from ++ eachWords one ws a (count - (i + 1))) (sym e)
+
+pub each-first : (one : ℕ → List ℕ) (ws : List ℕ) (at count : ℕ) → eachWords one ws at (count - 0) ≡ eachWords one ws at count
+each-first one ws at count = let b : count - 0 ≡ count = omega arith in ap (eachWords one ws at) b
+
+pub each-end : (one : ℕ → List ℕ) (ws : List ℕ) (from count i : ℕ) → count ≤ i → eachWords one ws from (count - i) ≡ []
+unfolding eachWords
+each-end one ws from count i h = let z : count - i ≡ 0 = omega arith in ap (eachWords one ws from) z
+
+module _ (P : List ℕ) where
+  pub vars-append : (xs ys : List ℕ) → varsNamed P (xs ++ ys) ≡ varsNamed P xs ++ varsNamed P ys
+  unfolding varsNamed flatMap
+  vars-append [] ys = refl
+  vars-append (x ∷ xs) ys =
+      ap (λ (l : List (List ℕ)). nonZero (listOf P x) ++ l) (vars-append xs ys)
+      ∙ sym (append-assoc (nonZero (listOf P x)) (varsNamed P xs) (varsNamed P ys))
+
+  pub vars-one : (i : ℕ) → varsNamed P (i ∷ []) ≡ nonZero (listOf P i)
+  unfolding varsNamed flatMap
+  vars-one i = append-nil (nonZero (listOf P i))
+
+  pub vars-length : (xs : List ℕ) → All (Rooted P) xs → length (varsNamed P xs) ≤ 256 * length xs
+  unfolding varsNamed flatMap
+  vars-length [] h = omega arith
+  vars-length (x ∷ xs) h =
+      let a = nonZero-length (listOf P x) in
+      let b = h .0 .few in
+      let ih = vars-length xs (h .1) in
+      let e = length-append (nonZero (listOf P x)) (varsNamed P xs) in
+      omega arith
+
+-- While lists are counted: those of `left` are still to count.
+pub record NamesLeft (H₀ : List ℕ) (n : ℕ) (P names H : List ℕ) (rows : ℕ) (left : List ℕ) : Type 0 where
+  pub ready : ToTally rows H P left
+  pub long : length H ≡ length H₀
+  pub same : tallyAll (varsNamed P left) (tallied rows H P) ≡ tallyAll (varsNamed P names) (tallied n H₀ P)
+
+pub names-start : (H : List ℕ) (n : ℕ) (P names left : List ℕ) → ToTally n H P names → left ≡ names → NamesLeft H n P names H n left
+names-start H n P names left t e = subst (NamesLeft H n P names H n) (sym e) (record { ready = t; long = refl; same = refl })
+
+module _ (H₀ : List ℕ) (n : ℕ) (P names H : List ℕ) (rows : ℕ) (left : List ℕ) (g : NamesLeft H₀ n P names H rows left) where
+  pub names-done : left ≡ [] → Counted H P (tallyAll (varsNamed P names) (tallied n H₀ P)) (Headers rows)
+  unfolding varsNamed flatMap tallyAll
+  names-done e = (g .ready .rows-are, sym (ap (λ (l : List ℕ). tallyAll (varsNamed P l) (tallied rows H P)) e) ∙ g .same)
+
+  module _ (xs ys : List ℕ) (e : left ≡ xs ++ ys) where
+    lists-are : All (Rooted P) (xs ++ ys)
+    lists-are = subst (All (Rooted P)) e (g .ready .lists)
+
+    pub names-next : ToTally rows H P xs
+    names-next =
+        let s = g .ready .small in
+        let l = ap length e ∙ length-append xs ys in
+        record { rows-are = g .ready .rows-are; lists = all-front (Rooted P) xs ys lists-are; small = omega arith }
+
+    both : tallyAll (varsNamed P ys) (tallyAll (varsNamed P xs) (tallied rows H P)) ≡ tallyAll (varsNamed P names) (tallied n H₀ P)
+    both =
+        sym (tallyAll-append (varsNamed P xs) (varsNamed P ys) (tallied rows H P))
+        ∙ ap (λ (l : List (List ℕ)). tallyAll l (tallied rows H P)) (sym (vars-append P xs ys) ∙ ap (varsNamed P) (sym e))
+        ∙ g .same
+
+    pub names-more : (H′ : List ℕ) (k : ℕ) → length H′ ≡ length H → Counted H′ P (tallyAll (varsNamed P xs) (tallied rows H P)) (Headers k)
+        → NamesLeft H₀ n P names H′ k ys
+    names-more H′ k z c =
+        let s = g .ready .small in
+        let l = ap length e ∙ length-append xs ys in
+        let t = ap total (c .1) ∙ total-all (varsNamed P xs) (tallied rows H P) in
+        let v = vars-length P xs (all-front (Rooted P) xs ys lists-are) in
+        record {
+          ready = record { rows-are = c .0; lists = all-back (Rooted P) xs ys lists-are; small = omega arith };
+          long = z ∙ g .long;
+          same = ap (tallyAll (varsNamed P ys)) (c .1) ∙ both;
+        }
+
+    -- However much more comes, the slice stays too short.
+    pub names-full : (H′ : List ℕ) → Counted H′ P (tallyAll (varsNamed P xs) (tallied rows H P)) Full
+        → Counted H′ P (tallyAll (varsNamed P names) (tallied n H₀ P)) Full
+    names-full H′ c =
+        let w = tallyAll-grows (varsNamed P ys) (tallyAll (varsNamed P xs) (tallied rows H P)) in
+        let q = ap length both in
+        omega arith
+
+-- The words from `at` on name the records; j of them are passed.
+pub record NamesAt (ws : List ℕ) (at count : ℕ) (H₀ : List ℕ) (n : ℕ) (P H : List ℕ) (rows j : ℕ) : Type 0 where
+  pub upto : j ≤ count
+  pub left : NamesLeft H₀ n P (part at count ws) H rows (part (at + j) (count - j) ws)
+
+module _ (ws : List ℕ) (at count : ℕ) (H₀ : List ℕ) (n : ℕ) (P : List ℕ) where
+  pub at-start : ToTally n H₀ P (part at count ws) → NamesAt ws at count H₀ n P H₀ n 0
+  at-start t = record { upto = omega arith; left = names-start H₀ n P (part at count ws) _ t (part-first ws at count) }
+
+  module _ (H : List ℕ) (rows j : ℕ) (g : NamesAt ws at count H₀ n P H rows j) where
+    pub at-done : count ≤ j → Counted H P (tallyAll (varsNamed P (part at count ws)) (tallied n H₀ P)) (Headers rows)
+    at-done h = names-done H₀ n P (part at count ws) H rows _ (g .left) (part-end ws at count j h)
+
+    module _ (h : j < count) (l : at + count ≤ length ws) (r : ℕ) (e : r ≡ getD ws (at + j) 0) where
+      abbrev rest : List ℕ
+      rest = part (at + (j + 1)) (count - (j + 1)) ws
+
+      next-is : part (at + j) (count - j) ws ≡ (r ∷ []) ++ rest
+      next-is = part-next ws at count j h l ∙ ap (λ (x : ℕ). x ∷ rest) (sym e)
+
+      pub at-ready : Rows rows H P × InPool P r × (total (tallied rows H P) + length (listOf P r) ≤ 4294967295)
+      at-ready =
+          let t = names-next H₀ n P (part at count ws) H rows _ (g .left) (r ∷ []) rest next-is in
+          let s = t .small in
+          let f = t .lists .0 .few in
+          (t .rows-are, t .lists .0 .inPool, omega arith)
+
+      pub at-more : (H′ : List ℕ) (k : ℕ) → length H′ ≡ length H → Counted H′ P (tallyAll (nonZero (listOf P r)) (tallied rows H P)) (Headers k)
+          → NamesAt ws at count H₀ n P H′ k (j + 1)
+      at-more H′ k z c = record {
+        upto = omega arith;
+        left = names-more H₀ n P (part at count ws) H rows _ (g .left) (r ∷ []) rest next-is H′ k z
+            (subst (λ (v : List (List ℕ)). Counted H′ P (tallyAll v (tallied rows H P)) (Headers k)) (sym (vars-one P r)) c);
+      }
+
+      pub at-full : (H′ : List ℕ) → Counted H′ P (tallyAll (nonZero (listOf P r)) (tallied rows H P)) Full
+          → Counted H′ P (tallyAll (varsNamed P (part at count ws)) (tallied n H₀ P)) Full
+      at-full H′ c =
+          names-full H₀ n P (part at count ws) H rows _ (g .left) (r ∷ []) rest next-is H′
+          (subst (λ (v : List (List ℕ)). Counted H′ P (tallyAll v (tallied rows H P)) Full) (sym (vars-one P r)) c)
+
+-- The same for interactions: `one` is what is taken of each, and i of them are passed.
+pub record EachAt (one : ℕ → List ℕ) (ws : List ℕ) (at count : ℕ) (H₀ : List ℕ) (n : ℕ) (P H : List ℕ) (rows from i : ℕ) : Type 0 where
+  pub upto : i ≤ count
+  pub inside : AllRootsInside (length (recordsOf ws)) ws from (count - i)
+  pub left : NamesLeft H₀ n P (eachWords one ws at count) H rows (eachWords one ws from (count - i))
+
+module _ (one : ℕ → List ℕ) (ws : List ℕ) (at count : ℕ) (H₀ : List ℕ) (n : ℕ) (P : List ℕ) where
+  pub each-start : AllRootsInside (length (recordsOf ws)) ws at count → ToTally n H₀ P (eachWords one ws at count) → EachAt one ws at count H₀ n P H₀ n at 0
+  each-start h t =
+      let b : count - 0 ≡ count = omega arith in
+      record {
+        upto = omega arith;
+        inside = subst (AllRootsInside (length (recordsOf ws)) ws at) (sym b) h;
+        left = names-start H₀ n P (eachWords one ws at count) _ t (each-first one ws at count);
+      }
+
+  module _ (H : List ℕ) (rows from i : ℕ) (g : EachAt one ws at count H₀ n P H rows from i) where
+    pub each-done : count ≤ i → Counted H P (tallyAll (varsNamed P (eachWords one ws at count)) (tallied n H₀ P)) (Headers rows)
+    each-done h = names-done H₀ n P (eachWords one ws at count) H rows _ (g .left) (each-end one ws from count i h)
+
+    module _ (h : i < count) where
+      inside-now : AllRootsInside (length (recordsOf ws)) ws from (suc (count - (i + 1)))
+      inside-now = let k : count - i ≡ suc (count - (i + 1)) = omega arith in subst (AllRootsInside (length (recordsOf ws)) ws from) k (g .inside)
+
+      pub each-inside : RootsInside (length (recordsOf ws)) ws from
+      each-inside = inside-now .0
+
+      abbrev rest-from : ℕ → List ℕ
+      rest-from a = eachWords one ws a (count - (i + 1))
+
+      pub each-ready : ToTally rows H P (one from)
+      each-ready =
+          names-next H₀ n P (eachWords one ws at count) H rows _ (g .left) (one from) (rest-from (from + (4 + messageLength ws from)))
+          (each-next one ws from count i _ h refl)
+
+      pub each-more : (H′ : List ℕ) (k from′ : ℕ) → length H′ ≡ length H → from′ ≡ from + (4 + messageLength ws from)
+          → Counted H′ P (tallyAll (varsNamed P (one from)) (tallied rows H P)) (Headers k) → EachAt one ws at count H₀ n P H′ k from′ (i + 1)
+      each-more H′ k from′ z e c = record {
+        upto = omega arith;
+        inside = subst (λ (a : ℕ). AllRootsInside (length (recordsOf ws)) ws a (count - (i + 1))) (sym e) (inside-now .1);
+        left = names-more H₀ n P (eachWords one ws at count) H rows _ (g .left) (one from) (rest-from from′)
+            (each-next one ws from count i from′ h e) H′ k z c;
+      }
+
+      pub each-full : (H′ : List ℕ) → Counted H′ P (tallyAll (varsNamed P (one from)) (tallied rows H P)) Full
+          → Counted H′ P (tallyAll (varsNamed P (eachWords one ws at count)) (tallied n H₀ P)) Full
+      each-full H′ c =
+          names-full H₀ n P (eachWords one ws at count) H rows _ (g .left) (one from) (rest-from (from + (4 + messageLength ws from)))
+          (each-next one ws from count i _ h refl) H′ c

@@ -1,0 +1,384 @@
+-- Placing the terms of roots: what is left to place gives the whole; the roots that the words name.
+use mathlib.Core.Path.{_≡_, refl, sym, ap, subst, _∙_}
+use mathlib.Core.Bool.{Bool, true, false, cond}
+use mathlib.Core.List.{List, [], _∷_, _++_, map, flatMap, append-assoc, append-nil}
+use Prim.Native.Nat.{ℕ, zero, suc, _+_, _*_, _-_, _≤_, _<_}
+use native.Mathlib.Omega.{arith}
+use native.Mathlib.Numerals.{add-one}
+use lib.Dec.{eqb}
+use lib.ListN.{length, getD, take, drop, length-append}
+use Rattle.semantics.specs.Arithmetic.{prime}
+use Rattle.semantics.specs.Answer.{good}
+use Rattle.semantics.specs.Sheet.{Interaction, Sheet, Each, GoodInteraction, interactionWords}
+use Rattle.semantics.specs.Check.{readSheet, check}
+use Rattle.semantics.specs.Monomial.{Monomial}
+use Rattle.semantics.specs.Group.{Root, labelled, constraintRoots, countRoots, fieldRoots, Item, itemsOf, items}
+use Rattle.semantics.proofs.Sorting.{All}
+use Rattle.records.specs.Access.{recordsOf, constraintsAt, interactionsAt, part, messageLength, eachWords, countAt, fieldsAt, countWords, fieldWords, RootsInside, AllRootsInside}
+use Rattle.records.proofs.Reading.{counts, fields, count-word, message-is, next-stands, first-stands, head-counts, counts-small, constraints-are, constraints-inside, interactions-stand, interactions-inside, counts-are, fields-are}
+use Rattle.records.proofs.Steps.{inside}
+use Rattle.semantics.proofs.GraphSheets.{interaction-facts}
+use Rattle.group.specs.Grouped.{Tally, Room, nonZero, listOf, InPool, itemsAt, Placing, ToPlace, Places, varsNamed}
+use Rattle.grouping.specs.Families.{constraintRoot, fieldRoot, eachRoots, countRootAt, fieldRootsAt, ToPlaceRoots}
+use Rattle.group.proofs.Tallies.{varsOf}
+use Rattle.group.proofs.Placements.{room-front}
+use Rattle.group.proofs.PoolLists.{items-vars}
+use Rattle.grouping.proofs.Finished.{items-label}
+use Rattle.grouping.proofs.NamedLists.{all-front, all-back, part-next, part-first, part-end}
+
+module _ (list : ℕ → List Monomial) where
+  pub items-append : (rs ss : List Root) → items list (rs ++ ss) ≡ items list rs ++ items list ss
+  unfolding items flatMap
+  items-append [] ss = refl
+  items-append (r ∷ rs) ss =
+      ap (λ (l : List Item). itemsOf r (list (r .node)) ++ l) (items-append rs ss)
+      ∙ sym (append-assoc (itemsOf r (list (r .node))) (items list rs) (items list ss))
+
+  pub items-one : (r : Root) → items list (r ∷ []) ≡ itemsAt (r .index) (r .field) (list (r .node))
+  unfolding items flatMap
+  items-one r = append-nil (itemsOf r (list (r .node))) ∙ items-label r (list (r .node))
+
+-- The variables of the items of roots are those of the lists of the roots' records.
+unfoldable pub nodesOf : List Root → List ℕ
+nodesOf rs = map (λ (r : Root). r .node) rs
+
+vars-append : (ts us : List Item) → varsOf (ts ++ us) ≡ varsOf ts ++ varsOf us
+vars-append [] us = refl
+vars-append (t ∷ ts) us = ap (λ (l : List (List ℕ)). t .vars ∷ l) (vars-append ts us)
+
+pub items-named : (P : List ℕ) (rs : List Root) → varsOf (items (listOf P) rs) ≡ varsNamed P (nodesOf rs)
+unfolding items flatMap varsNamed nodesOf
+items-named P [] = refl
+items-named P (r ∷ rs) =
+    vars-append (itemsOf r (listOf P (r .node))) (items (listOf P) rs)
+    ∙ (λ i. items-vars r (listOf P (r .node)) i ++ items-named P rs i)
+
+-- One list of items after another.
+pub places-none : (b : Bool) (n : ℕ) (P H T : List ℕ) → Places b n P H T H T []
+places-none b n P H T gs done p r = subst (Placing b gs n H P T) (sym (append-nil done)) p
+
+pub places-both : (b : Bool) (n : ℕ) (P H T H′ T′ H″ T″ : List ℕ) (ts us : List Item) → Places b n P H T H′ T′ ts → Places b n P H′ T′ H″ T″ us
+    → Places b n P H T H″ T″ (ts ++ us)
+places-both b n P H T H′ T′ H″ T″ ts us f g gs done p r =
+    let e = append-assoc done ts us in
+    let q : Room gs ((done ++ ts) ++ us) = subst (Room gs) (sym e) r in
+    subst (Placing b gs n H″ P T″) e (g gs (done ++ ts) (f gs done p (room-front gs (done ++ ts) us q)) q)
+
+-- While terms are placed: those of the roots `left` are still to place.
+pub record RootsLeft (b : Bool) (n : ℕ) (P H₀ T₀ : List ℕ) (roots : List Root) (H T : List ℕ) (left : List Root) : Type 0 where
+  pub ready : ToPlaceRoots b n H P T left
+  pub passed : List Item
+  pub places : Places b n P H₀ T₀ H T passed
+  pub whole : passed ++ items (listOf P) left ≡ items (listOf P) roots
+  pub headers-long : length H ≡ length H₀
+  pub terms-long : length T ≡ length T₀
+
+pub roots-start : (b : Bool) (n : ℕ) (P H T : List ℕ) (roots left : List Root) → ToPlaceRoots b n H P T roots → left ≡ roots
+    → RootsLeft b n P H T roots H T left
+roots-start b n P H T roots left t e =
+    subst (RootsLeft b n P H T roots H T) (sym e)
+    (record { ready = t; passed = []; places = places-none b n P H T; whole = refl; headers-long = refl; terms-long = refl })
+
+module _ (b : Bool) (n : ℕ) (P H₀ T₀ : List ℕ) (roots : List Root) (H T : List ℕ) (left : List Root) (g : RootsLeft b n P H₀ T₀ roots H T left) where
+  pub roots-done : left ≡ [] → Places b n P H₀ T₀ H T (items (listOf P) roots)
+  unfolding items flatMap
+  roots-done e =
+      subst (Places b n P H₀ T₀ H T)
+      (sym (append-nil (g .passed)) ∙ ap (λ (l : List Root). g .passed ++ items (listOf P) l) (sym e) ∙ g .whole) (g .places)
+
+  module _ (xs ys : List Root) (e : left ≡ xs ++ ys) where
+    items-are : items (listOf P) left ≡ items (listOf P) xs ++ items (listOf P) ys
+    items-are = ap (items (listOf P)) e ∙ items-append (listOf P) xs ys
+
+    lists-are : All (λ (r : Root). InPool P (r .node)) (xs ++ ys)
+    lists-are = subst (All (λ (r : Root). InPool P (r .node))) e (g .ready .lists)
+
+    room-both : Room (g .ready .to-place .gs) ((g .ready .to-place .done ++ items (listOf P) xs) ++ items (listOf P) ys)
+    room-both =
+        subst (Room (g .ready .to-place .gs))
+        (ap (λ (l : List Item). g .ready .to-place .done ++ l) items-are
+        ∙ sym (append-assoc (g .ready .to-place .done) (items (listOf P) xs) (items (listOf P) ys)))
+        (g .ready .to-place .room)
+
+    room-first : Room (g .ready .to-place .gs) (g .ready .to-place .done ++ items (listOf P) xs)
+    room-first = room-front (g .ready .to-place .gs) (g .ready .to-place .done ++ items (listOf P) xs) (items (listOf P) ys) room-both
+
+    pub roots-next : ToPlaceRoots b n H P T xs
+    roots-next = record {
+      to-place = record { gs = g .ready .to-place .gs; done = g .ready .to-place .done; placing = g .ready .to-place .placing; room = room-first };
+      lists = all-front (λ (r : Root). InPool P (r .node)) xs ys lists-are;
+    }
+
+    pub roots-more : (H′ T′ : List ℕ) → length H′ ≡ length H → length T′ ≡ length T → Places b n P H T H′ T′ (items (listOf P) xs)
+        → RootsLeft b n P H₀ T₀ roots H′ T′ ys
+    roots-more H′ T′ lh lt f = record {
+      ready = record {
+        to-place = record {
+          gs = g .ready .to-place .gs;
+          done = g .ready .to-place .done ++ items (listOf P) xs;
+          placing = f (g .ready .to-place .gs) (g .ready .to-place .done) (g .ready .to-place .placing) room-first;
+          room = room-both;
+        };
+        lists = all-back (λ (r : Root). InPool P (r .node)) xs ys lists-are;
+      };
+      passed = g .passed ++ items (listOf P) xs;
+      places = places-both b n P H₀ T₀ H T H′ T′ (g .passed) (items (listOf P) xs) (g .places) f;
+      whole =
+          append-assoc (g .passed) (items (listOf P) xs) (items (listOf P) ys)
+          ∙ ap (λ (l : List Item). g .passed ++ l) (sym items-are) ∙ g .whole;
+      headers-long = lh ∙ g .headers-long;
+      terms-long = lt ∙ g .terms-long;
+    }
+
+-- One root.
+module _ (b : Bool) (n : ℕ) (P H T : List ℕ) (r s : Root) (q : r ≡ s) where
+  one-is : items (listOf P) (r ∷ []) ≡ itemsAt (s .index) (s .field) (listOf P (s .node))
+  one-is = items-one (listOf P) r ∙ ap (λ (x : Root). itemsAt (x .index) (x .field) (listOf P (x .node))) q
+
+  pub one-ready : ToPlaceRoots b n H P T (r ∷ []) → ToPlace b n H P T (itemsAt (s .index) (s .field) (listOf P (s .node))) × InPool P (s .node)
+  one-ready t = (subst (ToPlace b n H P T) one-is (t .to-place), subst (λ (x : Root). InPool P (x .node)) q (t .lists .0))
+
+  pub one-placed : (H′ T′ : List ℕ) → Places b n P H T H′ T′ (itemsAt (s .index) (s .field) (listOf P (s .node)))
+      → Places b n P H T H′ T′ (items (listOf P) (r ∷ []))
+  one-placed H′ T′ p = subst (Places b n P H T H′ T′) (sym one-is) p
+
+-- The words from `at` on name the records of roots, one each; j of them are passed.
+pub record RootsAt (f : ℕ → ℕ → Root) (b : Bool) (ws : List ℕ) (at count n : ℕ) (P H₀ T₀ H T : List ℕ) (j : ℕ) : Type 0 where
+  pub upto : j ≤ count
+  pub left : RootsLeft b n P H₀ T₀ (labelled (λ i c. f i c ∷ []) 0 (part at count ws)) H T (labelled (λ i c. f i c ∷ []) j (part (at + j) (count - j) ws))
+
+module _ (f : ℕ → ℕ → Root) (b : Bool) (ws : List ℕ) (at count n : ℕ) (P H₀ T₀ : List ℕ) where
+  abbrev rootsFrom : ℕ → List ℕ → List Root
+  rootsFrom j xs = labelled (λ i c. f i c ∷ []) j xs
+
+  pub roots-at-start : ToPlaceRoots b n H₀ P T₀ (rootsFrom 0 (part at count ws)) → RootsAt f b ws at count n P H₀ T₀ H₀ T₀ 0
+  roots-at-start t = record {
+    upto = omega arith;
+    left = roots-start b n P H₀ T₀ (rootsFrom 0 (part at count ws)) _ t (ap (rootsFrom 0) (part-first ws at count));
+  }
+
+  module _ (H T : List ℕ) (j : ℕ) (g : RootsAt f b ws at count n P H₀ T₀ H T j) where
+    pub roots-at-done : count ≤ j → Places b n P H₀ T₀ H T (items (listOf P) (rootsFrom 0 (part at count ws)))
+    unfolding labelled
+    roots-at-done h = roots-done b n P H₀ T₀ _ H T _ (g .left) (ap (rootsFrom j) (part-end ws at count j h))
+
+    module _ (h : j < count) (l : at + count ≤ length ws) (r : ℕ) (e : r ≡ getD ws (at + j) 0) where
+      abbrev rest : List Root
+      rest = rootsFrom (j + 1) (part (at + (j + 1)) (count - (j + 1)) ws)
+
+      next-is : rootsFrom j (part (at + j) (count - j) ws) ≡ (f j r ∷ []) ++ rest
+      unfolding labelled
+      next-is =
+          ap (rootsFrom j) (part-next ws at count j h l ∙ ap (λ (x : ℕ). x ∷ part (at + (j + 1)) (count - (j + 1)) ws) (sym e))
+          ∙ ap (λ (k : ℕ). f j r ∷ rootsFrom k (part (at + (j + 1)) (count - (j + 1)) ws)) (sym (add-one j))
+
+      pub roots-at-ready : (s : Root) → f j r ≡ s → ToPlace b n H P T (itemsAt (s .index) (s .field) (listOf P (s .node))) × InPool P (s .node)
+      roots-at-ready s q = one-ready b n P H T (f j r) s q (roots-next b n P H₀ T₀ _ H T _ (g .left) (f j r ∷ []) rest next-is)
+
+      pub roots-at-more : (H′ T′ : List ℕ) (s : Root) → f j r ≡ s → length H′ ≡ length H → length T′ ≡ length T
+          → Places b n P H T H′ T′ (itemsAt (s .index) (s .field) (listOf P (s .node))) → RootsAt f b ws at count n P H₀ T₀ H′ T′ (j + 1)
+      roots-at-more H′ T′ s q lh lt p = record {
+        upto = omega arith;
+        left = roots-more b n P H₀ T₀ _ H T _ (g .left) (f j r ∷ []) rest next-is H′ T′ lh lt (one-placed b n P H T (f j r) s q H′ T′ p);
+      }
+
+-- The same for interactions: `one` gives the roots of each, and i of them are passed.
+pub record EachRoots (one : ℕ → ℕ → List Root) (b : Bool) (ws : List ℕ) (at count n : ℕ) (P H₀ T₀ H T : List ℕ) (from i : ℕ) : Type 0 where
+  pub upto : i ≤ count
+  pub inside : AllRootsInside (length (recordsOf ws)) ws from (count - i)
+  pub left : RootsLeft b n P H₀ T₀ (eachRoots one ws 0 at count) H T (eachRoots one ws i from (count - i))
+
+module _ (one : ℕ → ℕ → List Root) (b : Bool) (ws : List ℕ) (at count n : ℕ) (P H₀ T₀ : List ℕ) where
+  pub each-roots-start : AllRootsInside (length (recordsOf ws)) ws at count → ToPlaceRoots b n H₀ P T₀ (eachRoots one ws 0 at count)
+      → EachRoots one b ws at count n P H₀ T₀ H₀ T₀ at 0
+  each-roots-start h t =
+      let z : count - 0 ≡ count = omega arith in
+      record {
+        upto = omega arith;
+        inside = subst (AllRootsInside (length (recordsOf ws)) ws at) (sym z) h;
+        left = roots-start b n P H₀ T₀ (eachRoots one ws 0 at count) _ t (ap (eachRoots one ws 0 at) z);
+      }
+
+  module _ (H T : List ℕ) (from i : ℕ) (g : EachRoots one b ws at count n P H₀ T₀ H T from i) where
+    pub each-roots-done : count ≤ i → Places b n P H₀ T₀ H T (items (listOf P) (eachRoots one ws 0 at count))
+    unfolding eachRoots
+    each-roots-done h =
+        let z : count - i ≡ 0 = omega arith in
+        roots-done b n P H₀ T₀ _ H T _ (g .left) (ap (eachRoots one ws i from) z)
+
+    module _ (h : i < count) where
+      inside-now : AllRootsInside (length (recordsOf ws)) ws from (suc (count - (i + 1)))
+      inside-now = let k : count - i ≡ suc (count - (i + 1)) = omega arith in subst (AllRootsInside (length (recordsOf ws)) ws from) k (g .inside)
+
+      pub each-roots-inside : RootsInside (length (recordsOf ws)) ws from
+      each-roots-inside = inside-now .0
+
+      abbrev rest-from : ℕ → List Root
+      rest-from a = eachRoots one ws (i + 1) a (count - (i + 1))
+
+      next-each : (from′ : ℕ) → from′ ≡ from + (4 + messageLength ws from) → eachRoots one ws i from (count - i) ≡ one i from ++ rest-from from′
+      unfolding eachRoots
+      next-each from′ e =
+          let k : count - i ≡ suc (count - (i + 1)) = omega arith in
+          ap (eachRoots one ws i from) k
+          ∙ (λ z. one i from ++ eachRoots one ws (sym (add-one i) z) (sym e z) (count - (i + 1)))
+
+      pub each-roots-ready : ToPlaceRoots b n H P T (one i from)
+      each-roots-ready =
+          roots-next b n P H₀ T₀ _ H T _ (g .left) (one i from) (rest-from (from + (4 + messageLength ws from))) (next-each _ refl)
+
+      pub each-roots-more : (H′ T′ : List ℕ) (from′ : ℕ) → length H′ ≡ length H → length T′ ≡ length T → from′ ≡ from + (4 + messageLength ws from)
+          → Places b n P H T H′ T′ (items (listOf P) (one i from)) → EachRoots one b ws at count n P H₀ T₀ H′ T′ from′ (i + 1)
+      each-roots-more H′ T′ from′ lh lt e p = record {
+        upto = omega arith;
+        inside = subst (λ (a : ℕ). AllRootsInside (length (recordsOf ws)) ws a (count - (i + 1))) (sym e) (inside-now .1);
+        left = roots-more b n P H₀ T₀ _ H T _ (g .left) (one i from) (rest-from from′) (next-each from′ e) H′ T′ lh lt p;
+      }
+
+-- A checked sheet's roots are those that its words name.
+module _ (rest ws : List ℕ) (one : ℕ → ℕ → List Root) (f : ℕ → Interaction → List Root)
+    (same : (i at : ℕ) (x : Interaction) (tail : List ℕ) → drop at ws ≡ interactionWords x ++ tail → one i at ≡ f i x) where
+  each-labelled : (i at : ℕ) (xs : List Interaction) → drop at ws ≡ flatMap interactionWords xs ++ rest → eachRoots one ws i at (length xs) ≡ labelled f i xs
+  unfolding eachRoots labelled
+  each-labelled i at [] e = refl
+  each-labelled i at (x ∷ xs) e =
+      let g = first-stands rest ws at x xs e in
+      let ih = each-labelled (suc i) (at + (4 + messageLength ws at)) xs (next-stands ws at x (flatMap interactionWords xs ++ rest) g) in
+      λ k. same i at x (flatMap interactionWords xs ++ rest) g k ++ ih k
+
+module _ (ws : List ℕ) (checked : check prime ws ≡ good (readSheet ws)) where
+  pub constraint-roots : constraintRoots (readSheet ws) ≡ labelled constraintRoot 0 (part (constraintsAt ws) (length (readSheet ws .constraints)) ws)
+  unfolding constraintRoots
+  constraint-roots = ap (labelled constraintRoot 0) (sym (constraints-are ws checked))
+
+  pub count-roots : countRoots (readSheet ws) ≡ eachRoots (countRootAt ws) ws 0 (interactionsAt ws) (length (readSheet ws .interactions))
+  unfolding countRoots
+  count-roots =
+      sym (each-labelled (interactions-stand ws checked .0) ws (countRootAt ws) (λ i x. record { node = x .count; index = i; field = 0 } ∷ [])
+      (λ i at x tail e. ap (λ (c : ℕ). record { node = c; index = i; field = 0 } ∷ []) (count-word ws at x tail e))
+      0 (interactionsAt ws) (readSheet ws .interactions) (interactions-stand ws checked .1))
+
+  pub field-roots : fieldRoots (readSheet ws) ≡ eachRoots (fieldRootsAt ws) ws 0 (interactionsAt ws) (length (readSheet ws .interactions))
+  unfolding fieldRoots
+  field-roots =
+      sym (each-labelled (interactions-stand ws checked .0) ws (fieldRootsAt ws) (λ i x. labelled (fieldRoot i) 0 (x .message))
+      (λ i at x tail e. ap (labelled (fieldRoot i) 0) (message-is ws at x tail e))
+      0 (interactionsAt ws) (readSheet ws .interactions) (interactions-stand ws checked .1))
+
+-- The records of labelled roots.
+nodes-append : (rs ss : List Root) → nodesOf (rs ++ ss) ≡ nodesOf rs ++ nodesOf ss
+unfolding nodesOf
+nodes-append [] ss = refl
+nodes-append (r ∷ rs) ss = ap (λ (l : List ℕ). r .node ∷ l) (nodes-append rs ss)
+
+nodes-labelled : {X : Type 0} (f : ℕ → X → List Root) (g : X → List ℕ) → ((n : ℕ) (x : X) → nodesOf (f n x) ≡ g x) → (n : ℕ) (xs : List X)
+    → nodesOf (labelled f n xs) ≡ flatMap g xs
+unfolding labelled flatMap nodesOf
+nodes-labelled f g same n [] = refl
+nodes-labelled f g same n (x ∷ xs) =
+    nodes-append (f n x) (labelled f (suc n) xs) ∙ (λ i. same n x i ++ nodes-labelled f g same (suc n) xs i)
+
+nodes-each : (f : ℕ → ℕ → List Root) → ((n c : ℕ) → nodesOf (f n c) ≡ c ∷ []) → (n : ℕ) (xs : List ℕ) → nodesOf (labelled f n xs) ≡ xs
+unfolding labelled nodesOf
+nodes-each f same n [] = refl
+nodes-each f same n (x ∷ xs) = nodes-append (f n x) (labelled f (suc n) xs) ∙ (λ i. same n x i ++ nodes-each f same (suc n) xs i)
+
+module _ (ws : List ℕ) (checked : check prime ws ≡ good (readSheet ws)) where
+  pub constraint-nodes : nodesOf (constraintRoots (readSheet ws)) ≡ part (constraintsAt ws) (length (readSheet ws .constraints)) ws
+  unfolding constraintRoots nodesOf
+  constraint-nodes = nodes-each constraintRoot (λ n c. refl) 0 (readSheet ws .constraints) ∙ sym (constraints-are ws checked)
+
+  pub count-nodes : nodesOf (countRoots (readSheet ws)) ≡ countWords ws (interactionsAt ws) (length (readSheet ws .interactions))
+  unfolding countRoots nodesOf
+  count-nodes =
+      nodes-labelled (λ i (x : Interaction). record { node = x .count; index = i; field = 0 } ∷ []) (λ (x : Interaction). x .count ∷ []) (λ n x. refl) 0
+      (readSheet ws .interactions)
+      ∙ sym (counts-are (interactions-stand ws checked .0) ws (interactionsAt ws) (readSheet ws .interactions) (interactions-stand ws checked .1))
+
+  pub field-nodes : nodesOf (fieldRoots (readSheet ws)) ≡ fieldWords ws (interactionsAt ws) (length (readSheet ws .interactions))
+  unfolding fieldRoots
+  field-nodes =
+      nodes-labelled (λ i (x : Interaction). labelled (fieldRoot i) 0 (x .message)) (λ (x : Interaction). x .message)
+      (λ n x. nodes-each (fieldRoot n) (λ m c. unfold nodesOf in refl) 0 (x .message)) 0 (readSheet ws .interactions)
+      ∙ sym (fields-are (interactions-stand ws checked .0) ws (interactionsAt ws) (readSheet ws .interactions) (interactions-stand ws checked .1))
+
+-- How many roots a family has.
+labelled-length : {X : Type 0} (f : ℕ → X → List Root) (k : ℕ) (P : ℕ → X → Type 0) → ((n m : ℕ) (x : X) → P m x → length (f n x) ≤ k)
+    → (n m : ℕ) (xs : List X) → Each P m xs → length (labelled f n xs) ≤ k * length xs
+unfolding labelled
+labelled-length f k P h n m [] e = omega arith
+labelled-length f k P h n m (x ∷ xs) e =
+    let l = length-append (f n x) (labelled f (suc n) xs) in
+    let a = h n m x (e .0) in
+    let ih = labelled-length f k P h (suc n) (suc m) xs (e .1) in
+    omega arith
+
+each-any : {X : Type 0} (m : ℕ) (xs : List X) → Each (λ (n : ℕ) (x : X). Unit {0}) m xs
+each-any m [] = tt
+each-any m (x ∷ xs) = (tt, each-any (suc m) xs)
+
+one-each : (f : ℕ → ℕ → Root) (n : ℕ) (xs : List ℕ) → length (labelled (λ i c. f i c ∷ []) n xs) ≤ length xs
+one-each f n xs = omega (arith, labelled-length (λ i c. f i c ∷ []) 1 (λ (m : ℕ) (x : ℕ). Unit {0}) (λ n m x u. omega arith) n 0 xs (each-any 0 xs))
+
+module _ (ws : List ℕ) (checked : check prime ws ≡ good (readSheet ws)) where
+  pub constraints-few : length (constraintRoots (readSheet ws)) ≤ 65536
+  unfolding constraintRoots
+  constraints-few =
+      omega (arith, one-each (λ i c. record { node = c; index = i; field = 0 }) 0 (readSheet ws .constraints), counts-small ws checked .1)
+
+  pub counts-few : length (countRoots (readSheet ws)) ≤ 65536
+  unfolding countRoots
+  counts-few =
+      let l = labelled-length (λ i (x : Interaction). record { node = x .count; index = i; field = 0 } ∷ []) 1 (λ (m : ℕ) (x : Interaction). Unit {0})
+      (λ n m x u. omega arith) 0 0 (readSheet ws .interactions) (each-any 0 (readSheet ws .interactions)) in
+      omega (arith, counts-small ws checked .2)
+
+  pub fields-few : length (fieldRoots (readSheet ws)) ≤ 65536
+  unfolding fieldRoots
+  fields-few =
+      let l = labelled-length (λ i (x : Interaction). labelled (fieldRoot i) 0 (x .message)) 63 (λ i. GoodInteraction (length (recordsOf ws)))
+      (λ n m x u. omega (arith, one-each (λ j c. record { node = c; index = n; field = j }) 0 (x .message), interaction-facts (length (recordsOf ws)) x u .short))
+      0 0 (readSheet ws .interactions) (inside ws checked .interactions) in
+      omega (arith, counts-small ws checked .2)
+
+  -- The words of the constraints, from where they start on and as many as the head says.
+  module _ (at count : ℕ) (a : at ≡ constraintsAt ws) (c : count ≡ getD ws 2 0) where
+    constraint-count : count ≡ length (readSheet ws .constraints)
+    constraint-count = c ∙ head-counts ws checked .1
+
+    pub constraint-span : (at + count ≤ length ws) × (count ≤ 4294967295)
+    constraint-span =
+        let e = constraint-count in
+        let i = constraints-inside ws checked .inside in
+        (omega arith, omega (arith, counts-small ws checked .1))
+
+    pub constraint-names : part at count ws ≡ nodesOf (constraintRoots (readSheet ws))
+    constraint-names = (λ i. part (a i) (constraint-count i) ws) ∙ sym (constraint-nodes ws checked)
+
+    pub constraint-labelled : labelled constraintRoot 0 (part at count ws) ≡ constraintRoots (readSheet ws)
+    constraint-labelled = (λ i. labelled constraintRoot 0 (part (a i) (constraint-count i) ws)) ∙ sym (constraint-roots ws checked)
+
+  -- The same for the interactions.
+  module _ (at count : ℕ) (a : at ≡ interactionsAt ws) (c : count ≡ getD ws 3 0) where
+    interaction-count : count ≡ length (readSheet ws .interactions)
+    interaction-count = c ∙ head-counts ws checked .2
+
+    pub interaction-span : AllRootsInside (length (recordsOf ws)) ws at count × (count ≤ 4294967295)
+    interaction-span =
+        let e = interaction-count in (
+          subst (λ (x : ℕ). AllRootsInside (length (recordsOf ws)) ws x count) (sym a)
+              (subst (AllRootsInside (length (recordsOf ws)) ws (interactionsAt ws)) (sym e) (interactions-inside ws checked)),
+          omega (arith, counts-small ws checked .2),
+        )
+
+    pub count-names : countWords ws at count ≡ nodesOf (countRoots (readSheet ws))
+    count-names = (λ i. countWords ws (a i) (interaction-count i)) ∙ sym (count-nodes ws checked)
+
+    pub count-labelled : eachRoots (countRootAt ws) ws 0 at count ≡ countRoots (readSheet ws)
+    count-labelled = (λ i. eachRoots (countRootAt ws) ws 0 (a i) (interaction-count i)) ∙ sym (count-roots ws checked)
+
+    pub field-names : fieldWords ws at count ≡ nodesOf (fieldRoots (readSheet ws))
+    field-names = (λ i. fieldWords ws (a i) (interaction-count i)) ∙ sym (field-nodes ws checked)
+
+    pub field-labelled : eachRoots (fieldRootsAt ws) ws 0 at count ≡ fieldRoots (readSheet ws)
+    field-labelled = (λ i. eachRoots (fieldRootsAt ws) ws 0 (a i) (interaction-count i)) ∙ sym (field-roots ws checked)

@@ -1,0 +1,85 @@
+-- The families of roots as a sheet's words name them: what counting their lists and placing their terms asks and does.
+use mathlib.Core.Path.{_≡_}
+use mathlib.Core.Logic.{_⊎_}
+use mathlib.Core.Bool.{Bool}
+use mathlib.Core.List.{List, [], _∷_, _++_}
+use Prim.Native.Nat.{ℕ, zero, suc, _+_, _*_, _≤_, _<_}
+use lib.ListN.{length, getD, take}
+use Rattle.semantics.specs.Arithmetic.{prime}
+use Rattle.semantics.specs.Answer.{good}
+use Rattle.semantics.specs.Check.{readSheet, check}
+use Rattle.semantics.specs.Monomial.{Monomial, listAt}
+use Rattle.semantics.specs.Expand.{listSize}
+use Rattle.semantics.specs.Group.{Root, labelled, Item, items, Group, groups, headers, variables, terms, layout}
+use Rattle.semantics.specs.Call.{firstShort}
+use Rattle.semantics.proofs.Sorting.{All}
+use Rattle.records.specs.Access.{recordsOf, messageLength, fieldsAt}
+use Rattle.monomial.specs.Words.{Stored}
+use Rattle.grouping.specs.declared.Lengths.{Lengths}
+use Rattle.grouping.specs.declared.Grouped.{Grouped}
+use Rattle.grouping.specs.declared.Grouped.the-variants.{Written, Short}
+use Rattle.group.specs.Grouped.{total, tallied, Rows, listOf, InPool, ToPlace, Rooted}
+
+-- What counting the lists of these records asks.
+pub record ToTally (n : ℕ) (headers pool names : List ℕ) : Type 0 where
+  pub rows-are : Rows n headers pool
+  pub lists : All (Rooted pool) names
+  pub small : total (tallied n headers pool) + 256 * length names ≤ 4294967295
+
+-- The root of constraint j, and of field j of interaction i.
+abbrev pub constraintRoot : (j c : ℕ) → List Root
+constraintRoot j c = record { node = c; index = j; field = 0 } ∷ []
+
+abbrev pub fieldRoot : (i j c : ℕ) → List Root
+fieldRoot i j c = record { node = c; index = i; field = j } ∷ []
+
+-- The roots of n interactions from `at` on, numbered from i; `one` gives those of each.
+unfoldable pub eachRoots : (one : (i at : ℕ) → List Root) (ws : List ℕ) (i at n : ℕ) → List Root
+eachRoots one ws i at zero = []
+eachRoots one ws i at (suc n) = one i at ++ eachRoots one ws (suc i) (at + (4 + messageLength ws at)) n
+
+-- The root of a count, and of the fields.
+abbrev pub countRootAt : (ws : List ℕ) (i at : ℕ) → List Root
+countRootAt ws i at = record { node = getD ws (at + 2) 0; index = i; field = 0 } ∷ []
+
+abbrev pub fieldRootsAt : (ws : List ℕ) (i at : ℕ) → List Root
+fieldRootsAt ws i at = labelled (fieldRoot i) 0 (fieldsAt ws at)
+
+-- What placing the terms of these roots asks.
+pub record ToPlaceRoots (interaction : Bool) (n : ℕ) (headers pool terms : List ℕ) (roots : List Root) : Type 0 where
+  pub to-place : ToPlace interaction n headers pool terms (items (listOf pool) roots)
+  pub lists : All (λ (r : Root). InPool pool (r .node)) roots
+
+-- A record's finished list stands in the pool, at places that a word can hold, and is inside the limit.
+pub record StoredList (list : ℕ → List Monomial) (pool : List ℕ) (i : ℕ) : Type 0 where
+  pub stored : Stored pool i (list i)
+  pub low : getD pool (2 * i) 0 + listSize (list i) ≤ 4294967295
+  pub few : length (list i) ≤ 256
+
+-- What grouping a family asks: a checked sheet, and the list of every root in the pool.
+pub record Grouping (ws pool : List ℕ) (roots : List Root) : Type 0 where
+  pub checked : check prime ws ≡ good (readSheet ws)
+  pub lists : All (λ (r : Root). StoredList (listAt prime (recordsOf ws)) pool (r .node)) roots
+
+-- The groups of a family of a sheet's roots.
+abbrev pub groupsOf : (ws : List ℕ) → List Root → List Group
+groupsOf ws roots = groups (listAt prime (recordsOf ws)) roots
+
+-- How many words n rows take with v variables and t terms, and that there is room for them; or which slice is too short.
+abbrev pub Measured : (n width v t variables terms : ℕ) → Grouped → Type 0
+Measured n width v t variables terms (Written c) =
+    (c .headers ≡ 4 * n) × (c .variables ≡ v) × (c .terms ≡ width * t) × (v ≤ variables) × (width * t ≤ terms)
+Measured n width v t variables terms (Short k) = ((k ≡ 2) × (variables < v)) ⊎ ((k ≡ 3) × (v ≤ variables) × (terms < width * t))
+
+-- Words in front of a slice.
+abbrev pub StartsWith : (words slice : List ℕ) → Type 0
+StartsWith words slice = (length words ≤ length slice) × (take (length words) slice ≡ words)
+
+-- The lists of a family stand in front of the three slices; or the first slice that is too short (01: "17: a finished list exceeds its
+-- output slice. Place: the first such slice").
+abbrev pub Laid : (term : Item → List ℕ) → List Group → (hs vs ts : List ℕ) → Grouped → Type 0
+Laid term gs hs vs ts (Written c) =
+    (firstShort 1 (layout term gs) (length hs ∷ length vs ∷ length ts ∷ []) ≡ 0)
+    × StartsWith (headers 0 0 gs) hs × StartsWith (variables gs) vs × StartsWith (terms term gs) ts
+    × (c .headers ≡ length (headers 0 0 gs)) × (c .variables ≡ length (variables gs)) × (c .terms ≡ length (terms term gs))
+Laid term gs hs vs ts (Short k) = (firstShort 1 (layout term gs) (length hs ∷ length vs ∷ length ts ∷ []) ≡ k) × (k ≡ 0 → ⊥)

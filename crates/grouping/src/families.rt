@@ -1,0 +1,189 @@
+// The families of roots: the lists of the records that words name are counted, and their terms are placed under the roots' labels.
+ghost use mathlib.Core.Path.{_≡_};
+ghost use mathlib.Core.Bool.{true, false};
+ghost use Prim.Native.Nat.{_+_, _≤_};
+ghost use lib.ListN.{length};
+ghost use Rattle.semantics.specs.Group.{labelled, items};
+ghost use Rattle.records.specs.Access.{recordsOf, part, countWords, fieldWords, AllRootsInside};
+ghost use Rattle.group.specs.Grouped.{tallyAll, tallied, Counted, listOf, varsNamed, Places};
+ghost use Rattle.grouping.specs.Families.{ToTally, constraintRoot, fieldRoot, eachRoots, countRootAt, fieldRootsAt, ToPlaceRoots};
+use group::Tallied;
+use group::place;
+
+fn wide(w: u32) -> usize
+    ensures { λ r. ⌜ (r ≡ w) × (r ≤ 4294967295) ⌝ }
+{
+    w as usize
+}
+
+// Counts the lists of the records that the words from `at` on name.
+pub fn tally_names(
+    sheet: &[u32],
+    at: usize,
+    count: usize,
+    headers: &mut [u32],
+    n: usize,
+    pool: &[u32],
+) -> Tallied
+    requires { ⌜ (at + count ≤ length (now sheet)) × ToTally n (now headers) (now pool) (part at count (now sheet)) ⌝ }
+    ensures { λ r. ⌜ Counted (now (headers .exit)) (now (pool .entry)) (tallyAll (varsNamed (now (pool .entry)) (part at count (now (sheet .entry)))) (tallied n (now (headers .entry)) (now (pool .entry)))) r ⌝ }
+{
+    let mut rows = n;
+    let mut j: usize = 0;
+    while j < count {
+        let r = records::wide(sheet[at + j]);
+        let answer = group::tally_root(headers, rows, pool, r);
+        let Tallied::Headers(next) = answer else {
+            return Tallied::Full;
+        };
+        rows = next;
+        j += 1;
+    }
+    Tallied::Headers(rows)
+}
+
+// Counts the lists of the counts of the interactions from `at` on.
+pub fn tally_counts(
+    sheet: &[u32],
+    at: usize,
+    count: usize,
+    headers: &mut [u32],
+    n: usize,
+    pool: &[u32],
+) -> Tallied
+    requires { ⌜ AllRootsInside (length (recordsOf (now sheet))) (now sheet) at count × ToTally n (now headers) (now pool) (countWords (now sheet) at count) ⌝ }
+    ensures { λ r. ⌜ Counted (now (headers .exit)) (now (pool .entry)) (tallyAll (varsNamed (now (pool .entry)) (countWords (now (sheet .entry)) at count)) (tallied n (now (headers .entry)) (now (pool .entry)))) r ⌝ }
+{
+    let mut rows = n;
+    let mut from = at;
+    let mut i: usize = 0;
+    while i < count {
+        let message = records::wide(sheet[from + 3]);
+        let answer = tally_names(sheet, from + 2, 1, headers, rows, pool);
+        let Tallied::Headers(next) = answer else {
+            return Tallied::Full;
+        };
+        rows = next;
+        from = from + 4 + message;
+        i += 1;
+    }
+    Tallied::Headers(rows)
+}
+
+// Counts the lists of the fields of the interactions from `at` on.
+pub fn tally_fields(
+    sheet: &[u32],
+    at: usize,
+    count: usize,
+    headers: &mut [u32],
+    n: usize,
+    pool: &[u32],
+) -> Tallied
+    requires { ⌜ AllRootsInside (length (recordsOf (now sheet))) (now sheet) at count × ToTally n (now headers) (now pool) (fieldWords (now sheet) at count) ⌝ }
+    ensures { λ r. ⌜ Counted (now (headers .exit)) (now (pool .entry)) (tallyAll (varsNamed (now (pool .entry)) (fieldWords (now (sheet .entry)) at count)) (tallied n (now (headers .entry)) (now (pool .entry)))) r ⌝ }
+{
+    let mut rows = n;
+    let mut from = at;
+    let mut i: usize = 0;
+    while i < count {
+        let message = records::wide(sheet[from + 3]);
+        let answer = tally_names(sheet, from + 4, message, headers, rows, pool);
+        let Tallied::Headers(next) = answer else {
+            return Tallied::Full;
+        };
+        rows = next;
+        from = from + 4 + message;
+        i += 1;
+    }
+    Tallied::Headers(rows)
+}
+
+// Places the terms of the constraints that the words from `at` on name.
+pub fn place_constraints(
+    sheet: &[u32],
+    at: usize,
+    count: usize,
+    headers: &mut [u32],
+    n: usize,
+    pool: &[u32],
+    terms: &mut [u32],
+)
+    requires { ⌜ (at + count ≤ length (now sheet)) × (count ≤ 4294967295) × ToPlaceRoots false n (now headers) (now pool) (now terms) (labelled constraintRoot 0 (part at count (now sheet))) ⌝ }
+    ensures { λ _. ⌜ Places false n (now (pool .entry)) (now (headers .entry)) (now (terms .entry)) (now (headers .exit)) (now (terms .exit)) (items (listOf (now (pool .entry))) (labelled constraintRoot 0 (part at count (now (sheet .entry))))) ⌝ }
+{
+    let mut j: usize = 0;
+    while j < count {
+        let r = records::wide(sheet[at + j]);
+        place::place_root(headers, n, pool, r, false, j as u32, 0, terms);
+        j += 1;
+    }
+}
+
+// Places the terms of the fields of one interaction.
+fn place_message(
+    sheet: &[u32],
+    at: usize,
+    count: usize,
+    index: u32,
+    headers: &mut [u32],
+    n: usize,
+    pool: &[u32],
+    terms: &mut [u32],
+)
+    requires { ⌜ (at + count ≤ length (now sheet)) × (count ≤ 4294967295) × ToPlaceRoots true n (now headers) (now pool) (now terms) (labelled (fieldRoot index) 0 (part at count (now sheet))) ⌝ }
+    ensures { λ _. ⌜ Places true n (now (pool .entry)) (now (headers .entry)) (now (terms .entry)) (now (headers .exit)) (now (terms .exit)) (items (listOf (now (pool .entry))) (labelled (fieldRoot index) 0 (part at count (now (sheet .entry))))) ⌝ }
+{
+    let mut j: usize = 0;
+    while j < count {
+        let r = records::wide(sheet[at + j]);
+        place::place_root(headers, n, pool, r, true, index, j as u32, terms);
+        j += 1;
+    }
+}
+
+// Places the terms of the counts of the interactions from `at` on.
+pub fn place_counts(
+    sheet: &[u32],
+    at: usize,
+    count: usize,
+    headers: &mut [u32],
+    n: usize,
+    pool: &[u32],
+    terms: &mut [u32],
+)
+    requires { ⌜ AllRootsInside (length (recordsOf (now sheet))) (now sheet) at count × (count ≤ 4294967295) × ToPlaceRoots true n (now headers) (now pool) (now terms) (eachRoots (countRootAt (now sheet)) (now sheet) 0 at count) ⌝ }
+    ensures { λ _. ⌜ Places true n (now (pool .entry)) (now (headers .entry)) (now (terms .entry)) (now (headers .exit)) (now (terms .exit)) (items (listOf (now (pool .entry))) (eachRoots (countRootAt (now (sheet .entry))) (now (sheet .entry)) 0 at count)) ⌝ }
+{
+    let mut from = at;
+    let mut i: usize = 0;
+    while i < count {
+        let message = records::wide(sheet[from + 3]);
+        let r = records::wide(sheet[from + 2]);
+        place::place_root(headers, n, pool, r, true, i as u32, 0, terms);
+        from = from + 4 + message;
+        i += 1;
+    }
+}
+
+// Places the terms of the fields of the interactions from `at` on.
+pub fn place_fields(
+    sheet: &[u32],
+    at: usize,
+    count: usize,
+    headers: &mut [u32],
+    n: usize,
+    pool: &[u32],
+    terms: &mut [u32],
+)
+    requires { ⌜ AllRootsInside (length (recordsOf (now sheet))) (now sheet) at count × (count ≤ 4294967295) × ToPlaceRoots true n (now headers) (now pool) (now terms) (eachRoots (fieldRootsAt (now sheet)) (now sheet) 0 at count) ⌝ }
+    ensures { λ _. ⌜ Places true n (now (pool .entry)) (now (headers .entry)) (now (terms .entry)) (now (headers .exit)) (now (terms .exit)) (items (listOf (now (pool .entry))) (eachRoots (fieldRootsAt (now (sheet .entry))) (now (sheet .entry)) 0 at count)) ⌝ }
+{
+    let mut from = at;
+    let mut i: usize = 0;
+    while i < count {
+        let message = wide(sheet[from + 3]);
+        place_message(sheet, from + 4, message, i as u32, headers, n, pool, terms);
+        from = from + 4 + message;
+        i += 1;
+    }
+}

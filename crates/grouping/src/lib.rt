@@ -1,0 +1,151 @@
+// The families of a checked sheet, grouped: headers, variables and terms, or the first slice that is too short.
+ghost use mathlib.Core.Path.{_≡_};
+ghost use mathlib.Core.Bool.{Bool, true, false};
+ghost use mathlib.Core.List.{List, []};
+ghost use Prim.Native.Nat.{_+_, _*_, _≤_};
+ghost use lib.ListN.{length};
+ghost use Rattle.semantics.specs.Check.{readSheet};
+ghost use Rattle.semantics.specs.Group.{constraintRoots, countRoots, fieldRoots, constraintTerm, interactionTerm};
+ghost use Rattle.group.specs.Grouped.{tallied, total, Rows, column, sum, widthOf, Placing, varsIn, headersOf};
+ghost use Rattle.grouping.specs.Families.{Measured, StartsWith, Grouping, Laid, groupsOf};
+
+mod families;
+
+use group::Tallied;
+use group::place;
+use group::totals;
+
+// How many words each list takes.
+pub struct Lengths {
+    pub headers: usize,
+    pub variables: usize,
+    pub terms: usize,
+}
+
+// The lists are written, or a slice is too short: the first such, counted from 1.
+pub enum Grouped {
+    Written(Lengths),
+    Short(usize),
+}
+
+// Whether variables and terms have room; the headers of n rows stand in their slice.
+fn room_for(headers: &[u32], n: usize, width: usize, variables: usize, terms: usize) -> Grouped
+    requires { ⌜ (4 * n ≤ length (now headers)) × (n ≤ 16777216) × (sum (column 3 n (now headers)) ≤ 16777216) × (width ≤ 3) ⌝ }
+    ensures { λ r. ⌜ Measured n width (sum (column 2 n (now (headers .entry)))) (sum (column 3 n (now (headers .entry)))) variables terms r ⌝ }
+{
+    let v = totals::total_variables(headers, n);
+    if variables < v {
+        return Grouped::Short(2);
+    }
+    let t = totals::total_terms(headers, n);
+    if terms < width * t {
+        return Grouped::Short(3);
+    }
+    Grouped::Written(Lengths {
+        headers: 4 * n,
+        variables: v,
+        terms: width * t,
+    })
+}
+
+// Makes the slices ready for terms.
+fn start_groups(headers: &mut [u32], n: usize, pool: &[u32], terms: &mut [u32])
+    requires { ⌜ Rows n (now headers) (now pool) × (total (tallied n (now headers) (now pool)) ≤ 16777216) ⌝ }
+    ensures { λ _. ⌜ ((b : Bool) → widthOf b * total (tallied n (now (headers .entry)) (now (pool .entry))) ≤ length (now (terms .entry)) → Placing b (tallied n (now (headers .entry)) (now (pool .entry))) n (now (headers .exit)) (now (pool .entry)) (now (terms .exit)) []) ⌝ }
+{
+    slices::zero_all(terms);
+    totals::start_terms(headers, n);
+}
+
+// Writes the variables of the rows, and the offsets.
+fn finish_groups(headers: &mut [u32], n: usize, pool: &[u32], variables: &mut [u32])
+    requires { ⌜ Rows n (now headers) (now pool) × (n ≤ 16777216) × (total (tallied n (now headers) (now pool)) ≤ 16777216) × (length (varsIn (tallied n (now headers) (now pool))) ≤ length (now variables)) ⌝ }
+    ensures { λ _. ⌜ StartsWith (headersOf 0 0 (tallied n (now (headers .entry)) (now (pool .entry)))) (now (headers .exit)) × StartsWith (varsIn (tallied n (now (headers .entry)) (now (pool .entry)))) (now (variables .exit)) ⌝ }
+{
+    place::write_variables(headers, n, pool, variables);
+    totals::fill_offsets(headers, n);
+}
+
+// The constraints of a checked sheet.
+pub fn group_constraints(
+    sheet: &[u32],
+    pool: &[u32],
+    headers: &mut [u32],
+    variables: &mut [u32],
+    terms: &mut [u32],
+) -> Grouped
+    requires { ⌜ Grouping (now sheet) (now pool) (constraintRoots (readSheet (now sheet))) ⌝ }
+    ensures { λ r. ⌜ Laid constraintTerm (groupsOf (now (sheet .entry)) (constraintRoots (readSheet (now (sheet .entry))))) (now (headers .exit)) (now (variables .exit)) (now (terms .exit)) r ⌝ }
+{
+    slices::zero_all(headers);
+    let at = records::constraints_at(sheet);
+    let count = records::wide(sheet[2]);
+    let counted = families::tally_names(sheet, at, count, headers, 0, pool);
+    let Tallied::Headers(n) = counted else {
+        return Grouped::Short(1);
+    };
+    let fit = room_for(headers, n, 2, variables.len(), terms.len());
+    let Grouped::Written(lengths) = fit else {
+        return fit;
+    };
+    start_groups(headers, n, pool, terms);
+    families::place_constraints(sheet, at, count, headers, n, pool, terms);
+    finish_groups(headers, n, pool, variables);
+    Grouped::Written(lengths)
+}
+
+// The counts of a checked sheet's interactions.
+pub fn group_counts(
+    sheet: &[u32],
+    pool: &[u32],
+    headers: &mut [u32],
+    variables: &mut [u32],
+    terms: &mut [u32],
+) -> Grouped
+    requires { ⌜ Grouping (now sheet) (now pool) (countRoots (readSheet (now sheet))) ⌝ }
+    ensures { λ r. ⌜ Laid interactionTerm (groupsOf (now (sheet .entry)) (countRoots (readSheet (now (sheet .entry))))) (now (headers .exit)) (now (variables .exit)) (now (terms .exit)) r ⌝ }
+{
+    slices::zero_all(headers);
+    let at = records::interactions_at(sheet);
+    let count = records::wide(sheet[3]);
+    let counted = families::tally_counts(sheet, at, count, headers, 0, pool);
+    let Tallied::Headers(n) = counted else {
+        return Grouped::Short(1);
+    };
+    let fit = room_for(headers, n, 3, variables.len(), terms.len());
+    let Grouped::Written(lengths) = fit else {
+        return fit;
+    };
+    start_groups(headers, n, pool, terms);
+    families::place_counts(sheet, at, count, headers, n, pool, terms);
+    finish_groups(headers, n, pool, variables);
+    Grouped::Written(lengths)
+}
+
+// The fields of a checked sheet's interactions.
+pub fn group_fields(
+    sheet: &[u32],
+    pool: &[u32],
+    headers: &mut [u32],
+    variables: &mut [u32],
+    terms: &mut [u32],
+) -> Grouped
+    requires { ⌜ Grouping (now sheet) (now pool) (fieldRoots (readSheet (now sheet))) ⌝ }
+    ensures { λ r. ⌜ Laid interactionTerm (groupsOf (now (sheet .entry)) (fieldRoots (readSheet (now (sheet .entry))))) (now (headers .exit)) (now (variables .exit)) (now (terms .exit)) r ⌝ }
+{
+    slices::zero_all(headers);
+    let at = records::interactions_at(sheet);
+    let count = records::wide(sheet[3]);
+    let counted = families::tally_fields(sheet, at, count, headers, 0, pool);
+    let Tallied::Headers(n) = counted else {
+        return Grouped::Short(1);
+    };
+    let fit = room_for(headers, n, 3, variables.len(), terms.len());
+    let Grouped::Written(lengths) = fit else {
+        return fit;
+    };
+    start_groups(headers, n, pool, terms);
+    families::place_fields(sheet, at, count, headers, n, pool, terms);
+    finish_groups(headers, n, pool, variables);
+    Grouped::Written(lengths)
+}
