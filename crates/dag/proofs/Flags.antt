@@ -11,9 +11,10 @@ use borrow.Author.Tests.{eqb-true, eqb-false, ne-eqb, lt-ltb, le-ltb, le-leb, lt
 use Rattle.semantics.specs.Walk.{member}
 use Rattle.semantics.specs.Graph.{setNum, insertOnce, sortedOnce}
 use Rattle.semantics.proofs.Members.{mem-here, mem-there, Below}
-use Rattle.dag.specs.Memory.{tabulate, flagWord, flagged, ascending, part, nodeNumbers, marksOf, Named}
+use Rattle.records.specs.Access.{part}
+use Rattle.records.proofs.Parts.{part-more}
+use Rattle.dag.specs.Memory.{tabulate, flagWord, flagged, ascending, nodeNumbers, marksOf, Named}
 use Rattle.dag.proofs.Marks.{tabulate-length, tabulate-from, tabulate-same, tabulate-set}
-use Rattle.dag.proofs.Parts.{part-more}
 
 -- A member of a list with one more.
 member-snoc : (i x : ℕ) (xs : List ℕ) (t : Bool) → eqb i x ≡ t → member i (xs ++ (x ∷ [])) ≡ cond (member i xs) true t

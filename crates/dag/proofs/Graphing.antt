@@ -11,16 +11,20 @@ use Rattle.semantics.specs.Walk.{member}
 use Rattle.semantics.specs.Graph.{Built, built, graphRoots, graphOf, sortedOnce, renamed}
 use Rattle.semantics.proofs.Basics.{by-test}
 use Rattle.semantics.proofs.Members.{Mem, mem-left, mem-right, mem-getD, Below, map-below}
-use Rattle.semantics.proofs.Encoding.{records-length, head-limits}
+use Rattle.semantics.proofs.Encoding.{records-length}
 use Rattle.semantics.proofs.Access.{constraint-word, words-count}
 use Rattle.semantics.proofs.Orders.{order-closed, order-roots, order-below, order-distinct, distinct-length}
 use Rattle.semantics.proofs.GraphSheets.{graph-roots, sorted-length}
-use Rattle.dag.specs.Memory.{tabulate, mark, nodesOut, recordsOf, builtOf, Order, Finishing, allAdded, graphOut, graphLength, flagged, flaggedAmong, plainBelow, marksOf, nodeNumbers, part, put, renamedAll, Named, NamedInteractions}
+use Rattle.records.specs.Access.{recordsOf, constraintsAt, interactionsAt, part}
+use Rattle.records.specs.Orders.{Order}
+use Rattle.records.proofs.Steps.{inside, few-records, lows}
+use Rattle.records.proofs.Reading.{roots, counts-small, constraints-are, interactions-stand}
+use Rattle.dag.specs.Memory.{tabulate, mark, nodesOut, builtOf, Finishing, allAdded, graphOut, graphLength, flagged, flaggedAmong, plainBelow, marksOf, nodeNumbers, put, renamedAll, Named, NamedInteractions}
 use Rattle.dag.proofs.Steps as steps
 use Rattle.dag.proofs.Marks.{tabulate-length}
 use Rattle.dag.proofs.Sweeps.{put-length}
-use Rattle.dag.proofs.Adds.{few-records, num-small}
-use Rattle.dag.proofs.Reading.{roots, map-same, constraints-are, interactions-stand, renamed-are, named-are}
+use Rattle.dag.proofs.Adds.{num-small}
+use Rattle.dag.proofs.Renaming.{map-same, renamed-are, named-are}
 use Rattle.dag.proofs.Closing.{plain-again, flagged-are, graph-words, graph-fits}
 
 pub encode-long : (g : Sheet) → length (encode g) ≡ 4 + (5 * length (g .records) + (length (g .constraints) + length (flatMap interactionWords (g .interactions))))
@@ -41,19 +45,19 @@ module _ (ws scratch out : List ℕ) (n : ℕ) (f : Finishing ws scratch out n) 
   g = graphOf prime s
 
   roots-below : Below E (graphRoots s)
-  roots-below = graph-roots prime s (steps.inside ws (f .checked))
+  roots-below = graph-roots prime s (inside ws (f .checked))
 
   ordered : Order ws (allAdded ws)
   ordered = record {
-    closed = order-closed (recordsOf ws) (steps.lows ws (f .checked)) (graphRoots s) roots-below;
-    distinct = order-distinct (recordsOf ws) (steps.lows ws (f .checked)) (graphRoots s) roots-below;
-    below = order-below (recordsOf ws) (steps.lows ws (f .checked)) (graphRoots s) roots-below;
+    closed = order-closed (recordsOf ws) (lows ws (f .checked)) (graphRoots s) roots-below;
+    distinct = order-distinct (recordsOf ws) (lows ws (f .checked)) (graphRoots s) roots-below;
+    below = order-below (recordsOf ws) (lows ws (f .checked)) (graphRoots s) roots-below;
   }
 
   -- The mark of a record that is named.
   module _ (c : ℕ) (m : Mem c (graphRoots s)) where
     added : Mem c (allAdded ws)
-    added = order-roots (recordsOf ws) (steps.lows ws (f .checked)) (graphRoots s) roots-below c m
+    added = order-roots (recordsOf ws) (lows ws (f .checked)) (graphRoots s) roots-below c m
 
     marked : marksOf scratch c ≡ suc (B .num c)
     marked = steps.scratch-num ws (allAdded ws) scratch out n (f .holds) c (roots-below c m) added
@@ -83,7 +87,7 @@ module _ (ws scratch out : List ℕ) (n : ℕ) (f : Finishing ws scratch out n) 
   interaction-root c m = mem-right c (s .constraints) (roots (s .interactions)) m
 
   -- What turning the constraints into nodes asks.
-  pub constraints-named : (at count : ℕ) → at ≡ 4 + 5 * E → count ≡ length (s .constraints) → Named ws at count scratch
+  pub constraints-named : (at count : ℕ) → at ≡ constraintsAt ws → count ≡ length (s .constraints) → Named ws at count scratch
   constraints-named at count e k = record {
     small = marks-small;
     inside = omega (arith, words-count prime ws s (f .checked));
@@ -96,7 +100,7 @@ module _ (ws scratch out : List ℕ) (n : ℕ) (f : Finishing ws scratch out n) 
   abbrev nums : List ℕ
   nums = map (B .num) (s .constraints)
 
-  numbers-are : (at count : ℕ) → at ≡ 4 + 5 * E → count ≡ length (s .constraints) → nodeNumbers (marksOf scratch) (part at count ws) ≡ nums
+  numbers-are : (at count : ℕ) → at ≡ constraintsAt ws → count ≡ length (s .constraints) → nodeNumbers (marksOf scratch) (part at count ws) ≡ nums
   numbers-are at count e k =
       (λ i. nodeNumbers (marksOf scratch) (part (e i) (k i) ws)) ∙ ap (nodeNumbers (marksOf scratch)) (constraints-are ws (f .checked))
       ∙ map-same (λ (x : ℕ). pred (marksOf scratch x)) (B .num) (s .constraints) (λ c m. number-is c (constraint-root c m))
@@ -121,7 +125,7 @@ module _ (ws scratch out : List ℕ) (n : ℕ) (f : Finishing ws scratch out n) 
   nodes-small = omega (arith, nodes-few, steps.scratch-length ws (allAdded ws) scratch out n (f .holds), few-records ws (f .checked))
 
   pub lists-small : (length (s .constraints) ≤ 1024) × (length (s .interactions) ≤ 1024)
-  lists-small = let h = head-limits s (steps.inside ws (f .checked) .head) in (h .1, h .2)
+  lists-small = let h = counts-small ws (f .checked) in (h .1, h .2)
 
   -- The graph's lists and their length.
   records-are : g .records ≡ B .nodes
@@ -146,7 +150,7 @@ module _ (ws scratch out : List ℕ) (n : ℕ) (f : Finishing ws scratch out n) 
   four-words = omega (arith, fits)
 
   -- The constraints are flagged, written and plain again.
-  module _ (at count : ℕ) (ea : at ≡ 4 + 5 * E) (ec : count ≡ length (s .constraints)) (s₁ : List ℕ)
+  module _ (at count : ℕ) (ea : at ≡ constraintsAt ws) (ec : count ≡ length (s .constraints)) (s₁ : List ℕ)
       (e₁ : s₁ ≡ tabulate 0 (length scratch) (flagged (marksOf scratch) (nodeNumbers (marksOf scratch) (part at count ws)))) where
     flags-are : s₁ ≡ tabulate 0 (length scratch) (flagged (marksOf scratch) nums)
     flags-are = e₁ ∙ ap (λ (l : List ℕ). tabulate 0 (length scratch) (flagged (marksOf scratch) l)) (numbers-are at count ea ec)
@@ -165,16 +169,16 @@ module _ (ws scratch out : List ℕ) (n : ℕ) (f : Finishing ws scratch out n) 
       plain : s₂ ≡ scratch
       plain = e₂ ∙ ap (λ (l : List ℕ). tabulate 0 (length l) (plainBelow n l)) flags-are ∙ plain-again scratch nums n marks-small nums-below nodes-few
 
-      from-is : 4 + 5 * E + length (s .constraints) ≡ from
+      from-is : interactionsAt ws ≡ from
       from-is = omega arith
 
-      stands : drop (4 + 5 * E + length (s .constraints)) ws ≡ flatMap interactionWords (s .interactions) ++ interactions-stand ws (f .checked) .0
+      stands : drop (interactionsAt ws) ws ≡ flatMap interactionWords (s .interactions) ++ interactions-stand ws (f .checked) .0
       stands = interactions-stand ws (f .checked) .1
 
       renamed-now : renamedAll ws s₂ from ints ≡ flatMap interactionWords (g .interactions)
       renamed-now =
           (λ i. renamedAll ws (plain i) (sym from-is i) (ei i))
-          ∙ renamed-are (interactions-stand ws (f .checked) .0) ws (4 + 5 * E + length (s .constraints)) (s .interactions) stands scratch (B .num)
+          ∙ renamed-are (interactions-stand ws (f .checked) .0) ws (interactionsAt ws) (s .interactions) stands scratch (B .num)
           (λ c m. number-is c (interaction-root c m))
           ∙ ap (flatMap interactionWords) (sym interactions-are)
 
@@ -192,8 +196,8 @@ module _ (ws scratch out : List ℕ) (n : ℕ) (f : Finishing ws scratch out n) 
           let k : length (renamedAll ws s₂ from ints) ≡ length (flatMap interactionWords (g .interactions)) = ap length renamed-now in (
             subst (λ (x : List ℕ). NamedInteractions ws x from ints) (sym plain)
                 (subst (λ (a : ℕ). NamedInteractions ws scratch a ints) from-is
-                (subst (NamedInteractions ws scratch (4 + 5 * E + length (s .constraints))) (sym ei)
-                (named-are (interactions-stand ws (f .checked) .0) ws (4 + 5 * E + length (s .constraints)) (s .interactions) stands scratch marks-small (λ c m. root-named c (interaction-root c m))))),
+                (subst (NamedInteractions ws scratch (interactionsAt ws)) (sym ei)
+                (named-are (interactions-stand ws (f .checked) .0) ws (interactionsAt ws) (s .interactions) stands scratch marks-small (λ c m. root-named c (interaction-root c m))))),
             omega (arith, fits, next-is, out₁-length),
           )
 

@@ -2,16 +2,14 @@ pub mod RuleLaws
 pub mod NodeLaws
 pub mod Marks
 pub mod Steps
-pub mod Visits
 pub mod Searches
-pub mod Parts
 pub mod Flags
 pub mod Sweeps
 pub mod Naming
 pub mod Picking
 pub mod Adds
 pub mod Rooting
-pub mod Reading
+pub mod Renaming
 pub mod Closing
 pub mod Graphing
 pub mod Starts

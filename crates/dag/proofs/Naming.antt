@@ -4,10 +4,14 @@ use mathlib.Core.List.{List, [], _∷_, _++_, append-assoc, append-nil, map-appe
 use Prim.Native.Nat.{ℕ, suc, pred, _+_, _-_, _%_, _≤_, _<_}
 use native.Mathlib.Omega.{arith}
 use native.Mathlib.Nat.{mod-eq-of-lt}
-use lib.ListN.{length, getD, set, length-append, length-set}
-use Rattle.dag.specs.Memory.{put, part, nodeNumbers, marksOf, Named, NamedInteraction, NamedInteractions, messageLength, renamedWords, renamedAll}
-use Rattle.dag.proofs.Parts.{part-more, numbers-length}
+use lib.ListN.{length, getD, set, length-append, length-set, length-map}
+use Rattle.records.specs.Access.{part, messageLength}
+use Rattle.records.proofs.Parts.{part-more, part-length}
+use Rattle.dag.specs.Memory.{put, nodeNumbers, marksOf, Named, NamedInteraction, NamedInteractions, renamedWords, renamedAll}
 use Rattle.dag.proofs.Sweeps.{put-none, put-length, put-put, put-one, put-next, set-next}
+
+numbers-length : (ws : List ℕ) (at j : ℕ) (f : ℕ → ℕ) → at + j ≤ length ws → length (nodeNumbers f (part at j ws)) ≡ j
+numbers-length ws at j f h = length-map (part at j ws) (λ (x : ℕ). pred (f x)) ∙ part-length ws at j h
 
 module _ (ws : List ℕ) (at count : ℕ) (s : List ℕ) (h : Named ws at count s) where
   module _ (j : ℕ) (l : j < count) where

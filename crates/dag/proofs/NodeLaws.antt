@@ -17,10 +17,11 @@ use Rattle.semantics.specs.Call.{zeros, padded}
 use Rattle.semantics.proofs.Basics.{cond-true, cond-false}
 use Rattle.semantics.proofs.Encoding.{records-length}
 use Rattle.semantics.proofs.Access.{word-at}
+use Rattle.records.specs.Access.{nodeIn}
 use Rattle.dag.specs.declared.rules.Child.{Child}
 use Rattle.dag.specs.Picks.{viewOf}
 use Rattle.dag.specs.Memory.{nodesOut}
-use Rattle.dag.specs.Nodes.{nodeIn, NoneBefore, FirstEqual}
+use Rattle.dag.specs.Nodes.{NoneBefore, FirstEqual}
 use Rattle.dag.proofs.RuleLaws.{seen}
 
 -- Equal in all five words, word by word.

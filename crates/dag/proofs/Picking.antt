@@ -1,7 +1,7 @@
 -- The rule for a record, from the words of the sheet, scratch and output.
-use mathlib.Core.Path.{_≡_, refl, sym, ap, subst, _∙_}
-use mathlib.Core.Bool.{Bool, true, false, cond}
-use mathlib.Core.List.{List, [], _∷_}
+use mathlib.Core.Path.{_≡_, refl, sym, ap, _∙_}
+use mathlib.Core.Bool.{cond}
+use mathlib.Core.List.{List}
 use Prim.Native.Nat.{ℕ, suc, _+_, _*_, _-_, _≤_, _<_}
 use native.Mathlib.Omega.{arith}
 use lib.Dec.{eqb}
@@ -12,22 +12,23 @@ use Rattle.semantics.specs.Answer.{good}
 use Rattle.semantics.specs.Sheet.{Record}
 use Rattle.semantics.specs.Check.{readSheet, check}
 use Rattle.semantics.specs.Value.{Node, nodeOf, recordAt}
-use Rattle.semantics.specs.Walk.{children, childrenAt}
+use Rattle.semantics.specs.Walk.{childrenAt}
 use Rattle.semantics.specs.Graph as graph
 use Rattle.semantics.specs.Graph.{Built, nodeFor, pick, addRule, subRule, negRule, mulRule}
 use Rattle.semantics.proofs.Basics.{by-test}
-use Rattle.semantics.proofs.Members.{Mem, mem-here, mem-there}
-use Rattle.semantics.proofs.Access.{words-count}
+use Rattle.semantics.proofs.Members.{Mem}
 use Rattle.semantics.proofs.Orders.{distinct-length}
-use Rattle.dag.specs.declared.Record as declared
+use Rattle.records.specs.declared.Record as declared
+use Rattle.records.specs.Access.{fiveWords, nodeIn, recordsOf}
+use Rattle.records.specs.Orders.{Order, There}
+use Rattle.records.proofs.Steps.{child-low}
+use Rattle.records.proofs.Visits.{kind-limits, is, kind-is, a-is, b-is, c-is, has-a, has-b}
 use Rattle.dag.specs.declared.rules.Child.{Child}
-use Rattle.dag.specs.Picks.{fiveWords, viewOf}
-use Rattle.dag.specs.Nodes.{nodeIn}
-use Rattle.dag.specs.Memory.{recordsOf, builtOf, Holds, Order, There, pickOfRecord}
+use Rattle.dag.specs.Picks.{viewOf}
+use Rattle.dag.specs.Memory.{builtOf, Holds, pickOfRecord}
 use Rattle.dag.proofs.RuleLaws.{seen, view-add, view-sub, view-mul, view-neg}
 use Rattle.dag.proofs.NodeLaws.{child-sees}
 use Rattle.dag.proofs.Steps as steps
-use Rattle.dag.proofs.Visits.{kind-two, kind-neg, kind-limits, kind-word, a-word, b-word, c-word, d-word}
 
 -- What a rule gives, by the kind of the record.
 module _ (p : ℕ) (b : Built) (r : Record) where
@@ -77,60 +78,14 @@ module _ (ws : List ℕ) (checked : check prime ws ≡ good (readSheet ws)) (r :
   abbrev R : Record
   R = recordAt (recordsOf ws) r
 
-  pub record-inside : 4 + 5 * r + 5 ≤ length ws
-  record-inside = omega (arith, words-count prime ws (readSheet ws) checked)
-
-  -- The record in the sheet.
-  pub record-is : nodeIn ws r ≡ R
-  record-is =
-      let at : (j k : ℕ) → j ≡ k → getD ws j 0 ≡ getD ws k 0 = λ j k e. ap (λ (n : ℕ). getD ws n 0) e in
-      let k = at (4 + 5 * r) (4 + (5 * r + 0)) (omega arith) ∙ kind-word ws checked r l in
-      let a = at (4 + 5 * r + 1) (4 + (5 * r + 1)) (omega arith) ∙ a-word ws checked r l in
-      let b = at (4 + 5 * r + 2) (4 + (5 * r + 2)) (omega arith) ∙ b-word ws checked r l in
-      let c = at (4 + 5 * r + 3) (4 + (5 * r + 3)) (omega arith) ∙ c-word ws checked r l in
-      let d = at (4 + 5 * r + 4) (4 + (5 * r + 4)) (omega arith) ∙ d-word ws checked r l in
-      λ t. record { kind = k t; a = a t; b = b t; c = c t; d = d t }
-
   module _ (q : declared.Record) (e : fiveWords q ≡ nodeIn ws r) where
-    abbrev is : fiveWords q ≡ R
-    is = e ∙ record-is
-
-    pub kind-is : q .kind ≡ R .kind
-    kind-is = ap (λ (z : Record). z .kind) is
-
-    pub a-is : q .a ≡ R .a
-    a-is = ap (λ (z : Record). z .a) is
-
-    pub b-is : q .b ≡ R .b
-    b-is = ap (λ (z : Record). z .b) is
-
-    c-is : q .c ≡ R .c
-    c-is = ap (λ (z : Record). z .c) is
-
-    -- Its children.
-    pub has-a : 6 ≤ q .kind → Mem (q .a) (childrenAt (recordsOf ws) r)
-    unfolding childrenAt
-    has-a h = go (eqb (R .kind) 8) refl
-      where
-        go : (t : Bool) → eqb (R .kind) 8 ≡ t → Mem (q .a) (children (nodeOf R))
-        go true t = subst (λ (x : ℕ). Mem x (children (nodeOf R))) (sym a-is) (subst (Mem (R .a)) (sym (kind-neg R (eqb-true (R .kind) 8 t))) (mem-here (R .a) []))
-        go false t =
-            let two = kind-two R (omega (arith, kind-is)) (kind-limits ws checked r l .1) (eqb-false (R .kind) 8 t) in
-            subst (λ (x : ℕ). Mem x (children (nodeOf R))) (sym a-is) (subst (Mem (R .a)) (sym two) (mem-here (R .a) (R .b ∷ [])))
-
-    pub has-b : 6 ≤ q .kind → (q .kind ≡ 8 → ⊥) → Mem (q .b) (childrenAt (recordsOf ws) r)
-    unfolding childrenAt
-    has-b h n =
-        let two = kind-two R (omega (arith, kind-is)) (kind-limits ws checked r l .1) (λ z. n (kind-is ∙ z)) in
-        subst (λ (x : ℕ). Mem x (children (nodeOf R))) (sym b-is) (subst (Mem (R .b)) (sym two) (mem-there (R .b) (R .a) (R .b ∷ []) (mem-here (R .b) [])))
-
     module _ (done : List ℕ) (o : Order ws done) (there : There ws r done) (scratch out : List ℕ) (n : ℕ) (h : Holds ws done scratch out n) where
       abbrev B : Built
       B = builtOf ws done
 
       module _ (c : ℕ) (m : Mem c (childrenAt (recordsOf ws) r)) where
         below : c < length (recordsOf ws)
-        below = omega (arith, steps.child-low ws checked r c m)
+        below = omega (arith, child-low ws checked r c m)
 
         -- Where a child's node stands.
         num-is : getD scratch c 0 ≡ suc (B .num c)
@@ -159,18 +114,18 @@ module _ (ws : List ℕ) (checked : check prime ws ≡ good (readSheet ws)) (r :
               (f .1 ∙ ap (λ (k : ℕ). nodeIn out k .kind) at-num) (f .2 ∙ ap (λ (k : ℕ). nodeIn out k .a) at-num)
 
       pub picks-flat : q .kind < 6 → graph.make (fiveWords q) ≡ pickOfRecord ws r done
-      picks-flat k = ap graph.make is ∙ sym (flat-pick prime B R (omega (arith, kind-is)))
+      picks-flat k = ap graph.make (is ws checked r l q e) ∙ sym (flat-pick prime B R (omega (arith, kind-is ws checked r l q e)))
 
       pub picks-neg : (k : q .kind ≡ 8) (x : Child)
           → Reads scratch out (q .a) x
           → negRule prime (x .number) (viewOf x) (q .c) ≡ pickOfRecord ws r done
       unfolding nodeFor
       picks-neg k x f =
-          let m = has-a (omega arith) in
-          (λ i. negRule prime (child-number (q .a) m x f i) (child-view (q .a) m x f i) (c-is i))
+          let m = has-a ws checked r l q e (omega arith) in
+          (λ i. negRule prime (child-number (q .a) m x f i) (child-view (q .a) m x f i) (c-is ws checked r l q e i))
           ∙ view-neg prime (B .num (q .a)) (recordAt (B .nodes) (B .num (q .a))) (R .c)
-          ∙ ap (λ (a : ℕ). negRule prime (B .num a) (nodeFor B a) (R .c)) a-is
-          ∙ sym (neg-pick prime B R (sym kind-is ∙ k))
+          ∙ ap (λ (a : ℕ). negRule prime (B .num a) (nodeFor B a) (R .c)) (a-is ws checked r l q e)
+          ∙ sym (neg-pick prime B R (sym (kind-is ws checked r l q e) ∙ k))
 
       pub picks-two : (k : 6 ≤ q .kind) (k₈ : q .kind ≡ 8 → ⊥) (x y : Child)
           → Reads scratch out (q .a) x
@@ -178,8 +133,8 @@ module _ (ws : List ℕ) (checked : check prime ws ≡ good (readSheet ws)) (r :
           → twoRule prime B R (q .kind) (x .number) (y .number) (viewOf x) (viewOf y) (q .c) ≡ pickOfRecord ws r done
       unfolding nodeFor
       picks-two k k₈ x y f g =
-          let m = has-a k in
-          let t = has-b k k₈ in
-          views prime (recordAt (B .nodes) (B .num (q .a))) (recordAt (B .nodes) (B .num (q .b))) B R kind-is (child-number (q .a) m x f) (child-number (q .b) t y g) c-is (child-view (q .a) m x f) (child-view (q .b) t y g)
-          ∙ (λ i. twoRule prime B R (R .kind) (B .num (a-is i)) (B .num (b-is i)) (nodeFor B (a-is i)) (nodeFor B (b-is i)) (R .c))
-          ∙ sym (two-pick prime B R (omega (arith, kind-is)) (kind-limits ws checked r l .1) (λ z. k₈ (kind-is ∙ z)))
+          let m = has-a ws checked r l q e k in
+          let t = has-b ws checked r l q e k k₈ in
+          views prime (recordAt (B .nodes) (B .num (q .a))) (recordAt (B .nodes) (B .num (q .b))) B R (kind-is ws checked r l q e) (child-number (q .a) m x f) (child-number (q .b) t y g) (c-is ws checked r l q e) (child-view (q .a) m x f) (child-view (q .b) t y g)
+          ∙ (λ i. twoRule prime B R (R .kind) (B .num (a-is ws checked r l q e i)) (B .num (b-is ws checked r l q e i)) (nodeFor B (a-is ws checked r l q e i)) (nodeFor B (b-is ws checked r l q e i)) (R .c))
+          ∙ sym (two-pick prime B R (omega (arith, kind-is ws checked r l q e)) (kind-limits ws checked r l .1) (λ z. k₈ (kind-is ws checked r l q e ∙ z)))

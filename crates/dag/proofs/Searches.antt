@@ -16,8 +16,8 @@ use Rattle.semantics.proofs.Members.{Mem, mem-here, mem-there}
 use Rattle.semantics.proofs.Records.{LowRecord}
 use Rattle.semantics.proofs.Orders.{low}
 use Rattle.semantics.proofs.Graphs.{equal-is}
+use Rattle.records.proofs.Visits.{kind-two, kind-neg, kind-flat}
 use Rattle.dag.specs.Nodes.{NoneBefore, aboveAll}
-use Rattle.dag.proofs.Visits.{kind-two, kind-neg, kind-flat}
 
 -- From the words of a node.
 module _ (r : Record) where

@@ -1,6 +1,5 @@
 -- What one step of the walk asks and changes.
 use mathlib.Core.Path.{_≡_, sym, ap, _∙_}
-use mathlib.Core.Logic.{_⊎_, inl, inr}
 use mathlib.Core.Bool.{true, false}
 use mathlib.Core.List.{List, _∷_}
 use Prim.Native.Nat.{ℕ, suc, _<_}
@@ -9,63 +8,31 @@ use lib.Dec.{lit<}
 use lib.ListN.{length, getD, set}
 use Rattle.semantics.specs.Arithmetic.{prime}
 use Rattle.semantics.specs.Answer.{good}
-use Rattle.semantics.specs.Sheet.{Record, Each, Inside}
+use Rattle.semantics.specs.Sheet.{Record}
 use Rattle.semantics.specs.Check.{readSheet, check}
 use Rattle.semantics.specs.Value.{nodeOf, recordAt}
-use Rattle.semantics.specs.Walk.{children, childrenAt, member, visit}
+use Rattle.semantics.specs.Walk.{member}
 use Rattle.semantics.specs.Graph as graph
 use Rattle.semantics.specs.Graph.{Built, pick, takeIn, addRecord, build, find, intern}
 use Rattle.semantics.proofs.Members.{Mem, cons-below}
-use Rattle.semantics.proofs.Records.{LowRecord, each-low}
-use Rattle.semantics.proofs.Encoding.{check-inside}
-use Rattle.semantics.proofs.Walks.{visit-closed, visit-distinct, visit-reach, reach-le}
-use Rattle.semantics.proofs.Orders.{low, distinct-length}
+use Rattle.semantics.proofs.Orders.{distinct-length}
 use Rattle.semantics.proofs.Graphs.{Done, Good, build-good}
-use Rattle.dag.specs.Memory.{tabulate, mark, nodesOut, recordsOf, builtOf, Holds, Order}
+use Rattle.records.specs.Access.{recordsOf}
+use Rattle.records.specs.Orders.{Order}
+use Rattle.records.proofs.Steps.{inside}
+use Rattle.dag.specs.Memory.{tabulate, mark, nodesOut, builtOf, Holds}
 use Rattle.dag.proofs.Marks.{tabulate-length, tabulate-from, mark-new, mark-old, mark-is, mark-more}
 
 module _ (ws : List ℕ) (checked : check prime ws ≡ good (readSheet ws)) where
-  pub inside : Inside prime (readSheet ws)
-  inside = check-inside prime ws (readSheet ws) checked
-
-  pub lows : Each LowRecord 0 (recordsOf ws)
-  lows = each-low prime 0 (recordsOf ws) (inside .records)
-
-  -- A record's children are below it.
-  pub child-low : (r c : ℕ) → Mem c (childrenAt (recordsOf ws) r) → c < r
-  child-low = low (recordsOf ws) lows
-
   -- The builder's state over an order: which values are assigned does not matter.
   pub kept : (done : List ℕ) → Order ws done
-      → Good prime (lit< tt) (λ x. 0) (λ x. omega arith) (recordsOf ws) (inside .records) (builtOf ws done) done
+      → Good prime (lit< tt) (λ x. 0) (λ x. omega arith) (recordsOf ws) (inside ws checked .records) (builtOf ws done) done
   unfolding builtOf
-  kept done o = build-good prime (lit< tt) (λ x. 0) (λ x. omega arith) (recordsOf ws) (inside .records) done (o .closed) (o .below)
+  kept done o = build-good prime (lit< tt) (λ x. 0) (λ x. omega arith) (recordsOf ws) (inside ws checked .records) done (o .closed) (o .below)
 
   pub num-below : (done : List ℕ) → Order ws done → (i : ℕ) → Mem i done → builtOf ws done .num i < length (builtOf ws done .nodes)
   unfolding Done
   num-below done o i m = kept done o .done i m .0
-
-  -- One more record whose children are there.
-  pub order-more : (done : List ℕ) (r : ℕ) → Order ws done → r < length (recordsOf ws) → member r done ≡ false
-      → ((c : ℕ) → Mem c (childrenAt (recordsOf ws) r) → Mem c done) → Order ws (r ∷ done)
-  order-more done r o l e h = record {
-    closed = (h, o .closed);
-    distinct = (e, o .distinct);
-    below = cons-below (length (recordsOf ws)) r done l (o .below);
-  }
-
-  -- A visit of a record.
-  pub order-visit : (done : List ℕ) (k r : ℕ) → Order ws done → r < k → r < length (recordsOf ws)
-      → Order ws (visit (childrenAt (recordsOf ws)) k done r)
-  order-visit done k r o h l = record {
-    closed = visit-closed (childrenAt (recordsOf ws)) child-low k done r h (o .closed);
-    distinct = visit-distinct (childrenAt (recordsOf ws)) child-low k done r (o .distinct);
-    below = λ x m. go x (visit-reach (childrenAt (recordsOf ws)) k done r x m);
-  }
-    where
-      go : (x : ℕ) → Mem x done ⊎ Rattle.semantics.specs.Walk.Reaches (childrenAt (recordsOf ws)) r x → x < length (recordsOf ws)
-      go x (inl m) = o .below x m
-      go x (inr q) = omega (arith, reach-le (childrenAt (recordsOf ws)) child-low r x q)
 
   -- There is room for one more node while a record is missing.
   pub few-nodes : (done : List ℕ) (r : ℕ) → Order ws done → r < length (recordsOf ws) → member r done ≡ false

@@ -9,12 +9,12 @@ use Rattle.semantics.specs.Arithmetic.{prime}
 use Rattle.semantics.specs.Answer.{good}
 use Rattle.semantics.specs.Sheet.{Record, recordWords, encode, lengthOf}
 use Rattle.semantics.specs.Check.{readSheet, check}
-use Rattle.semantics.specs.Walk.{childrenAt, member, foldLeft, visit, order, Distinct}
+use Rattle.semantics.specs.Walk.{member, order}
 use Rattle.semantics.specs.Value.{nodeOf, recordAt}
 use Rattle.semantics.specs.Graph.{Built, Pick, pick, build, graphRoots, graphOf}
 use Rattle.semantics.specs.Call.{zeros, padded}
-use Rattle.semantics.proofs.Members.{Below}
-use Rattle.semantics.proofs.Walks.{Closed}
+use Rattle.records.specs.Access.{recordsOf, messageLength, countAt, fieldsAt}
+use Rattle.records.specs.Orders.{Order, There, Visiting}
 
 -- f k, f (k + 1), .., n of them.
 unfoldable pub tabulate : (k n : ℕ) → (ℕ → ℕ) → List ℕ
@@ -29,10 +29,7 @@ mark done b i = cond (member i done) (suc (b .num i)) 0
 unfoldable pub nodesOut : (lent : ℕ) → List Record → List ℕ
 nodesOut lent ns = padded (zeros 4 ++ flatMap recordWords ns) lent
 
--- The records of the sheet's words, and the builder's state when `done` are added, newest first.
-abbrev pub recordsOf : List ℕ → List Record
-recordsOf ws = readSheet ws .records
-
+-- The builder's state when `done` are added, newest first.
 unfoldable pub builtOf : List ℕ → List ℕ → Built
 builtOf ws done = build prime (recordsOf ws) done
 
@@ -40,12 +37,6 @@ pub record Holds (ws done scratch out : List ℕ) (n : ℕ) : Type 0 where
   pub scratch-is : scratch ≡ tabulate 0 (length (recordsOf ws)) (mark done (builtOf ws done))
   pub out-is : out ≡ nodesOut (length out) (builtOf ws done .nodes)
   pub count-is : n ≡ length (builtOf ws done .nodes)
-
--- An order so far: children before parents, each once, records of the sheet.
-pub record Order (ws done : List ℕ) : Type 0 where
-  pub closed : Closed (childrenAt (recordsOf ws)) done
-  pub distinct : Distinct done
-  pub below : Below (length (recordsOf ws)) done
 
 -- What adding a record asks: a checked sheet, a record of it, room for as many nodes as records.
 pub record Ready (ws : List ℕ) (r : ℕ) (scratch out : List ℕ) (n : ℕ) : Type 0 where
@@ -68,10 +59,7 @@ unfoldable pub ascending : (k n : ℕ) → List ℕ → List ℕ
 ascending k zero nums = []
 ascending k (suc n) nums = cond (member k nums) (k ∷ ascending (suc k) n nums) (ascending (suc k) n nums)
 
--- The words from `at` on that name records, and the nodes of these, from marks that count from 1.
-abbrev pub part : (at count : ℕ) → List ℕ → List ℕ
-part at count ws = take count (drop at ws)
-
+-- The nodes of records, from marks that count from 1.
 abbrev pub nodeNumbers : (ℕ → ℕ) → List ℕ → List ℕ
 nodeNumbers f xs = map (λ (x : ℕ). pred (f x)) xs
 
@@ -111,14 +99,11 @@ flaggedAmong k zero scratch = []
 flaggedAmong k (suc n) scratch = chosen (leb 65536 (marksOf scratch k)) k ++ flaggedAmong (suc k) n scratch
 
 -- The words of an interaction that stands at `at`, its names turned into nodes, and of as many as said.
-abbrev pub messageLength : List ℕ → ℕ → ℕ
-messageLength ws at = getD ws (at + 3) 0
-
 unfoldable pub renamedWords : (ws : List ℕ) (scratch : List ℕ) (at : ℕ) → List ℕ
 renamedWords ws scratch at =
     (getD ws at 0 ∷ getD ws (at + 1) 0 ∷ [])
-    ++ (nodeNumbers (marksOf scratch) (part (at + 2) 1 ws)
-    ++ ((messageLength ws at ∷ []) ++ nodeNumbers (marksOf scratch) (part (at + 4) (messageLength ws at) ws)))
+    ++ (nodeNumbers (marksOf scratch) (countAt ws at)
+    ++ ((messageLength ws at ∷ []) ++ nodeNumbers (marksOf scratch) (fieldsAt ws at)))
 
 unfoldable pub renamedAll : (ws : List ℕ) (scratch : List ℕ) (at n : ℕ) → List ℕ
 renamedAll ws scratch at zero = []
@@ -134,10 +119,6 @@ abbrev pub NamedInteractions : (ws : List ℕ) (scratch : List ℕ) (at n : ℕ)
 NamedInteractions ws scratch at zero = Unit {0}
 NamedInteractions ws scratch at (suc n) = NamedInteraction ws at scratch × NamedInteractions ws scratch (at + (4 + messageLength ws at)) n
 
--- The children of a record are added.
-abbrev pub There : (ws : List ℕ) (r : ℕ) (done : List ℕ) → Type 0
-There ws r done = (c : ℕ) → member c (childrenAt (recordsOf ws) r) ≡ true → member c done ≡ true
-
 -- What adding a record whose children are added asks.
 pub record Adding (ws : List ℕ) (r : ℕ) (scratch out : List ℕ) (n : ℕ) : Type 0 where
   pub ready : Ready ws r scratch out n
@@ -146,21 +127,6 @@ pub record Adding (ws : List ℕ) (r : ℕ) (scratch out : List ℕ) (n : ℕ) :
 
 abbrev pub pickOfRecord : (ws : List ℕ) (r : ℕ) (done : List ℕ) → Pick
 pickOfRecord ws r done = pick prime (builtOf ws done) (recordAt (recordsOf ws) r) (nodeOf (recordAt (recordsOf ws) r))
-
--- The records that interactions name, the fields of each before its count.
-unfoldable pub rootWords : (ws : List ℕ) (at n : ℕ) → List ℕ
-rootWords ws at zero = []
-rootWords ws at (suc n) = part (at + 4) (messageLength ws at) ws ++ (part (at + 2) 1 ws ++ rootWords ws (at + (4 + messageLength ws at)) n)
-
--- The interactions from `at` on name records below a bound.
-pub record RootsInside (bound : ℕ) (ws : List ℕ) (at : ℕ) : Type 0 where
-  pub inside : at + (4 + messageLength ws at) ≤ length ws
-  pub count : getD ws (at + 2) 0 < bound
-  pub message : (j : ℕ) → j < messageLength ws at → getD ws (at + 4 + j) 0 < bound
-
-abbrev pub AllRootsInside : (bound : ℕ) (ws : List ℕ) (at n : ℕ) → Type 0
-AllRootsInside bound ws at zero = Unit {0}
-AllRootsInside bound ws at (suc n) = RootsInside bound ws at × AllRootsInside bound ws (at + (4 + messageLength ws at)) n
 
 -- What adding records asks when none is said: a checked sheet, and room for as many nodes as records.
 pub record Walking (ws scratch out : List ℕ) (n : ℕ) : Type 0 where
@@ -172,14 +138,7 @@ pub record Walking (ws scratch out : List ℕ) (n : ℕ) : Type 0 where
 
 -- Scratch and output go from the one to the other as these records are added.
 abbrev pub Walks : (ws roots : List ℕ) (scratch out : List ℕ) (n : ℕ) (scratch′ out′ : List ℕ) (n′ : ℕ) → Type 0
-Walks ws roots scratch out n scratch′ out′ n′ =
-    (done : List ℕ) → Order ws done → Holds ws done scratch out n
-    → Holds ws (foldLeft (visit (childrenAt (recordsOf ws)) (length (recordsOf ws))) done roots) scratch′ out′ n′
-
--- The words from `at` on name records.
-pub record NamesInside (ws : List ℕ) (at count : ℕ) : Type 0 where
-  pub inside : at + count ≤ length ws
-  pub below : (j : ℕ) → j < count → getD ws (at + j) 0 < length (recordsOf ws)
+Walks ws roots scratch out n scratch′ out′ n′ = Visiting ws roots (λ done. Holds ws done scratch out n) (λ done. Holds ws done scratch′ out′ n′)
 
 -- What building asks: a checked sheet, scratch of E zeros, and an output of zeros that has room for the sheet.
 pub record Starting (ws scratch out : List ℕ) : Type 0 where

@@ -2,15 +2,11 @@
 use mathlib.Core.Path.{_≡_}
 use mathlib.Core.Bool.{false, true}
 use mathlib.Core.List.{List, [], _∷_}
-use Prim.Native.Nat.{ℕ, suc, _+_, _*_, _≤_, _<_, max}
-use lib.ListN.{getD}
-use Rattle.semantics.specs.Sheet.{Record, recordOf}
+use Prim.Native.Nat.{ℕ, suc, _≤_, _<_, max}
+use Rattle.semantics.specs.Sheet.{Record}
 use Rattle.semantics.specs.Value.{recordAt}
 use Rattle.semantics.specs.Graph.{equalRecords}
-
--- The five words of node i.
-abbrev pub nodeIn : List ℕ → ℕ → Record
-nodeIn ws i = recordOf (getD ws (4 + 5 * i) 0) (getD ws (4 + 5 * i + 1) 0) (getD ws (4 + 5 * i + 2) 0) (getD ws (4 + 5 * i + 3) 0) (getD ws (4 + 5 * i + 4) 0)
+use Rattle.records.specs.Access.{nodeIn}
 
 -- No node below `from` is equal to q.
 abbrev pub NoneBefore : (from : ℕ) → Record → List Record → Type 0

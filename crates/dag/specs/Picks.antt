@@ -1,16 +1,11 @@
 -- What the rules' answers mean.
-use Rattle.semantics.specs.Sheet as semantics
 use Rattle.semantics.specs.Sheet.{recordOf}
 use Rattle.semantics.specs.Value.{Node, nodeOf}
 use Rattle.semantics.specs.Graph as graph
-use Rattle.dag.specs.declared.Record.{Record}
+use Rattle.records.specs.Access.{fiveWords}
 use Rattle.dag.specs.declared.rules.Child.{Child}
 use Rattle.dag.specs.declared.rules.Pick.{Pick}
 use Rattle.dag.specs.declared.rules.Pick.the-variants.{Present, Make}
-
--- Five words as a record.
-abbrev pub fiveWords : Record → semantics.Record
-fiveWords r = recordOf (r .kind) (r .a) (r .b) (r .c) (r .d)
 
 abbrev pub pickOf : Pick → graph.Pick
 pickOf (Present n) = graph.present n

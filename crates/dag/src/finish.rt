@@ -4,8 +4,8 @@ ghost use Prim.Native.Nat.{pred, _+_, _*_, _%_, _≤_, _<_};
 ghost use lib.Dec.{leb};
 ghost use lib.ListN.{length, getD, set};
 ghost use Rattle.semantics.specs.Check.{readSheet};
-ghost use Rattle.dag.specs.Memory.{tabulate, flagWord, plainWord, plainBelow, flagged, flaggedAmong, chosen, Wanted, put, part, nodeNumbers, marksOf, Named, NamedInteraction, NamedInteractions, messageLength, renamedWords, renamedAll, recordsOf, Finishing, graphOut, graphLength};
-use crate::nodes;
+ghost use Rattle.records.specs.Access.{constraintsAt, part, messageLength};
+ghost use Rattle.dag.specs.Memory.{tabulate, flagWord, plainWord, plainBelow, flagged, flaggedAmong, chosen, Wanted, put, nodeNumbers, marksOf, Named, NamedInteraction, NamedInteractions, renamedWords, renamedAll, Finishing, graphOut, graphLength};
 
 // Above every mark: a mark is a node's number counted from 1.
 const FLAG: u32 = 65536;
@@ -15,7 +15,7 @@ fn node_number(scratch: &[u32], r: usize) -> usize
     requires { ⌜ (r < length (now scratch)) × (0 < getD (now scratch) r 0 % 65536) ⌝ }
     ensures { λ n. ⌜ n ≡ pred (getD (now (scratch .entry)) r 0 % 65536) ⌝ }
 {
-    nodes::wide(scratch[r] % FLAG - 1)
+    records::wide(scratch[r] % FLAG - 1)
 }
 
 // Flags a node that has no flag.
@@ -37,7 +37,7 @@ fn flag_nodes(sheet: &[u32], at: usize, count: usize, scratch: &mut [u32])
 {
     let mut j = 0;
     while j < count {
-        let node = node_number(scratch, nodes::wide(sheet[at + j]));
+        let node = node_number(scratch, records::wide(sheet[at + j]));
         flag_node(scratch, node);
         j += 1;
     }
@@ -91,7 +91,7 @@ fn write_names(sheet: &[u32], at: usize, count: usize, scratch: &[u32], out: &mu
 {
     let mut j = 0;
     while j < count {
-        let node = node_number(scratch, nodes::wide(sheet[at + j]));
+        let node = node_number(scratch, records::wide(sheet[at + j]));
         out[to + j] = node as u32;
         j += 1;
     }
@@ -102,7 +102,7 @@ fn write_interaction(sheet: &[u32], at: usize, scratch: &[u32], out: &mut [u32],
     requires { ⌜ NamedInteraction (now sheet) at (now scratch) × (to + (4 + messageLength (now sheet) at) ≤ length (now out)) ⌝ }
     ensures { λ r. ⌜ (now (out .exit) ≡ put (now (out .entry)) to (renamedWords (now (sheet .entry)) (now (scratch .entry)) at)) × (r ≡ to + (4 + messageLength (now (sheet .entry)) at)) ⌝ }
 {
-    let count = nodes::wide(sheet[at + 3]);
+    let count = records::wide(sheet[at + 3]);
     out[to] = sheet[at];
     out[to + 1] = sheet[at + 1];
     write_names(sheet, at + 2, 1, scratch, out, to + 2);
@@ -127,7 +127,7 @@ fn write_interactions(
     let mut next = to;
     let mut i = 0;
     while i < count {
-        let message = nodes::wide(sheet[from + 3]);
+        let message = records::wide(sheet[from + 3]);
         let after = write_interaction(sheet, from, scratch, out, next);
         next = after;
         from = from + 4 + message;
@@ -146,7 +146,7 @@ pub fn write_graph(
     out: &mut [u32],
     n: usize,
 ) -> usize
-    requires { ⌜ Finishing (now sheet) (now scratch) (now out) n × (at ≡ 4 + 5 * length (recordsOf (now sheet))) × (constraints ≡ length (readSheet (now sheet) .constraints)) × (interactions ≡ length (readSheet (now sheet) .interactions)) ⌝ }
+    requires { ⌜ Finishing (now sheet) (now scratch) (now out) n × (at ≡ constraintsAt (now sheet)) × (constraints ≡ length (readSheet (now sheet) .constraints)) × (interactions ≡ length (readSheet (now sheet) .interactions)) ⌝ }
     ensures { λ r. ⌜ (now (out .exit) ≡ graphOut (length (now (out .entry))) (now (sheet .entry))) × (r ≡ graphLength (now (sheet .entry))) ⌝ }
 {
     flag_nodes(sheet, at, constraints, scratch);

@@ -15,15 +15,6 @@ use sheet::Checked;
 use sheet::Refusal;
 use sheet::Written;
 
-// A record as five words.
-pub struct Record {
-    pub kind: u32,
-    pub a: u32,
-    pub b: u32,
-    pub c: u32,
-    pub d: u32,
-}
-
 // The graph of a checked sheet, where scratch and output are long enough.
 fn build_checked(
     s: &[u32],

@@ -9,11 +9,11 @@ ghost use Rattle.semantics.specs.Sheet.{recordWords};
 ghost use Rattle.semantics.specs.Value.{nodeOf};
 ghost use Rattle.semantics.specs.Walk.{children};
 ghost use Rattle.semantics.specs.Graph.{equalRecords, find, intern};
-ghost use Rattle.dag.specs.Picks.{fiveWords};
 ghost use Rattle.dag.specs.Memory.{nodesOut};
-ghost use Rattle.dag.specs.Nodes.{nodeIn, NoneBefore, FirstEqual, aboveAll};
-use crate::Record;
+ghost use Rattle.records.specs.Access.{fiveWords, nodeIn};
+ghost use Rattle.dag.specs.Nodes.{NoneBefore, FirstEqual, aboveAll};
 use crate::rules::Child;
+use records::Record;
 
 // Where a node is, and how many nodes there are then.
 pub struct Interned {
@@ -21,19 +21,12 @@ pub struct Interned {
     pub count: usize,
 }
 
-// A word as a place or a count.
-pub fn wide(w: u32) -> usize
-    ensures { λ x. ⌜ x ≡ w ⌝ }
-{
-    w as usize
-}
-
 // What the rules look at in a node.
 pub fn child(out: &[u32], number: u32) -> Child
     requires { ⌜ 4 + 5 * number + 5 ≤ length (now out) ⌝ }
     ensures { λ x. ⌜ (x .number ≡ number) × (x .kind ≡ nodeIn (now (out .entry)) number .kind) × (x .a ≡ nodeIn (now (out .entry)) number .a) ⌝ }
 {
-    let at = 4 + 5 * wide(number);
+    let at = 4 + 5 * records::wide(number);
     Child {
         number: number,
         kind: out[at],
@@ -73,12 +66,12 @@ pub fn search_from(r: Record) -> usize
         return 0;
     }
     if r.kind == 8 {
-        return wide(r.a) + 1;
+        return records::wide(r.a) + 1;
     }
     if r.a < r.b {
-        return wide(r.b) + 1;
+        return records::wide(r.b) + 1;
     }
-    wide(r.a) + 1
+    records::wide(r.a) + 1
 }
 
 // The first node from `from` on that is equal, or the number of nodes.

@@ -7,7 +7,7 @@ ghost use Rattle.semantics.specs.Sheet.{recordOf};
 ghost use Rattle.semantics.specs.Graph.{isConst, ifConstants, ifNeg, make, addRule, subRule, negRule, mulRule};
 ghost use Rattle.dag.specs.declared.rules.Option.the-variants.{Some, None};
 ghost use Rattle.dag.specs.Picks.{pickOf, viewOf};
-use crate::Record;
+use records::Record;
 
 // What the rules look at in a built child: its number, its kind and its word a.
 pub struct Child {

@@ -8,29 +8,14 @@ ghost use lib.ListN.{length, getD};
 ghost use Rattle.semantics.specs.Arithmetic.{prime};
 ghost use Rattle.semantics.specs.Graph.{addRule, subRule, mulRule};
 ghost use Rattle.semantics.specs.Walk.{member, visit, childrenAt};
-ghost use Rattle.dag.specs.Picks.{fiveWords, pickOf, viewOf};
-ghost use Rattle.dag.specs.Nodes.{nodeIn};
-ghost use Rattle.dag.specs.Memory.{Holds, Order, Ready, Adding, There, pickOfRecord, recordsOf, Walking, Walks, NamesInside, RootsInside, AllRootsInside, messageLength, part, rootWords};
-use crate::Record;
+ghost use Rattle.dag.specs.Picks.{pickOf, viewOf};
+ghost use Rattle.records.specs.Access.{nodeIn, recordsOf, part, fieldsAt, countAt, rootWords, NamesInside, RootsInside, AllRootsInside};
+ghost use Rattle.records.specs.Orders.{Order, There};
+ghost use Rattle.dag.specs.Memory.{Holds, Ready, Adding, pickOfRecord, Walking, Walks};
 use crate::nodes;
 use crate::rules;
 use crate::rules::Child;
 use crate::rules::Pick;
-
-// The five words of record r.
-fn record_at(sheet: &[u32], r: usize) -> Record
-    requires { ⌜ 4 + 5 * r + 5 ≤ length (now sheet) ⌝ }
-    ensures { λ x. ⌜ fiveWords x ≡ nodeIn (now (sheet .entry)) r ⌝ }
-{
-    let at = 4 + 5 * r;
-    Record {
-        kind: sheet[at],
-        a: sheet[at + 1],
-        b: sheet[at + 2],
-        c: sheet[at + 3],
-        d: sheet[at + 4],
-    }
-}
 
 // What the rules look at in the node of a record that is added.
 fn built_child(scratch: &[u32], out: &[u32], c: usize) -> Child
@@ -58,15 +43,20 @@ fn pick_node(sheet: &[u32], scratch: &[u32], out: &[u32], r: usize) -> Pick
     requires { ⌜ ((n : ℕ) × Adding (now sheet) r (now scratch) (now out) n) ⌝ }
     ensures { λ x. ⌜ ((done : List ℕ) → Order (now (sheet .entry)) done → There (now (sheet .entry)) r done → (n : ℕ) → Holds (now (sheet .entry)) done (now (scratch .entry)) (now (out .entry)) n → pickOf x ≡ pickOfRecord (now (sheet .entry)) r done) ⌝ }
 {
-    let q = record_at(sheet, r);
+    let q = records::record_at(sheet, r);
     if q.kind < 6 {
         return Pick::Make(q);
     }
-    let l = built_child(scratch, out, nodes::wide(q.a));
+    let l = built_child(scratch, out, records::wide(q.a));
     if q.kind == 8 {
         return rules::neg_rule(l, q.c);
     }
-    two_rule(q.kind, l, built_child(scratch, out, nodes::wide(q.b)), q.c)
+    two_rule(
+        q.kind,
+        l,
+        built_child(scratch, out, records::wide(q.b)),
+        q.c,
+    )
 }
 
 // Adds a record whose children are added, and hands back the number of nodes.
@@ -96,16 +86,16 @@ fn add_expr(sheet: &[u32], scratch: &mut [u32], out: &mut [u32], r: usize, n: us
     if scratch[r] != 0 {
         return n;
     }
-    let q = record_at(sheet, r);
+    let q = records::record_at(sheet, r);
     if q.kind < 6 {
         return add_record(sheet, scratch, out, r, n);
     }
-    let left = nodes::wide(q.a);
+    let left = records::wide(q.a);
     let one = add_expr(sheet, scratch, out, left, n);
     if q.kind == 8 {
         return add_record(sheet, scratch, out, r, one);
     }
-    let right = nodes::wide(q.b);
+    let right = records::wide(q.b);
     let two = add_expr(sheet, scratch, out, right, one);
     add_record(sheet, scratch, out, r, two)
 }
@@ -125,7 +115,7 @@ pub fn add_names(
     let mut used = n;
     let mut j: usize = 0;
     while j < count {
-        let r = nodes::wide(sheet[at + j]);
+        let r = records::wide(sheet[at + j]);
         used = add_expr(sheet, scratch, out, r, used);
         j += 1;
     }
@@ -141,9 +131,9 @@ fn add_interaction(
     n: usize,
 ) -> usize
     requires { ⌜ Walking (now sheet) (now scratch) (now out) n × RootsInside (length (recordsOf (now sheet))) (now sheet) at ⌝ }
-    ensures { λ u. ⌜ Walks (now (sheet .entry)) (part (at + 4) (messageLength (now (sheet .entry)) at) (now (sheet .entry)) ++ part (at + 2) 1 (now (sheet .entry))) (now (scratch .entry)) (now (out .entry)) n (now (scratch .exit)) (now (out .exit)) u ⌝ }
+    ensures { λ u. ⌜ Walks (now (sheet .entry)) (fieldsAt (now (sheet .entry)) at ++ countAt (now (sheet .entry)) at) (now (scratch .entry)) (now (out .entry)) n (now (scratch .exit)) (now (out .exit)) u ⌝ }
 {
-    let message = nodes::wide(sheet[at + 3]);
+    let message = records::wide(sheet[at + 3]);
     let fields = add_names(sheet, at + 4, message, scratch, out, n);
     add_names(sheet, at + 2, 1, scratch, out, fields)
 }
@@ -164,7 +154,7 @@ pub fn add_interactions(
     let mut from = at;
     let mut i: usize = 0;
     while i < count {
-        let message = nodes::wide(sheet[from + 3]);
+        let message = records::wide(sheet[from + 3]);
         used = add_interaction(sheet, from, scratch, out, used);
         from = from + 4 + message;
         i += 1;

@@ -1,10 +1,11 @@
 use mathlib.Core.Path.{_≡_, sym, ap, subst, _∙_}
-use Prim.Native.Nat.{ℕ, _+_, _-_, _/_, _%_, _≤_, _<_}
+use Prim.Native.Nat.{ℕ, _+_, _-_, _%_, _≤_, _<_}
 use native.Mathlib.Omega.{arith}
 use borrow.Author.Needs.{needs}
 use lib.ListN.{length, getD}
 use Prim.Native.Nat.{pred}
-use Rattle.dag.specs.Memory.{tabulate, flagged, part, nodeNumbers, marksOf}
+use Rattle.records.specs.Access.{part}
+use Rattle.dag.specs.Memory.{tabulate, flagged, nodeNumbers, marksOf}
 use Rattle.dag.proofs.Flags.{flagging-none, flagging-length, flagging-more, next-mark, next-node}
 use Rattle.dag.proofs.finish.flag_nodes.Statement.{statement}
 use Rattle.dag.proofs.finish.flag_nodes.Tie as tie

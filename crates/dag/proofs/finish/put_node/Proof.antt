@@ -1,6 +1,6 @@
 use mathlib.Core.Path.{sym, ap, subst, _∙_}
 use mathlib.Core.Bool.{Bool}
-use Prim.Native.Nat.{_+_, _-_, _/_, _<_}
+use Prim.Native.Nat.{_+_, _-_, _<_}
 use borrow.Author.Needs.{needs}
 use lib.ListN.{length}
 use native.Mathlib.Nat.{add-zero}

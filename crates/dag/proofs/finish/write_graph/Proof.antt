@@ -1,9 +1,9 @@
 use mathlib.Core.Path.{refl}
-use Prim.Native.Nat.{_+_, _-_, _/_, _≤_}
+use Prim.Native.Nat.{_+_, _-_, _≤_}
 use native.Mathlib.Omega.{arith}
 use borrow.Author.Needs.{needs}
 use lib.ListN.{length-set}
-use Rattle.dag.proofs.Adds.{few-records}
+use Rattle.records.proofs.Steps.{few-records}
 use Rattle.dag.proofs.Graphing.{constraints-named, nodes-small, lists-small, room-flagged, interactions-named, four-words, out₂-length, list-small, end-is, graph-written}
 use Rattle.dag.proofs.finish.write_graph.Statement.{statement}
 use Rattle.dag.proofs.finish.write_graph.Tie as tie

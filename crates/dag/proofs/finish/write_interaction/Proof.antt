@@ -1,9 +1,10 @@
 use mathlib.Core.Path.{refl, sym, ap, subst, _∙_}
-use Prim.Native.Nat.{ℕ, _+_, _-_, _/_}
+use Prim.Native.Nat.{ℕ, _+_, _-_}
 use native.Mathlib.Omega.{arith}
 use borrow.Author.Needs.{needs}
 use lib.ListN.{length, getD, set, length-set}
-use Rattle.dag.specs.Memory.{put, part, nodeNumbers, marksOf, Named, renamedWords}
+use Rattle.records.specs.Access.{part}
+use Rattle.dag.specs.Memory.{put, nodeNumbers, marksOf, Named, renamedWords}
 use Rattle.dag.proofs.Sweeps.{put-length}
 use Rattle.dag.proofs.Naming.{interaction-put, length-two, length-three, renamed-length}
 use Rattle.dag.proofs.finish.write_interaction.Statement.{statement}

@@ -1,10 +1,11 @@
 use mathlib.Core.Path.{_≡_, refl, sym, ap, subst, _∙_}
-use Prim.Native.Nat.{ℕ, _+_, _-_, _/_, _%_, _≤_, _<_}
+use Prim.Native.Nat.{ℕ, _+_, _-_, _%_, _≤_, _<_}
 use native.Mathlib.Omega.{arith}
 use borrow.Author.Needs.{needs}
 use lib.ListN.{length, getD, length-set}
 use Prim.Native.Nat.{pred}
-use Rattle.dag.specs.Memory.{put, part, nodeNumbers, marksOf}
+use Rattle.records.specs.Access.{part}
+use Rattle.dag.specs.Memory.{put, nodeNumbers, marksOf}
 use Rattle.dag.proofs.Sweeps.{put-none}
 use Rattle.dag.proofs.Naming.{plain-mark, node-small, naming-more}
 use Rattle.dag.proofs.finish.write_names.Statement.{statement}

@@ -4,8 +4,8 @@ use Prim.Native.Nat.{ℕ, _-_, _≤_, _<_}
 use borrow.Author.Needs.{needs}
 use native.Mathlib.Omega.{arith}
 use Rattle.semantics.specs.Graph.{equalRecords}
-use Rattle.dag.specs.Picks.{fiveWords}
-use Rattle.dag.specs.Nodes.{nodeIn}
+use Rattle.records.specs.Access.{fiveWords}
+use Rattle.records.specs.Access.{nodeIn}
 use Rattle.dag.proofs.NodeLaws.{skips}
 use Rattle.dag.proofs.nodes.find_node.Statement.{statement}
 use Rattle.dag.proofs.nodes.find_node.Tie as tie

@@ -1,5 +1,5 @@
 use borrow.Author.Needs.{needs}
-use Rattle.dag.specs.Picks.{fiveWords}
+use Rattle.records.specs.Access.{fiveWords}
 use Rattle.dag.proofs.NodeLaws.{is-there, is-new}
 use Rattle.dag.proofs.nodes.intern_node.Statement.{statement}
 use Rattle.dag.proofs.nodes.intern_node.Tie as tie

@@ -1,6 +1,6 @@
 use native.Mathlib.Omega.{arith}
 use borrow.Author.Needs.{needs}
-use Rattle.dag.specs.Picks.{fiveWords}
+use Rattle.records.specs.Access.{fiveWords}
 use Rattle.dag.proofs.Searches.{from-flat, from-neg, from-left, from-right}
 use Rattle.dag.proofs.nodes.search_from.Statement.{statement}
 use Rattle.dag.proofs.nodes.search_from.Tie as tie

@@ -1,23 +1,24 @@
 use mathlib.Core.Path.{sym, subst}
 use mathlib.Core.List.{List}
-use Prim.Native.Nat.{ℕ, _+_, _-_, _/_, _<_}
+use Prim.Native.Nat.{ℕ, _+_, _-_, _<_}
 use native.Mathlib.Omega.{arith}
 use borrow.Author.Needs.{needs}
 use borrow.Fn.Kinds.{In}
 use borrow.Fn.PlainCycle.{Measures, is, falls, and}
 use Rattle.semantics.specs.Walk.{childrenAt}
 use Rattle.semantics.proofs.Members.{Mem}
-use Rattle.dag.specs.Memory.{recordsOf, Holds}
+use Rattle.records.specs.Access.{recordsOf}
+use Rattle.dag.specs.Memory.{Holds}
+use Rattle.records.proofs.Steps.{child-low, still-new, order-next, there-none, there-one, there-two}
+use Rattle.records.proofs.Visits.{record-inside, none-is, one-is, two-is, has-a, has-b, visit-seen, visit-none, visit-one, visit-two}
 use Rattle.dag.proofs.Steps as steps
-use Rattle.dag.proofs.Visits.{visit-seen, visit-none, visit-one, visit-two}
-use Rattle.dag.proofs.Picking.{record-inside, has-a, has-b}
-use Rattle.dag.proofs.Adds.{none-is, one-is, two-is, still-new, order-next, there-none, there-one, there-two, ready-child, ready-after, adding}
+use Rattle.dag.proofs.Adds.{ready-child, ready-after, adding}
 use Rattle.dag.proofs.walk.add_expr.Kinds as add-expr-kinds
 use Rattle.dag.proofs.walk.add_expr.Reads as add-expr
 use Rattle.dag.proofs.walk.+add_expr.Lts-add_expr as add-expr-lts
 use Rattle.dag.proofs.walk.add_record.Reads as add-record-reads
-use Rattle.dag.proofs.walk.record_at.Reads as record-at-reads
-use Rattle.dag.proofs.nodes.wide.Reads as wide-reads
+use Rattle.records.proofs.record_at.Reads as record-at-reads
+use Rattle.records.proofs.wide.Reads as wide-reads
 use Rattle.dag.proofs.walk.+add_expr.{statement}
 use Rattle.dag.proofs.walk.+add_expr.Tie.{close}
 
@@ -98,7 +99,7 @@ add-expr-add-expr-requires t c κs =
     let record-at = c .before .before .before .before .before .record-at in
     let if2 = c .before .before .before .if2 in
     let wide = c .before .before .wide in
-    (subst (λ (m : ℕ). (wide .result) < m) (p .0) (steps.child-low (a .sheet .now) (p .1 .checked) (a .r) (wide .result) (subst (λ (z : ℕ). Mem z (childrenAt (recordsOf (a .sheet .now)) (a .r))) (sym (wide .ensures)) (has-a (a .sheet .now) (p .1 .checked) (a .r) (p .1 .inside) (record-at .result) (record-at .ensures) (omega (arith, if2 .left))))), ready-child (a .sheet .now) (p .1 .checked) (a .r) (p .1 .inside) (a .scratch .now) (a .out .now) (a .n) (wide .result) (subst (λ (z : ℕ). Mem z (childrenAt (recordsOf (a .sheet .now)) (a .r))) (sym (wide .ensures)) (has-a (a .sheet .now) (p .1 .checked) (a .r) (p .1 .inside) (record-at .result) (record-at .ensures) (omega (arith, if2 .left)))) (p .1))
+    (subst (λ (m : ℕ). (wide .result) < m) (p .0) (child-low (a .sheet .now) (p .1 .checked) (a .r) (wide .result) (subst (λ (z : ℕ). Mem z (childrenAt (recordsOf (a .sheet .now)) (a .r))) (sym (wide .ensures)) (has-a (a .sheet .now) (p .1 .checked) (a .r) (p .1 .inside) (record-at .result) (record-at .ensures) (omega (arith, if2 .left))))), ready-child (a .sheet .now) (p .1 .checked) (a .r) (p .1 .inside) (a .scratch .now) (a .out .now) (a .n) (wide .result) (subst (λ (z : ℕ). Mem z (childrenAt (recordsOf (a .sheet .now)) (a .r))) (sym (wide .ensures)) (has-a (a .sheet .now) (p .1 .checked) (a .r) (p .1 .inside) (record-at .result) (record-at .ensures) (omega (arith, if2 .left)))) (p .1))
 
 add-expr-add-record-requires-2 : (t : ℕ) → add-expr-lts.Need-add-record-requires-2 (claims t) (add-expr-at t) add-expr.Post
 add-expr-add-record-requires-2 t c κs =
@@ -142,7 +143,7 @@ add-expr-add-expr-requires-2 t c κs =
     let add-expr = c .before .before .before .before .before .before .before .before .before .add-expr in
     let if3 = c .before .before .before .if3 in
     let wide2 = c .before .before .wide2 in
-    (subst (λ (m : ℕ). (wide2 .result) < m) (p .0) (steps.child-low (a .sheet .now) (p .1 .checked) (a .r) (wide2 .result) (subst (λ (z : ℕ). Mem z (childrenAt (recordsOf (a .sheet .now)) (a .r))) (sym (wide2 .ensures)) (has-b (a .sheet .now) (p .1 .checked) (a .r) (p .1 .inside) (record-at .result) (record-at .ensures) (omega (arith, if2 .left)) (if3 .left)))), ready-child (a .sheet .now) (p .1 .checked) (a .r) (p .1 .inside) (add-expr .last .1 .0) (add-expr .last .1 .1 .0) (add-expr .result) (wide2 .result) (subst (λ (z : ℕ). Mem z (childrenAt (recordsOf (a .sheet .now)) (a .r))) (sym (wide2 .ensures)) (has-b (a .sheet .now) (p .1 .checked) (a .r) (p .1 .inside) (record-at .result) (record-at .ensures) (omega (arith, if2 .left)) (if3 .left))) (ready-after (a .sheet .now) (p .1 .checked) (a .r) (p .1 .inside) (a .scratch .now) (a .out .now) (a .n) (wide .result) (subst (λ (z : ℕ). Mem z (childrenAt (recordsOf (a .sheet .now)) (a .r))) (sym (wide .ensures)) (has-a (a .sheet .now) (p .1 .checked) (a .r) (p .1 .inside) (record-at .result) (record-at .ensures) (omega (arith, if2 .left)))) (p .1) (add-expr .last .1 .0) (add-expr .last .1 .1 .0) (add-expr .result) (add-expr .kept .1 .1 .0) (add-expr .ensures)))
+    (subst (λ (m : ℕ). (wide2 .result) < m) (p .0) (child-low (a .sheet .now) (p .1 .checked) (a .r) (wide2 .result) (subst (λ (z : ℕ). Mem z (childrenAt (recordsOf (a .sheet .now)) (a .r))) (sym (wide2 .ensures)) (has-b (a .sheet .now) (p .1 .checked) (a .r) (p .1 .inside) (record-at .result) (record-at .ensures) (omega (arith, if2 .left)) (if3 .left)))), ready-child (a .sheet .now) (p .1 .checked) (a .r) (p .1 .inside) (add-expr .last .1 .0) (add-expr .last .1 .1 .0) (add-expr .result) (wide2 .result) (subst (λ (z : ℕ). Mem z (childrenAt (recordsOf (a .sheet .now)) (a .r))) (sym (wide2 .ensures)) (has-b (a .sheet .now) (p .1 .checked) (a .r) (p .1 .inside) (record-at .result) (record-at .ensures) (omega (arith, if2 .left)) (if3 .left))) (ready-after (a .sheet .now) (p .1 .checked) (a .r) (p .1 .inside) (a .scratch .now) (a .out .now) (a .n) (wide .result) (subst (λ (z : ℕ). Mem z (childrenAt (recordsOf (a .sheet .now)) (a .r))) (sym (wide .ensures)) (has-a (a .sheet .now) (p .1 .checked) (a .r) (p .1 .inside) (record-at .result) (record-at .ensures) (omega (arith, if2 .left)))) (p .1) (add-expr .last .1 .0) (add-expr .last .1 .1 .0) (add-expr .result) (add-expr .kept .1 .1 .0) (add-expr .ensures)))
 
 add-expr-add-record-requires-3 : (t : ℕ) → add-expr-lts.Need-add-record-requires-3 (claims t) (add-expr-at t) add-expr.Post
 add-expr-add-record-requires-3 t c κs =

@@ -1,9 +1,11 @@
 use mathlib.Core.Path.{subst}
 use mathlib.Core.List.{_++_}
-use Prim.Native.Nat.{ℕ, _+_, _-_, _/_}
+use Prim.Native.Nat.{ℕ, _+_, _-_}
 use borrow.Author.Needs.{needs}
-use Rattle.dag.specs.Memory.{part, Walks}
-use Rattle.dag.proofs.Rooting.{message-inside, count-inside, names-below, walking-after, walks-both}
+use Rattle.records.specs.Access.{part}
+use Rattle.dag.specs.Memory.{Walks}
+use Rattle.records.proofs.Rooting.{message-inside, count-inside, names-below}
+use Rattle.dag.proofs.Rooting.{walking-after, walks-both}
 use Rattle.dag.proofs.walk.add_interaction.Statement.{statement}
 use Rattle.dag.proofs.walk.add_interaction.Tie as tie
 
@@ -38,7 +40,7 @@ add-names-requires-2 c κs =
     let p = c .before .before .before .before .before .before .before .before .before .before .before .before .before .before .pre in
     let wide = c .before .before .before .before .before .before .before .before .before .wide in
     let add-names = c .before .before .before .before .before .before .add-names in
-    (walking-after (a .sheet .now) _ (names-below (a .sheet .now) (a .at) (p .1) ((a .at) + 4) (wide .result) (message-inside (a .sheet .now) (a .at) (p .1) (wide .result) (wide .ensures))) (a .scratch .now) (a .out .now) (a .n) (add-names .last .1 .1 .1 .0) (add-names .last .1 .1 .1 .1 .0) (add-names .result) (p .0) (add-names .kept .1 .1 .1 .1 .0) (add-names .ensures), count-inside (a .sheet .now) (a .at) (p .1))
+    (walking-after (a .sheet .now) _ (names-below (a .sheet .now) ((a .at) + 4) (wide .result) (message-inside (a .sheet .now) (a .at) (p .1) (wide .result) (wide .ensures))) (a .scratch .now) (a .out .now) (a .n) (add-names .last .1 .1 .1 .0) (add-names .last .1 .1 .1 .1 .0) (add-names .result) (p .0) (add-names .kept .1 .1 .1 .1 .0) (add-names .ensures), count-inside (a .sheet .now) (a .at) (p .1))
 
 same-length : tie.Need-same-length
 same-length c = search needs
@@ -53,7 +55,7 @@ returns c =
     let wide = c .before .before .before .before .before .before .before .before .before .before .before .before .before .before .wide in
     let add-names = c .before .before .before .before .before .before .before .before .before .before .before .add-names in
     let add-names2 = c .before .before .before .before .add-names2 in
-    subst (λ (k : ℕ). Walks (a .sheet .now) (part ((a .at) + 4) k (a .sheet .now) ++ part ((a .at) + 2) 1 (a .sheet .now)) (a .scratch .now) (a .out .now) (a .n) (add-names2 .last .1 .1 .1 .0) (add-names2 .last .1 .1 .1 .1 .0) (add-names2 .result)) (wide .ensures) (walks-both (a .sheet .now) (p .0 .checked) _ _ (names-below (a .sheet .now) (a .at) (p .1) ((a .at) + 4) (wide .result) (message-inside (a .sheet .now) (a .at) (p .1) (wide .result) (wide .ensures))) (a .scratch .now) (a .out .now) (a .n) (add-names .last .1 .1 .1 .0) (add-names .last .1 .1 .1 .1 .0) (add-names .result) (add-names2 .last .1 .1 .1 .0) (add-names2 .last .1 .1 .1 .1 .0) (add-names2 .result) (add-names .ensures) (add-names2 .ensures))
+    subst (λ (k : ℕ). Walks (a .sheet .now) (part ((a .at) + 4) k (a .sheet .now) ++ part ((a .at) + 2) 1 (a .sheet .now)) (a .scratch .now) (a .out .now) (a .n) (add-names2 .last .1 .1 .1 .0) (add-names2 .last .1 .1 .1 .1 .0) (add-names2 .result)) (wide .ensures) (walks-both (a .sheet .now) (p .0) _ _ (names-below (a .sheet .now) ((a .at) + 4) (wide .result) (message-inside (a .sheet .now) (a .at) (p .1) (wide .result) (wide .ensures))) (add-names .last .1 .1 .1 .0) (add-names .last .1 .1 .1 .1 .0) (add-names .result) (add-names2 .last .1 .1 .1 .0) (add-names2 .last .1 .1 .1 .1 .0) (add-names2 .result) (add-names .ensures) (add-names2 .ensures))
 
 pub add-interaction-spec : {M : Type 1} → statement M
 add-interaction-spec =

@@ -1,9 +1,10 @@
 use mathlib.Core.Path.{_≡_, sym, subst}
-use Prim.Native.Nat.{ℕ, _+_, _-_, _/_, _<_}
+use Prim.Native.Nat.{ℕ, _+_, _-_, _<_}
 use native.Mathlib.Omega.{arith}
 use borrow.Author.Needs.{needs}
 use lib.ListN.{length}
-use Rattle.dag.specs.Memory.{part, recordsOf, Walks}
+use Rattle.records.specs.Access.{part, recordsOf}
+use Rattle.dag.specs.Memory.{Walks}
 use Rattle.dag.proofs.Rooting.{Naming, naming-none, naming-walking, naming-length, naming-more, ready-root}
 use Rattle.dag.proofs.walk.add_names.Statement.{statement}
 use Rattle.dag.proofs.walk.add_names.Tie as tie

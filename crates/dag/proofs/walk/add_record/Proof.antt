@@ -1,13 +1,15 @@
 use mathlib.Core.Path.{sym, ap, subst, _∙_}
 use mathlib.Core.List.{_∷_}
-use Prim.Native.Nat.{ℕ, _-_, _/_}
+use Prim.Native.Nat.{ℕ, _-_}
 use native.Mathlib.Omega.{arith}
 use borrow.Author.Needs.{needs}
 use lib.ListN.{set}
-use Rattle.dag.specs.Picks.{fiveWords, pickOf}
+use Rattle.records.specs.Access.{fiveWords}
+use Rattle.dag.specs.Picks.{pickOf}
 use Rattle.dag.specs.Memory.{builtOf, Holds}
+use Rattle.records.proofs.Steps.{few-records}
 use Rattle.dag.proofs.Steps as steps
-use Rattle.dag.proofs.Adds.{few-records, present-small, made-small, room-more, search-inside, search-none}
+use Rattle.dag.proofs.Adds.{present-small, made-small, room-more, search-inside, search-none}
 use Rattle.dag.proofs.walk.add_record.Statement.{statement}
 use Rattle.dag.proofs.walk.add_record.Tie as tie
 

@@ -1,11 +1,12 @@
 use mathlib.Core.Path.{sym, subst, _∙_}
-use Prim.Native.Nat.{ℕ, _-_, _/_}
+use Prim.Native.Nat.{ℕ, _-_}
 use native.Mathlib.Omega.{arith}
 use borrow.Author.Needs.{needs}
 use Rattle.semantics.specs.Walk.{childrenAt}
 use Rattle.semantics.proofs.Members.{Mem}
-use Rattle.dag.specs.Memory.{recordsOf}
-use Rattle.dag.proofs.Picking.{Reads, record-inside, child-there, has-a, has-b, picks-flat, picks-neg, picks-two}
+use Rattle.records.specs.Access.{recordsOf}
+use Rattle.records.proofs.Visits.{record-inside, has-a, has-b}
+use Rattle.dag.proofs.Picking.{Reads, child-there, picks-flat, picks-neg, picks-two}
 use Rattle.dag.proofs.walk.pick_node.Statement.{statement}
 use Rattle.dag.proofs.walk.pick_node.Tie as tie
 
