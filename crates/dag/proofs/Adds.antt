@@ -2,7 +2,7 @@
 use mathlib.Core.Path.{_≡_, refl, sym, ap, subst, _∙_}
 use mathlib.Core.Bool.{false}
 use mathlib.Core.List.{List, _∷_}
-use Prim.Native.Nat.{ℕ, suc, _+_, _*_, _-_, _≤_, _<_}
+use Prim.Native.Nat.{ℕ, suc, _+_, _*_, _≤_, _<_}
 use native.Mathlib.Omega.{arith}
 use lib.Dec.{eqb}
 use lib.ListN.{length}
@@ -18,14 +18,14 @@ use Rattle.semantics.specs.Graph.{Built, setNum, takeIn, addRecord, build, find
 use Rattle.semantics.proofs.Basics.{cond-true}
 use Rattle.semantics.proofs.Members.{Mem, mem-here}
 use Rattle.semantics.proofs.Records.{LowRecord, each-low}
-use Rattle.semantics.proofs.Orders.{distinct-length}
 use Rattle.records.specs.Access.{recordsOf}
 use Rattle.records.specs.Orders.{Order, There}
 use Rattle.records.proofs.Steps.{order-more, child-inside, order-next}
-use Rattle.dag.specs.Nodes.{NoneBefore, aboveAll}
-use Rattle.dag.specs.Memory.{builtOf, Holds, Ready, Adding, pickOfRecord}
-use Rattle.dag.proofs.Steps as steps
-use Rattle.dag.proofs.Searches.{from-inside, from-none}
+use Rattle.nodes.specs.Nodes.{NoneBefore, aboveAll}
+use Rattle.nodes.specs.Memory.{builtOf, Holds}
+use Rattle.nodes.proofs.States as states
+use Rattle.nodes.proofs.Searches.{from-inside, from-none}
+use Rattle.dag.specs.Walking.{Ready, Adding, pickOfRecord}
 
 -- The number that a record gets.
 module _ (b : Built) (r : ℕ) where
@@ -44,15 +44,11 @@ module _ (ws : List ℕ) (checked : check prime ws ≡ good (readSheet ws)) wher
   abbrev ch : ℕ → List ℕ
   ch = childrenAt (recordsOf ws)
 
-  pub num-small : (done : List ℕ) → Order ws done → (i : ℕ) → Mem i done → builtOf ws done .num i < E
-  num-small done o i m =
-      omega (arith, steps.num-below ws checked done o i m, steps.kept ws checked done o .few, distinct-length E done (o .distinct) (o .below))
-
   module _ (r : ℕ) (l : r < E) where
     -- A record whose children are there.
     module _ (done : List ℕ) (o : Order ws done) (new : member r done ≡ false) (there : There ws r done) where
       num-next : builtOf ws (r ∷ done) .num r < E
-      num-next = num-small (r ∷ done) (order-more ws checked done r o l new there) r (mem-here r done)
+      num-next = states.num-small ws checked (r ∷ done) (order-more ws checked done r o l new there) r (mem-here r done)
 
       pub present-small : (k : ℕ) → graph.present k ≡ pickOfRecord ws r done → k < E
       unfolding builtOf build addRecord
@@ -72,7 +68,7 @@ module _ (ws : List ℕ) (checked : check prime ws ≡ good (readSheet ws)) wher
         lows =
             each-low prime 0 (intern q ns)
             (subst (λ (x : graph.Pick). Each (GoodRecord prime) 0 (takeIn (builtOf ws done) r x .nodes)) (sym e)
-            (steps.kept ws checked (r ∷ done) (order-more ws checked done r o l new there) .good))
+            (states.kept ws checked (r ∷ done) (order-more ws checked done r o l new there) .good))
 
         pub search-inside : (n : ℕ) → n ≡ length (builtOf ws done .nodes) → from ≤ n
         unfolding ns
@@ -84,7 +80,7 @@ module _ (ws : List ℕ) (checked : check prime ws ≡ good (readSheet ws)) wher
 
       -- Room for its node.
       pub room-more : (scratch out : List ℕ) (n : ℕ) → Holds ws done scratch out n → 4 + 5 * E ≤ length out → 4 + 5 * (n + 1) ≤ length out
-      room-more scratch out n h room = omega (arith, h .count-is, steps.few-nodes ws checked done r o l new)
+      room-more scratch out n h room = omega (arith, h .count-is, states.few-nodes ws checked done r o l new)
 
     -- What the calls ask: for a child, and for the record again when a child is visited.
     pub ready-child : (scratch out : List ℕ) (n x : ℕ) → Mem x (ch r) → Ready ws r scratch out n → Ready ws x scratch out n

@@ -1,17 +1,7 @@
-pub mod RuleLaws
-pub mod NodeLaws
-pub mod Marks
 pub mod Steps
-pub mod Searches
-pub mod Flags
-pub mod Sweeps
-pub mod Naming
 pub mod Picking
 pub mod Adds
 pub mod Rooting
-pub mod Renaming
-pub mod Closing
-pub mod Graphing
 pub mod Starts
 pub mod Outcomes
 pub mod Demands

@@ -14,15 +14,16 @@ use Rattle.semantics.specs.Check.{readSheet, check}
 use Rattle.semantics.specs.Graph.{graphOf}
 use Rattle.semantics.specs.Call.{Result, outcome, needs, result, builderCall, zeros, paddedAll}
 use Rattle.semantics.proofs.Basics.{cond-true, cond-false}
-use Rattle.records.proofs.Reading.{read-found}
 use Rattle.sheet.specs.declared.Refusal.{Refusal}
 use Rattle.sheet.specs.declared.Checked.{Checked}
 use Rattle.sheet.specs.declared.Checked.the-variants as checked
 use Rattle.sheet.specs.declared.Written.the-variants.{Words, Refused}
 use Rattle.sheet.specs.Scans.{checkedOf}
 use Rattle.sheet.proofs.Answers.{on-found, on-refused}
+use Rattle.records.proofs.Reading.{read-found}
+use Rattle.graph_lists.specs.Lists.{graphOut, graphLength}
 use Rattle.dag.specs.Calls.{builtOutcome, Clear}
-use Rattle.dag.specs.Memory.{Starting, graphOut, graphLength}
+use Rattle.dag.specs.Walking.{Starting}
 
 pub clear-found : (ws : List ℕ) (t : Sheet) → check prime ws ≡ good t → (records words : ℕ) → records ≡ length (t .records) → words ≡ lengthOf t
     → (scratch out : List ℕ) → scratch ≡ zeros (length scratch) → out ≡ zeros (length out) → Clear ws records words scratch out

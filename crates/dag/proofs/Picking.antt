@@ -23,12 +23,13 @@ use Rattle.records.specs.Access.{fiveWords, nodeIn, recordsOf}
 use Rattle.records.specs.Orders.{Order, There}
 use Rattle.records.proofs.Steps.{child-low}
 use Rattle.records.proofs.Visits.{kind-limits, is, kind-is, a-is, b-is, c-is, has-a, has-b}
-use Rattle.dag.specs.declared.rules.Child.{Child}
-use Rattle.dag.specs.Picks.{viewOf}
-use Rattle.dag.specs.Memory.{builtOf, Holds, pickOfRecord}
-use Rattle.dag.proofs.RuleLaws.{seen, view-add, view-sub, view-mul, view-neg}
-use Rattle.dag.proofs.NodeLaws.{child-sees}
-use Rattle.dag.proofs.Steps as steps
+use Rattle.nodes.specs.declared.rules.Child.{Child}
+use Rattle.nodes.specs.Picks.{viewOf}
+use Rattle.nodes.specs.Memory.{builtOf, Holds}
+use Rattle.nodes.proofs.RuleLaws.{seen, view-add, view-sub, view-mul, view-neg}
+use Rattle.nodes.proofs.NodeLaws.{child-sees}
+use Rattle.nodes.proofs.States as states
+use Rattle.dag.specs.Walking.{pickOfRecord}
 
 -- What a rule gives, by the kind of the record.
 module _ (p : ℕ) (b : Built) (r : Record) where
@@ -89,16 +90,16 @@ module _ (ws : List ℕ) (checked : check prime ws ≡ good (readSheet ws)) (r :
 
         -- Where a child's node stands.
         num-is : getD scratch c 0 ≡ suc (B .num c)
-        num-is = steps.scratch-num ws done scratch out n h c below (there c m)
+        num-is = states.scratch-num ws done scratch out n h c below (there c m)
 
         pub child-there : 4 + 5 * length (recordsOf ws) ≤ length out
             → (c < length scratch) × (0 < getD scratch c 0) × (4 + 5 * (getD scratch c 0 - 1) + 5 ≤ length out)
         child-there room =
-            let few = steps.kept ws checked done o .few in
+            let few = states.kept ws checked done o .few in
             let d = distinct-length (length (recordsOf ws)) done (o .distinct) (o .below) in (
-              omega (arith, below, steps.scratch-length ws done scratch out n h),
+              omega (arith, below, states.scratch-length ws done scratch out n h),
               omega (arith, num-is),
-              omega (arith, num-is, steps.num-below ws checked done o c (there c m)),
+              omega (arith, num-is, states.num-below ws checked done o c (there c m)),
             )
 
         module _ (x : Child) (f : Reads scratch out c x) where
@@ -110,7 +111,7 @@ module _ (ws : List ℕ) (checked : check prime ws ≡ good (readSheet ws)) (r :
 
           child-view : viewOf x ≡ seen (recordAt (B .nodes) (B .num c))
           child-view =
-              child-sees out (length out) (B .nodes) (h .out-is) (B .num c) (steps.num-below ws checked done o c (there c m)) x
+              child-sees out (length out) (B .nodes) (h .out-is) (B .num c) (states.num-below ws checked done o c (there c m)) x
               (f .1 ∙ ap (λ (k : ℕ). nodeIn out k .kind) at-num) (f .2 ∙ ap (λ (k : ℕ). nodeIn out k .a) at-num)
 
       pub picks-flat : q .kind < 6 → graph.make (fiveWords q) ≡ pickOfRecord ws r done

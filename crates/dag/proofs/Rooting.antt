@@ -9,8 +9,9 @@ use Rattle.semantics.proofs.Members.{Below}
 use Rattle.records.specs.Access.{recordsOf, part, messageLength, countAt, fieldsAt, rootWords, NamesInside, RootsInside, AllRootsInside}
 use Rattle.records.specs.Orders.{Order}
 use Rattle.records.proofs.Rooting.{order-walk, visiting-none, visiting-both, visiting-name, names-below, names-fewer, roots-below, Passed, passed-none, passed-done, passed-next, passed-more}
-use Rattle.dag.specs.Memory.{Holds, Ready, Walking, Walks}
-use Rattle.dag.proofs.Steps as steps
+use Rattle.nodes.specs.Memory.{Holds}
+use Rattle.nodes.proofs.States as states
+use Rattle.dag.specs.Walking.{Ready, Walking, Walks}
 
 -- The state of scratch, output and number of nodes, over the records added.
 abbrev State : (ws s o : List ℕ) (n : ℕ) (done : List ℕ) → Type 0
@@ -44,7 +45,7 @@ module _ (ws : List ℕ) where
   ready-root r l s o n p = record { checked = p .checked; inside = l; room = p .room; done = p .done; order = p .order; holds = p .holds }
 
   pub walking-length : (s o : List ℕ) (n : ℕ) → Walking ws s o n → length s ≡ E
-  walking-length s o n p = steps.scratch-length ws (p .done) s o n (p .holds)
+  walking-length s o n p = states.scratch-length ws (p .done) s o n (p .holds)
 
 -- What holds while the records of a part are added.
 pub record Naming (ws : List ℕ) (at count : ℕ) (s₀ o₀ : List ℕ) (n : ℕ) (s o : List ℕ) (u j : ℕ) : Type 0 where

@@ -12,9 +12,11 @@ use Rattle.semantics.specs.Call.{zeros, padded}
 use Rattle.records.specs.Access.{recordsOf, constraintsAt, interactionsAt, part, rootWords, NamesInside, AllRootsInside}
 use Rattle.records.proofs.Rooting.{order-none, names-below}
 use Rattle.records.proofs.Reading.{constraints-are, constraints-inside, interactions-stand, interactions-inside, roots-are}
-use Rattle.dag.specs.Memory.{tabulate, mark, nodesOut, builtOf, Holds, Walking, Walks, Starting, Finishing}
+use Rattle.nodes.specs.Memory.{tabulate, mark, nodesOut, builtOf, Holds}
+use Rattle.graph_lists.specs.Lists.{Finishing}
+use Rattle.graph_lists.proofs.Graphing.{encode-long}
+use Rattle.dag.specs.Walking.{Walking, Walks, Starting}
 use Rattle.dag.proofs.Rooting.{walking-after, walks-both}
-use Rattle.dag.proofs.Graphing.{encode-long}
 
 table-zeros : (k n : ℕ) (f : ℕ → ℕ) → ((i : ℕ) → f i ≡ 0) → replicate n 0 ≡ tabulate k n f
 unfolding tabulate

@@ -1,5 +1,3 @@
-pub mod Picks
-pub mod Memory
-pub mod Nodes
+pub mod Walking
 pub mod Calls
 pub mod Demand

@@ -1,8 +1,8 @@
 // The graph of a checked sheet.
 ghost use mathlib.Core.Path.{_≡_};
 ghost use lib.ListN.{length};
-ghost use Rattle.dag.specs.Memory.{Starting, graphOut, graphLength};
-use crate::finish;
+ghost use Rattle.graph_lists.specs.Lists.{graphOut, graphLength};
+ghost use Rattle.dag.specs.Walking.{Starting};
 use crate::walk;
 
 // Adds what the constraints name, then what the interactions name, and writes the lists; hands back how many words the graph has.
@@ -15,5 +15,5 @@ pub fn build_graph(sheet: &[u32], scratch: &mut [u32], out: &mut [u32]) -> usize
     let interactions = records::wide(sheet[3]);
     let named = walk::add_names(sheet, at, constraints, scratch, out, 0);
     let n = walk::add_interactions(sheet, at + constraints, interactions, scratch, out, named);
-    finish::write_graph(sheet, at, constraints, interactions, scratch, out, n)
+    graph_lists::write_graph(sheet, at, constraints, interactions, scratch, out, n)
 }

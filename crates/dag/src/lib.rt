@@ -5,10 +5,7 @@ ghost use Rattle.semantics.specs.Arithmetic.{prime};
 ghost use Rattle.semantics.specs.Call.{builderCall, zeros};
 ghost use Rattle.dag.specs.Calls.{builtOutcome, Clear};
 
-mod finish;
 mod graph;
-mod nodes;
-mod rules;
 mod walk;
 
 use sheet::Checked;

@@ -8,14 +8,14 @@ ghost use lib.ListN.{length, getD};
 ghost use Rattle.semantics.specs.Arithmetic.{prime};
 ghost use Rattle.semantics.specs.Graph.{addRule, subRule, mulRule};
 ghost use Rattle.semantics.specs.Walk.{member, visit, childrenAt};
-ghost use Rattle.dag.specs.Picks.{pickOf, viewOf};
 ghost use Rattle.records.specs.Access.{nodeIn, recordsOf, part, fieldsAt, countAt, rootWords, NamesInside, RootsInside, AllRootsInside};
 ghost use Rattle.records.specs.Orders.{Order, There};
-ghost use Rattle.dag.specs.Memory.{Holds, Ready, Adding, pickOfRecord, Walking, Walks};
-use crate::nodes;
-use crate::rules;
-use crate::rules::Child;
-use crate::rules::Pick;
+ghost use Rattle.nodes.specs.Picks.{pickOf, viewOf};
+ghost use Rattle.nodes.specs.Memory.{Holds};
+ghost use Rattle.dag.specs.Walking.{Ready, Adding, pickOfRecord, Walking, Walks};
+use nodes::rules;
+use nodes::rules::Child;
+use nodes::rules::Pick;
 
 // What the rules look at in the node of a record that is added.
 fn built_child(scratch: &[u32], out: &[u32], c: usize) -> Child

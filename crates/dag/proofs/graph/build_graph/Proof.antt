@@ -3,7 +3,7 @@ use Prim.Native.Nat.{ℕ, _+_}
 use native.Mathlib.Omega.{arith}
 use borrow.Author.Needs.{needs}
 use Rattle.records.proofs.Reading.{head-inside, head-counts, counts-small}
-use Rattle.dag.specs.Memory.{graphOut}
+use Rattle.graph_lists.specs.Lists.{graphOut}
 use Rattle.dag.proofs.Starts.{start-walking, names-inside, walking-next, all-inside, finishing}
 use Rattle.dag.proofs.graph.build_graph.Statement.{statement}
 use Rattle.dag.proofs.graph.build_graph.Tie as tie

@@ -1,10 +1,10 @@
 use mathlib.Core.Path.{subst}
 use mathlib.Core.List.{_++_}
-use Prim.Native.Nat.{ℕ, _+_, _-_}
+use Prim.Native.Nat.{ℕ, _+_}
 use borrow.Author.Needs.{needs}
 use Rattle.records.specs.Access.{part}
-use Rattle.dag.specs.Memory.{Walks}
 use Rattle.records.proofs.Rooting.{message-inside, count-inside, names-below}
+use Rattle.dag.specs.Walking.{Walks}
 use Rattle.dag.proofs.Rooting.{walking-after, walks-both}
 use Rattle.dag.proofs.walk.add_interaction.Statement.{statement}
 use Rattle.dag.proofs.walk.add_interaction.Tie as tie

@@ -4,7 +4,7 @@ use native.Mathlib.Omega.{arith}
 use borrow.Author.Needs.{needs}
 use lib.ListN.{length}
 use Rattle.records.specs.Access.{part, recordsOf}
-use Rattle.dag.specs.Memory.{Walks}
+use Rattle.dag.specs.Walking.{Walks}
 use Rattle.dag.proofs.Rooting.{Naming, naming-none, naming-walking, naming-length, naming-more, ready-root}
 use Rattle.dag.proofs.walk.add_names.Statement.{statement}
 use Rattle.dag.proofs.walk.add_names.Tie as tie

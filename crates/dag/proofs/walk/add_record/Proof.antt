@@ -1,13 +1,14 @@
 use mathlib.Core.Path.{sym, ap, subst, _∙_}
 use mathlib.Core.List.{_∷_}
-use Prim.Native.Nat.{ℕ, _-_}
+use Prim.Native.Nat.{ℕ}
 use native.Mathlib.Omega.{arith}
 use borrow.Author.Needs.{needs}
 use lib.ListN.{set}
 use Rattle.records.specs.Access.{fiveWords}
-use Rattle.dag.specs.Picks.{pickOf}
-use Rattle.dag.specs.Memory.{builtOf, Holds}
 use Rattle.records.proofs.Steps.{few-records}
+use Rattle.nodes.specs.Picks.{pickOf}
+use Rattle.nodes.specs.Memory.{builtOf, Holds}
+use Rattle.nodes.proofs.States as states
 use Rattle.dag.proofs.Steps as steps
 use Rattle.dag.proofs.Adds.{present-small, made-small, room-more, search-inside, search-none}
 use Rattle.dag.proofs.walk.add_record.Statement.{statement}
@@ -33,7 +34,7 @@ slice-write-scratch : tie.Need-slice-write-scratch
 slice-write-scratch c =
     let a = c .before .before .before .before .before .before .before .before .before .args in
     let p = c .before .before .before .before .before .before .before .before .before .pre in
-    omega (arith, p .ready .inside, steps.scratch-length (a .sheet .now) (p .ready .done) (a .scratch .now) (a .out .now) (a .n) (p .ready .holds))
+    omega (arith, p .ready .inside, states.scratch-length (a .sheet .now) (p .ready .done) (a .scratch .now) (a .out .now) (a .n) (p .ready .holds))
 
 enum-known-q : tie.Need-enum-known-q
 enum-known-q c = search needs
@@ -74,7 +75,7 @@ slice-write-scratch-2 : tie.Need-slice-write-scratch-2
 slice-write-scratch-2 c =
     let a = c .before .before .before .before .before .before .before .before .before .before .before .before .before .before .before .args in
     let p = c .before .before .before .before .before .before .before .before .before .before .before .before .before .before .before .pre in
-    omega (arith, p .ready .inside, steps.scratch-length (a .sheet .now) (p .ready .done) (a .scratch .now) (a .out .now) (a .n) (p .ready .holds))
+    omega (arith, p .ready .inside, states.scratch-length (a .sheet .now) (p .ready .done) (a .scratch .now) (a .out .now) (a .n) (p .ready .holds))
 
 same-length : tie.Need-same-length
 same-length c = search needs
