@@ -15,8 +15,9 @@ use Rattle.records.proofs.Reading.{constraints-are, constraints-inside, interac
 use Rattle.nodes.specs.Memory.{tabulate, mark, nodesOut, builtOf, Holds}
 use Rattle.graph_lists.specs.Lists.{Finishing}
 use Rattle.graph_lists.proofs.Graphing.{encode-long}
-use Rattle.dag.specs.Walking.{Walking, Walks, Starting}
-use Rattle.dag.proofs.Rooting.{walking-after, walks-both}
+use Rattle.graph_walk.specs.Walking.{Walking, Walks}
+use Rattle.graph_walk.proofs.Rooting.{walking-after, walks-both}
+use Rattle.dag.specs.Calls.{Starting}
 
 table-zeros : (k n : ℕ) (f : ℕ → ℕ) → ((i : ℕ) → f i ≡ 0) → replicate n 0 ≡ tabulate k n f
 unfolding tabulate

@@ -2,8 +2,7 @@
 ghost use mathlib.Core.Path.{_≡_};
 ghost use lib.ListN.{length};
 ghost use Rattle.graph_lists.specs.Lists.{graphOut, graphLength};
-ghost use Rattle.dag.specs.Walking.{Starting};
-use crate::walk;
+ghost use Rattle.dag.specs.Calls.{Starting};
 
 // Adds what the constraints name, then what the interactions name, and writes the lists; hands back how many words the graph has.
 pub fn build_graph(sheet: &[u32], scratch: &mut [u32], out: &mut [u32]) -> usize
@@ -13,7 +12,14 @@ pub fn build_graph(sheet: &[u32], scratch: &mut [u32], out: &mut [u32]) -> usize
     let at = records::constraints_at(sheet);
     let constraints = records::wide(sheet[2]);
     let interactions = records::wide(sheet[3]);
-    let named = walk::add_names(sheet, at, constraints, scratch, out, 0);
-    let n = walk::add_interactions(sheet, at + constraints, interactions, scratch, out, named);
+    let named = graph_walk::add_names(sheet, at, constraints, scratch, out, 0);
+    let n = graph_walk::add_interactions(
+        sheet,
+        at + constraints,
+        interactions,
+        scratch,
+        out,
+        named,
+    );
     graph_lists::write_graph(sheet, at, constraints, interactions, scratch, out, n)
 }

@@ -6,7 +6,6 @@ ghost use Rattle.semantics.specs.Call.{builderCall, zeros};
 ghost use Rattle.dag.specs.Calls.{builtOutcome, Clear};
 
 mod graph;
-mod walk;
 
 use sheet::Checked;
 use sheet::Refusal;

@@ -9,10 +9,10 @@ use Rattle.records.proofs.Steps.{few-records}
 use Rattle.nodes.specs.Picks.{pickOf}
 use Rattle.nodes.specs.Memory.{builtOf, Holds}
 use Rattle.nodes.proofs.States as states
-use Rattle.dag.proofs.Steps as steps
-use Rattle.dag.proofs.Adds.{present-small, made-small, room-more, search-inside, search-none}
-use Rattle.dag.proofs.walk.add_record.Statement.{statement}
-use Rattle.dag.proofs.walk.add_record.Tie as tie
+use Rattle.graph_walk.proofs.Steps as steps
+use Rattle.graph_walk.proofs.Adds.{present-small, made-small, room-more, search-inside, search-none}
+use Rattle.graph_walk.proofs.add_record.Statement.{statement}
+use Rattle.graph_walk.proofs.add_record.Tie as tie
 
 pick-node-requires : tie.Need-pick-node-requires
 pick-node-requires c κs = search needs

@@ -25,7 +25,7 @@ use Rattle.nodes.specs.Nodes.{NoneBefore, aboveAll}
 use Rattle.nodes.specs.Memory.{builtOf, Holds}
 use Rattle.nodes.proofs.States as states
 use Rattle.nodes.proofs.Searches.{from-inside, from-none}
-use Rattle.dag.specs.Walking.{Ready, Adding, pickOfRecord}
+use Rattle.graph_walk.specs.Walking.{Ready, Adding, pickOfRecord}
 
 -- The number that a record gets.
 module _ (b : Built) (r : ℕ) where

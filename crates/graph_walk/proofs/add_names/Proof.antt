@@ -4,10 +4,10 @@ use native.Mathlib.Omega.{arith}
 use borrow.Author.Needs.{needs}
 use lib.ListN.{length}
 use Rattle.records.specs.Access.{part, recordsOf}
-use Rattle.dag.specs.Walking.{Walks}
-use Rattle.dag.proofs.Rooting.{Naming, naming-none, naming-walking, naming-length, naming-more, ready-root}
-use Rattle.dag.proofs.walk.add_names.Statement.{statement}
-use Rattle.dag.proofs.walk.add_names.Tie as tie
+use Rattle.graph_walk.specs.Walking.{Walks}
+use Rattle.graph_walk.proofs.Rooting.{Naming, naming-none, naming-walking, naming-length, naming-more, ready-root}
+use Rattle.graph_walk.proofs.add_names.Statement.{statement}
+use Rattle.graph_walk.proofs.add_names.Tie as tie
 
 abbrev Inv-loop : tie.InvT-loop
 Inv-loop sheet at count scratch₀ out₀ n used₀ j₀ scratch out used j = Naming sheet at count scratch₀ out₀ n scratch out used j

@@ -6,9 +6,9 @@ use Rattle.semantics.specs.Walk.{childrenAt}
 use Rattle.semantics.proofs.Members.{Mem}
 use Rattle.records.specs.Access.{recordsOf}
 use Rattle.records.proofs.Visits.{record-inside, has-a, has-b}
-use Rattle.dag.proofs.Picking.{Reads, child-there, picks-flat, picks-neg, picks-two}
-use Rattle.dag.proofs.walk.pick_node.Statement.{statement}
-use Rattle.dag.proofs.walk.pick_node.Tie as tie
+use Rattle.graph_walk.proofs.Picking.{Reads, child-there, picks-flat, picks-neg, picks-two}
+use Rattle.graph_walk.proofs.pick_node.Statement.{statement}
+use Rattle.graph_walk.proofs.pick_node.Tie as tie
 
 record-at-requires : tie.Need-record-at-requires
 record-at-requires c κs =

@@ -2,9 +2,9 @@ use Prim.Native.Nat.{_+_, _-_, _≤_}
 use native.Mathlib.Omega.{arith}
 use borrow.Author.Needs.{needs}
 use lib.ListN.{length}
-use Rattle.dag.proofs.Rooting.{Rooting, rooting-none, rooting-walking, rooting-length, rooting-done, next-roots, rooting-more}
-use Rattle.dag.proofs.walk.add_interactions.Statement.{statement}
-use Rattle.dag.proofs.walk.add_interactions.Tie as tie
+use Rattle.graph_walk.proofs.Rooting.{Rooting, rooting-none, rooting-walking, rooting-length, rooting-done, next-roots, rooting-more}
+use Rattle.graph_walk.proofs.add_interactions.Statement.{statement}
+use Rattle.graph_walk.proofs.add_interactions.Tie as tie
 
 abbrev Inv-loop : tie.InvT-loop
 Inv-loop sheet at count scratch₀ out₀ n used₀ from₀ i₀ scratch out used from i = Rooting sheet at count scratch₀ out₀ n scratch out used from i

@@ -11,7 +11,7 @@ use Rattle.records.specs.Orders.{Order}
 use Rattle.records.proofs.Rooting.{order-walk, visiting-none, visiting-both, visiting-name, names-below, names-fewer, roots-below, Passed, passed-none, passed-done, passed-next, passed-more}
 use Rattle.nodes.specs.Memory.{Holds}
 use Rattle.nodes.proofs.States as states
-use Rattle.dag.specs.Walking.{Ready, Walking, Walks}
+use Rattle.graph_walk.specs.Walking.{Ready, Walking, Walks}
 
 -- The state of scratch, output and number of nodes, over the records added.
 abbrev State : (ws s o : List ℕ) (n : ℕ) (done : List ℕ) → Type 0

@@ -14,13 +14,13 @@ use Rattle.records.proofs.record_at.Reads as record-at-reads
 use Rattle.records.proofs.wide.Reads as wide-reads
 use Rattle.nodes.specs.Memory.{Holds}
 use Rattle.nodes.proofs.States as states
-use Rattle.dag.proofs.Adds.{ready-child, ready-after, adding}
-use Rattle.dag.proofs.walk.add_expr.Kinds as add-expr-kinds
-use Rattle.dag.proofs.walk.add_expr.Reads as add-expr
-use Rattle.dag.proofs.walk.+add_expr.Lts-add_expr as add-expr-lts
-use Rattle.dag.proofs.walk.add_record.Reads as add-record-reads
-use Rattle.dag.proofs.walk.+add_expr.{statement}
-use Rattle.dag.proofs.walk.+add_expr.Tie.{close}
+use Rattle.graph_walk.proofs.Adds.{ready-child, ready-after, adding}
+use Rattle.graph_walk.proofs.add_expr.Kinds as add-expr-kinds
+use Rattle.graph_walk.proofs.add_expr.Reads as add-expr
+use Rattle.graph_walk.proofs.+add_expr.Lts-add_expr as add-expr-lts
+use Rattle.graph_walk.proofs.add_record.Reads as add-record-reads
+use Rattle.graph_walk.proofs.+add_expr.{statement}
+use Rattle.graph_walk.proofs.+add_expr.Tie.{close}
 
 abbrev μ-add-expr : Measures 3 add-expr-kinds.ps ℕ
 μ-add-expr κs a = a .1 .1 .1 .0

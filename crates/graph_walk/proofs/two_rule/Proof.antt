@@ -2,8 +2,8 @@ use mathlib.Core.Path.{sym, _∙_}
 use borrow.Author.Needs.{needs}
 use borrow.Author.Tests.{eq-eqb, ne-eqb}
 use Rattle.semantics.proofs.Basics.{cond-true, cond-false}
-use Rattle.dag.proofs.walk.two_rule.Statement.{statement}
-use Rattle.dag.proofs.walk.two_rule.Tie as tie
+use Rattle.graph_walk.proofs.two_rule.Statement.{statement}
+use Rattle.graph_walk.proofs.two_rule.Tie as tie
 
 add-rule-requires : tie.Need-add-rule-requires
 add-rule-requires c κs = search needs

@@ -6,12 +6,10 @@ use Prim.Native.Nat.{ℕ, _+_, _*_, _≤_, _<_}
 use lib.ListN.{length}
 use Rattle.semantics.specs.Arithmetic.{prime}
 use Rattle.semantics.specs.Answer.{good}
-use Rattle.semantics.specs.Sheet.{lengthOf}
 use Rattle.semantics.specs.Check.{readSheet, check}
 use Rattle.semantics.specs.Walk.{member}
 use Rattle.semantics.specs.Value.{nodeOf, recordAt}
 use Rattle.semantics.specs.Graph.{Pick, pick}
-use Rattle.semantics.specs.Call.{zeros}
 use Rattle.records.specs.Access.{recordsOf}
 use Rattle.records.specs.Orders.{Order, There, Visiting}
 use Rattle.nodes.specs.Memory.{builtOf, Holds}
@@ -45,10 +43,3 @@ pub record Walking (ws scratch out : List ℕ) (n : ℕ) : Type 0 where
 -- Scratch and output go from the one to the other as these records are added.
 abbrev pub Walks : (ws roots : List ℕ) (scratch out : List ℕ) (n : ℕ) (scratch′ out′ : List ℕ) (n′ : ℕ) → Type 0
 Walks ws roots scratch out n scratch′ out′ n′ = Visiting ws roots (λ done. Holds ws done scratch out n) (λ done. Holds ws done scratch′ out′ n′)
-
--- What building asks: a checked sheet, scratch of E zeros, and an output of zeros that has room for the sheet.
-pub record Starting (ws scratch out : List ℕ) : Type 0 where
-  pub checked : check prime ws ≡ good (readSheet ws)
-  pub room : lengthOf (readSheet ws) ≤ length out
-  pub scratch-is : scratch ≡ zeros (length (recordsOf ws))
-  pub out-is : out ≡ zeros (length out)

@@ -12,7 +12,7 @@ ghost use Rattle.records.specs.Access.{nodeIn, recordsOf, part, fieldsAt, count
 ghost use Rattle.records.specs.Orders.{Order, There};
 ghost use Rattle.nodes.specs.Picks.{pickOf, viewOf};
 ghost use Rattle.nodes.specs.Memory.{Holds};
-ghost use Rattle.dag.specs.Walking.{Ready, Adding, pickOfRecord, Walking, Walks};
+ghost use Rattle.graph_walk.specs.Walking.{Ready, Adding, pickOfRecord, Walking, Walks};
 use nodes::rules;
 use nodes::rules::Child;
 use nodes::rules::Pick;

@@ -29,7 +29,7 @@ use Rattle.nodes.specs.Memory.{builtOf, Holds}
 use Rattle.nodes.proofs.RuleLaws.{seen, view-add, view-sub, view-mul, view-neg}
 use Rattle.nodes.proofs.NodeLaws.{child-sees}
 use Rattle.nodes.proofs.States as states
-use Rattle.dag.specs.Walking.{pickOfRecord}
+use Rattle.graph_walk.specs.Walking.{pickOfRecord}
 
 -- What a rule gives, by the kind of the record.
 module _ (p : ℕ) (b : Built) (r : Record) where

@@ -4,10 +4,10 @@ use Prim.Native.Nat.{ℕ, _+_}
 use borrow.Author.Needs.{needs}
 use Rattle.records.specs.Access.{part}
 use Rattle.records.proofs.Rooting.{message-inside, count-inside, names-below}
-use Rattle.dag.specs.Walking.{Walks}
-use Rattle.dag.proofs.Rooting.{walking-after, walks-both}
-use Rattle.dag.proofs.walk.add_interaction.Statement.{statement}
-use Rattle.dag.proofs.walk.add_interaction.Tie as tie
+use Rattle.graph_walk.specs.Walking.{Walks}
+use Rattle.graph_walk.proofs.Rooting.{walking-after, walks-both}
+use Rattle.graph_walk.proofs.add_interaction.Statement.{statement}
+use Rattle.graph_walk.proofs.add_interaction.Tie as tie
 
 add-wide : tie.Need-add-wide
 add-wide c = search needs
