@@ -1,5 +1,5 @@
 /*
- * The C library of Suhkelva: packed variables, rule sheets and their blocks.
+ * The C library of Suhkelva: packed variables, rule sheets, their blocks and their graphs.
  *
  * Link libsuhkelva.a, an archive for x86-64 Linux. It is written by
  *     rt staticlib suhkelva        -> target/staticlib/libsuhkelva.a
@@ -40,6 +40,7 @@
  *      9  SUHKELVA_CHALLENGE_REFUSED     the variable is a challenge           0
  *     10  SUHKELVA_PART_TOO_LARGE        part above 255                        0
  *     11  SUHKELVA_OFFSET_TOO_LARGE      offset above 15                       0
+ *     14  SUHKELVA_SCRATCH_TOO_SHORT     scratch is shorter than needed        words needed
  *     15  SUHKELVA_OUTPUT_TOO_SHORT      the output is shorter than needed     elements needed
  *
  * Where several hold, the lowest number is sent. But a sheet's words are read from the front, and the first that fails decides
@@ -68,13 +69,22 @@ extern "C" {
 #define SUHKELVA_CHALLENGE_REFUSED 9u
 #define SUHKELVA_PART_TOO_LARGE 10u
 #define SUHKELVA_OFFSET_TOO_LARGE 11u
+#define SUHKELVA_SCRATCH_TOO_SHORT 14u
 #define SUHKELVA_OUTPUT_TOO_SHORT 15u
 
-/* Kinds of records that are packed: a record is five words, its kind and a to d. */
+/*
+ * Kinds of records: a record is five words, its kind and a to d; a word that its kind does not use is 0. A child is the number
+ * of an earlier record. 1 to 4 are packed.
+ */
 #define SUHKELVA_VARIABLE 1u      /* a entry, b part, c offset, d column */
 #define SUHKELVA_IS_FIRST_ROW 2u  /* a to d are 0 */
 #define SUHKELVA_IS_LAST_ROW 3u   /* the same */
 #define SUHKELVA_IS_TRANSITION 4u /* the same */
+#define SUHKELVA_CONSTANT 5u      /* a value, below 2013265921 */
+#define SUHKELVA_ADD 6u           /* a left child, b right child, c degree word, any */
+#define SUHKELVA_SUB 7u           /* the same */
+#define SUHKELVA_NEG 8u           /* a child, c degree word, any */
+#define SUHKELVA_MUL 9u           /* as Add */
 
 /* Entries of a variable. */
 #define SUHKELVA_PREPROCESSED 0u /* part 0 */
@@ -200,6 +210,29 @@ SuhkelvaWritten suhkelva_read_blocks(const uint8_t *bytes, size_t bytes_len, uin
  * begun, or more; the rest of `out` becomes 0. Refused by 3 to 7, then by 15, place the bytes needed; all of `out` is then 0.
  */
 SuhkelvaWritten suhkelva_write_blocks(const uint32_t *s, size_t s_len, uint8_t *out, size_t out_len);
+
+/* ---- Graphs ---- */
+
+/*
+ * The graph of a sheet: again a sheet, whose records, called nodes, are those that a constraint or an interaction reaches, equal
+ * ones once, each behind its children. Constants are folded; v + 0, 0 + v, v - 0, v * 1 and 1 * v become v; v * 0 and 0 * v
+ * become 0; v + (-w) becomes v - w, and v - (-w) becomes v + w; a node that is left unused by this stays. The constraints of the
+ * graph are node numbers in ascending order, each once, so there may be fewer than in the sheet; its interactions are those of
+ * the sheet in their order, and name nodes. Any column, part, offset and challenge is taken.
+ *
+ * Ask suhkelva_check_sheet first and lend
+ *     scratch   at least `records` words; anything may be in them, and after the call, also a refused one, all of it is 0;
+ *     out       at least `words` words; the graph may be shorter: count says how many words it has, and the rest becomes 0.
+ * 4,096 and 90,116 words are enough for every sheet. The first `count` words of `out` are a sheet for every call above and for
+ * this one; hand on no more than these.
+ *
+ * Refused by 3 to 7; then by 14, place the words of scratch that are needed; then by 15, place the words of output that are
+ * needed. All of scratch and of `out` is then 0.
+ *
+ * Stack. The call recurses once for each record of the longest chain of children, at most 4,096 deep. Where it was measured, on
+ * x86-64, that took 584 KiB, 144 bytes a level; the proofs promise no figure.
+ */
+SuhkelvaWritten suhkelva_build(const uint32_t *s, size_t s_len, uint32_t *scratch, size_t scratch_len, uint32_t *out, size_t out_len);
 
 #ifdef __cplusplus
 }

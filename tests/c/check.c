@@ -226,23 +226,35 @@ static const Wrong wrongs[] = {
 /* Outputs, filled with ones before each call. */
 static uint32_t out_words[ROOM];
 static uint8_t out_bytes[4 * ROOM];
+static uint32_t scratch[ROOM];
 
 static void fill(void)
 {
     memset(out_words, 0xff, sizeof out_words);
+    memset(scratch, 0xff, sizeof scratch);
     memset(out_bytes, 0xff, sizeof out_bytes);
 }
 
 /* Whether the elements from `from` to below `lent` are 0, and what lies beyond what was lent is untouched. */
-static int words_zero(size_t from, size_t lent)
+static int zero(const uint32_t *words, size_t from, size_t lent)
 {
     size_t k;
     for (k = from; k < ROOM; k++) {
-        if (out_words[k] != (k < lent ? 0u : 0xffffffffu)) {
+        if (words[k] != (k < lent ? 0u : 0xffffffffu)) {
             return 0;
         }
     }
     return 1;
+}
+
+static int words_zero(size_t from, size_t lent)
+{
+    return zero(out_words, from, lent);
+}
+
+static int scratch_zero(size_t lent)
+{
+    return zero(scratch, 0, lent);
 }
 
 static int bytes_zero(size_t from, size_t lent)
@@ -288,6 +300,9 @@ static void check_refused(const uint32_t *s, size_t length, uint32_t number, uin
         check(words_zero(0, lent), "zeros after a refused conversion");
         check(wrote_nothing(suhkelva_write_blocks(s, length, out_bytes, lent), number, place), what);
         check(bytes_zero(0, lent), "zeros after a refused write");
+        fill();
+        check(wrote_nothing(suhkelva_build(s, length, scratch, lents[6 - k], out_words, lent), number, place), what);
+        check(scratch_zero(lents[6 - k]) && words_zero(0, lent), "zeros after a refused build");
     }
 }
 
@@ -474,6 +489,112 @@ static void check_sheet_blocks(void)
     check_most_blocks();
 }
 
+/* ---- Graphs ---- */
+
+/* A sheet, its E and L, and its graph. */
+typedef struct {
+    const char *what;
+    uint32_t sheet[WORDS];
+    size_t records;
+    size_t words;
+    uint32_t graph[WORDS];
+    size_t count;
+} Graph;
+
+#define V 1, 1, 0, 0, 0
+#define W 1, 1, 0, 0, 1
+
+static const Graph graphs[] = {
+    {"no record", {1, 0, 0, 0}, 0, 4, {1, 0, 0, 0}, 4},
+    {"a record that nothing names", {1, 1, 0, 0, V}, 1, 9, {1, 0, 0, 0}, 4},
+    {"v + (-w)", {1, 4, 1, 0, V, W, 8, 1, 0, 1, 0, 6, 0, 2, 1, 0, 3}, 4, 25, {1, 4, 1, 0, V, W, 8, 1, 0, 1, 0, 7, 0, 1, 1, 0, 3}, 25},
+    {"-(-v)", {1, 3, 1, 0, V, 8, 0, 0, 1, 0, 8, 1, 0, 1, 0, 2}, 3, 20, {1, 3, 1, 0, V, 8, 0, 0, 1, 0, 8, 1, 0, 1, 0, 2}, 20},
+    {"v times 0", {1, 3, 1, 0, V, 5, 0, 0, 0, 0, 9, 0, 1, 1, 0, 2}, 3, 20, {1, 2, 1, 0, V, 5, 0, 0, 0, 0, 1}, 15},
+    {"v + w with two degree words", {1, 4, 2, 0, V, W, 6, 0, 1, 1, 0, 6, 0, 1, 2, 0, 2, 3}, 4, 26, {1, 4, 2, 0, V, W, 6, 0, 1, 1, 0, 6, 0, 1, 2, 0, 2, 3}, 26},
+    {"the same sum twice", {1, 4, 2, 0, V, W, 6, 0, 1, 1, 0, 6, 0, 1, 1, 0, 2, 3}, 4, 26, {1, 3, 1, 0, V, W, 6, 0, 1, 1, 0, 2}, 20},
+    {"(p - 1)(p - 1)", {1, 3, 1, 0, 5, P - 1, 0, 0, 0, 5, P - 1, 0, 0, 0, 9, 0, 1, 0, 0, 2}, 3, 20, {1, 2, 1, 0, 5, P - 1, 0, 0, 0, 5, 1, 0, 0, 0, 1}, 15},
+    {"constraints put in order, a challenge, any words",
+     {1, 3, 3, 0, 1, 2, 0, 0, 0xffffffffu, 1, 1, 0xffffffffu, 0xffffffffu, 0xffffffffu, 6, 1, 0, 0xffffffffu, 0, 2, 0, 1}, 3, 22,
+     {1, 3, 3, 0, 1, 1, 0xffffffffu, 0xffffffffu, 0xffffffffu, 1, 2, 0, 0, 0xffffffffu, 6, 0, 1, 0xffffffffu, 0, 0, 1, 2}, 22},
+    {"the sheet of sheetlist: fields before the count, but stored behind it",
+     {1, 7, 1, 1, 1, 1, 0, 1, 0, V, 7, 0, 1, 1, 0, 5, 1, 0, 0, 0, 7, 2, 3, 1, 0, 4, 0, 0, 0, 0, 9, 5, 4, 2, 0, 6, 7, 1, 3, 2, 1, 2}, 7, WORDS,
+     {1, 7, 1, 1, 4, 0, 0, 0, 0, 1, 1, 0, 1, 0, V, 7, 1, 2, 1, 0, 5, 1, 0, 0, 0, 7, 3, 4, 1, 0, 9, 0, 5, 2, 0, 6, 7, 1, 4, 2, 2, 3}, WORDS},
+};
+
+/* A graph in scratch and output of every length around what is needed: the graph, 14 or 15, and zeros. */
+static void check_graph(const Graph *g)
+{
+    static const size_t more[] = {0, 1, 5, 90};
+    size_t lent;
+    size_t room;
+    size_t k;
+    for (k = 0; k < sizeof more / sizeof more[0]; k++) {
+        SuhkelvaWritten r;
+        SuhkelvaNumber n;
+        lent = g->records + more[k];
+        room = g->words + more[3 - k];
+        fill();
+        r = suhkelva_build(g->sheet, g->words, scratch, lent, out_words, room);
+        check(wrote(r, g->count) && memcmp(out_words, g->graph, g->count * sizeof *out_words) == 0, g->what);
+        check(words_zero(g->count, room) && scratch_zero(lent), "zeros past a graph and in scratch");
+        n = suhkelva_num_constraints(out_words, g->count);
+        check(n.number == 0 && n.value == g->graph[2], "a graph is a sheet");
+    }
+    for (lent = 0; lent < g->records; lent++) {
+        for (room = g->words - 4; room <= g->words + 1; room++) {
+            fill();
+            check(wrote_nothing(suhkelva_build(g->sheet, g->words, scratch, lent, out_words, room), 14, g->records), "14, before 15");
+            check(scratch_zero(lent) && words_zero(0, room), "zeros after 14");
+        }
+    }
+    for (room = 0; room < g->words; room++) {
+        fill();
+        check(wrote_nothing(suhkelva_build(g->sheet, g->words, scratch, g->records + room % 3, out_words, room), 15, g->words), "15");
+        check(scratch_zero(g->records + room % 3) && words_zero(0, room), "zeros after 15");
+    }
+}
+
+/* A chain of as many records as a sheet may have: each the negative of the one before it. */
+static void check_chain(void)
+{
+    static uint32_t s[4 + 5 * 4096 + 1];
+    static uint32_t graph[4 + 5 * 4096 + 1];
+    static uint32_t marks[4096];
+    size_t length = sizeof s / sizeof *s;
+    size_t left = 0;
+    uint32_t k;
+    memset(s, 0, sizeof s);
+    s[0] = 1;
+    s[1] = 4096;
+    s[2] = 1;
+    s[4] = 1;
+    s[5] = 1;
+    for (k = 1; k < 4096; k++) {
+        s[4 + 5 * k] = 8;
+        s[5 + 5 * k] = k - 1;
+        s[7 + 5 * k] = k;
+    }
+    s[length - 1] = 4095;
+    memset(graph, 0xff, sizeof graph);
+    memset(marks, 0xff, sizeof marks);
+    check(wrote(suhkelva_build(s, length, marks, 4096, graph, length), length), "a chain of 4,096 records");
+    check(memcmp(graph, s, sizeof s) == 0, "its graph is itself");
+    for (k = 0; k < 4096; k++) {
+        left += marks[k] != 0;
+    }
+    check(left == 0, "zeros in its scratch");
+    check(wrote_nothing(suhkelva_build(s, length, marks, 4095, graph, length), 14, 4096), "4,095 words of scratch");
+}
+
+static void check_graphs(void)
+{
+    size_t k;
+    for (k = 0; k < sizeof graphs / sizeof graphs[0]; k++) {
+        check_graph(&graphs[k]);
+    }
+    check_chain();
+}
+
 int main(void)
 {
     check(sizeof(SuhkelvaPacked) == 12, "the size of SuhkelvaPacked");
@@ -488,6 +609,7 @@ int main(void)
     check_sheets();
     check_copies();
     check_sheet_blocks();
+    check_graphs();
     printf("%u checks passed, %u failed\n", passed, failed);
     return failed == 0 ? 0 : 1;
 }

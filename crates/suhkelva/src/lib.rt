@@ -4,7 +4,7 @@ ghost use mathlib.Core.List.{[]};
 ghost use lib.ListN.{length, getD};
 ghost use Rattle.semantics.specs.Arithmetic.{prime};
 ghost use Rattle.semantics.specs.Sheet.{recordOf};
-ghost use Rattle.semantics.specs.Call.{blockCheckCall, packCall, unpackCall, checkCall, maxRotationCall, numConstraintsCall, conversionCall, readerCall, writerCall};
+ghost use Rattle.semantics.specs.Call.{blockCheckCall, packCall, unpackCall, checkCall, maxRotationCall, numConstraintsCall, conversionCall, readerCall, writerCall, builderCall};
 ghost use Rattle.suhkelva.specs.Fields.{packedFields, recordFields, blockFields, sheetFields, numberFields, writtenFields};
 
 pub mod fields;
@@ -81,4 +81,13 @@ pub extern "C" fn suhkelva_write_blocks(s: &[u32], out: &mut [u8]) -> SuhkelvaWr
     ensures words { λ r. ⌜ now (out .exit) ≡ getD (writerCall prime (now (s .entry)) (length (now (out .entry))) .slices) 0 [] ⌝ }
 {
     fields::written_fields(block_writer::write_blocks(s, out))
+}
+
+#[no_mangle]
+pub extern "C" fn suhkelva_build(s: &[u32], scratch: &mut [u32], out: &mut [u32]) -> SuhkelvaWritten
+    ensures reply { λ r. ⌜ r ≡ writtenFields (builderCall prime (now (s .entry)) (length (now (scratch .entry))) (length (now (out .entry))) .reply) ⌝ }
+    ensures scratch_words { λ r. ⌜ now (scratch .exit) ≡ getD (builderCall prime (now (s .entry)) (length (now (scratch .entry))) (length (now (out .entry))) .slices) 0 [] ⌝ }
+    ensures words { λ r. ⌜ now (out .exit) ≡ getD (builderCall prime (now (s .entry)) (length (now (scratch .entry))) (length (now (out .entry))) .slices) 1 [] ⌝ }
+{
+    fields::written_fields(dag::build(s, scratch, out))
 }

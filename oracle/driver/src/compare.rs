@@ -59,6 +59,19 @@ pub const COMPARED: [&str; 16] = [
     INTERACTION_LISTS[1],
 ];
 
+/// What is compared of a graph.
+pub const GRAPHS: [&str; 9] = [
+    GRAPH_NODES,
+    GRAPH_CONSTRAINTS,
+    GRAPH_INTERACTIONS,
+    CONVERSION,
+    GRAPH_AGAIN,
+    ROTATION[0],
+    ROTATION[1],
+    NUM_CONSTRAINTS[0],
+    NUM_CONSTRAINTS[1],
+];
+
 /// Where document 01 refuses and the Rust does something else; a difference here is a case where it does not do that.
 pub const KNOWN: [&str; 7] = [
     "8, column above 65,535: the Rust panics",
@@ -100,6 +113,17 @@ pub fn compare_sheet(under_test: &dyn Implementation, sheet: &Sheet, spare: usiz
     comparison.cases
 }
 
+/// The graph, the conversion, max_rotation and num_constraints: a comparison as above, without the expansions.
+pub fn compare_graph(under_test: &dyn Implementation, sheet: &Sheet, spare: usize) -> Vec<Case> {
+    let mut comparison = Comparison::of(under_test);
+    comparison.graph_and_numbers(sheet, &with_spare(sheet, spare));
+    comparison.cases
+}
+
+fn with_spare(sheet: &Sheet, spare: usize) -> Vec<u32> {
+    [sheet.encode(), vec![0; spare]].concat()
+}
+
 /// Packing alone, of a leaf that the sheet check takes.
 pub fn compare_packing(under_test: &dyn Implementation, leaf: &Record) -> Vec<Case> {
     let mut comparison = Comparison::of(under_test);
@@ -137,13 +161,21 @@ impl<'a> Comparison<'a> {
     }
 
     fn sheet(&mut self, sheet: &Sheet, spare: usize) {
-        let words = [sheet.encode(), vec![0; spare]].concat();
+        let words = with_spare(sheet, spare);
         self.check_and_blocks(sheet, &words);
-
-        let rust = rust::build(sheet);
-        let Some(graph) = self.graph(sheet, &words, &rust) else {
+        let Some(graph) = self.graph_and_numbers(sheet, &words) else {
             return;
         };
+        for (k, sheet) in [sheet, &graph].into_iter().enumerate() {
+            self.lists(Family::Constraints, CONSTRAINT_LISTS[k], sheet);
+            self.lists(Family::Interactions, INTERACTION_LISTS[k], sheet);
+        }
+    }
+
+    /// The graph of the words, where it is a sheet, and what it is converted to; the numbers of both.
+    fn graph_and_numbers(&mut self, sheet: &Sheet, words: &[u32]) -> Option<Sheet> {
+        let rust = rust::build(sheet);
+        let graph = self.graph(sheet, words, &rust)?;
         self.conversion(&graph, &rust);
 
         let source = rust::expression_dag(sheet);
@@ -158,9 +190,8 @@ impl<'a> Comparison<'a> {
             let said = self.under_test.num_constraints(&words).reply.numbers;
             let number = dag.num_constraints();
             self.equal(NUM_CONSTRAINTS[k], number, said, vec![number as u32]);
-            self.lists(Family::Constraints, CONSTRAINT_LISTS[k], sheet);
-            self.lists(Family::Interactions, INTERACTION_LISTS[k], sheet);
         }
+        Some(graph)
     }
 
     /// The sheet is accepted as what it is, and comes back from its blocks.

@@ -1,14 +1,21 @@
 //! Compares implementations of document 01 with the Rust that it refers to, and with each other.
 
+#[cfg(feature = "rattle")]
+pub mod bench;
 pub mod compare;
+pub mod edges;
 pub mod examples;
 pub mod implementation;
 #[cfg(feature = "rattle")]
 pub mod rattle;
 pub mod rng;
+pub mod runs;
 pub mod rust;
+pub mod sample;
 pub mod sheet_calls;
 pub mod sheets;
 pub mod shrink;
 pub mod single;
+#[cfg(feature = "rattle")]
+pub mod stack;
 pub mod table;

@@ -3,30 +3,20 @@
 use std::io::{self, Read};
 use std::process::ExitCode;
 use std::thread;
-use std::time::Duration;
 
-use driver::compare::{compare_packing, compare_sheet, Case, COMPARED, KNOWN, LEFT_OUT};
+use driver::compare::{compare_packing, compare_sheet, COMPARED, KNOWN, LEFT_OUT};
 use driver::examples::{examples, Example};
 use driver::implementation::{Implementation, Plain};
-use driver::rng::Rng;
+use driver::runs::{Run, STACK};
 use driver::table::Table;
-use driver::{rust, sheets, shrink};
+use driver::{rust, sample, sheets};
 use plain::calls::WORK;
-use plain::Sheet;
 
 const USAGE: &str = "usage:
   driver plain-vs-rust [SHEETS] [SEED]   random sheets: the plain Rust written from document 01 against the Rust
   driver examples                        the examples of document 01 and of the known differences, likewise
-  driver sheetlist                       what sheetlist prints for standard input, by the plain Rust";
-
-/// A chain of 4,096 records recurses as deep, in the Rust's walks and where its tree is dropped.
-const STACK: usize = 1 << 30;
-
-/// So many differences are shown in full; of more only the number is kept.
-const SHOWN: u64 = 3;
-
-/// How long a smaller sheet is looked for that shows a difference.
-const SHRINKING: Duration = Duration::from_secs(2);
+  driver sheetlist                       what sheetlist prints for standard input, by the plain Rust
+  driver sample                          sheets of all shapes with the Rust's graphs and numbers, and refused ones";
 
 fn main() -> ExitCode {
     let arguments: Vec<String> = std::env::args().skip(1).collect();
@@ -41,6 +31,7 @@ fn main() -> ExitCode {
         }
         (Some("examples"), ..) => Box::new(|| all_examples(&Plain)),
         (Some("sheetlist"), ..) => Box::new(list_input),
+        (Some("sample"), ..) => Box::new(print_sample),
         _ => {
             eprintln!("{USAGE}");
             return ExitCode::from(2);
@@ -60,34 +51,24 @@ fn main() -> ExitCode {
 fn random_sheets(under_test: &dyn Implementation, sheets: u64, first_seed: u64) -> bool {
     let name = under_test.name();
     println!("{name} against the Rust: {sheets} sheets, seeds from {first_seed}");
-    let mut shapes = Table::default();
-    let mut table = Table::default();
+    let mut run = Run::new(under_test, compare_sheet);
     for k in 0..sheets {
         let seed = first_seed.wrapping_add(k);
-        let mut rng = Rng::new(seed);
-        let (shape, sheet) = sheets::random_sheet(&mut rng);
-        let cases = compare_sheet(under_test, &sheet, rng.pick(&[0, 0, 1, 126]));
-        let differs = cases.iter().any(|case| case.difference.is_some());
-        shapes.add(shape, differs, sheet.records.len());
-        for case in cases {
-            if case.difference.is_some() && table.differences() < SHOWN {
-                println!("\nseed {seed}, {shape}, {}:", case.kind);
-                show(under_test, &sheet, &case);
-            }
-            table.add(case.kind, case.difference.is_some(), case.size);
-        }
+        let mut rng = run.random_sheet(seed);
         for _ in 0..4 {
             let leaf = sheets::wild_variable(&mut rng);
             for case in compare_packing(under_test, &leaf) {
                 if let Some(difference) = &case.difference {
                     println!("\nseed {seed}, {}, {leaf:?}: {difference}", case.kind);
                 }
+                let table = &mut run.table;
                 table.add(case.kind, case.difference.is_some(), case.size);
             }
         }
     }
-    shapes.print("sheets, largest in records", &sheets::SHAPES.map(|s| s.0));
-    print_cases(&table)
+    let shapes = sheets::SHAPES.map(|s| s.0);
+    run.shapes.print("sheets, largest in records", &shapes);
+    print_cases(&run.table)
 }
 
 fn print_cases(table: &Table) -> bool {
@@ -98,28 +79,9 @@ fn print_cases(table: &Table) -> bool {
     table.differences() == 0
 }
 
-/// A difference, and the smallest sheet found that shows one of its kind.
-fn show(under_test: &dyn Implementation, sheet: &Sheet, case: &Case) {
-    let difference = |sheet: &Sheet| {
-        let cases = compare_sheet(under_test, sheet, 0).into_iter();
-        let mut same_kind = cases.filter(|c| c.kind == case.kind);
-        same_kind.find_map(|c| c.difference)
-    };
-    let small = shrink::shrink(sheet, SHRINKING, |sheet| difference(sheet).is_some());
-    let shown = difference(&small).or(case.difference.clone());
-    println!("  {}", shown.expect("a difference"));
-    for (k, record) in small.records.iter().enumerate() {
-        println!("  record {k}: {record:?}");
-    }
-    println!("  constraints {:?}", small.constraints);
-    for x in &small.interactions {
-        println!("  {x:?}");
-    }
-}
-
 /// The examples: what document 01 says of each, and the comparison with the Rust.
 fn all_examples(under_test: &dyn Implementation) -> bool {
-    let mut table = Table::default();
+    let mut run = Run::new(under_test, compare_sheet);
     let mut as_said = true;
     for example in examples() {
         let said = (example.nodes, example.indices, example.headers);
@@ -134,14 +96,9 @@ fn all_examples(under_test: &dyn Implementation) -> bool {
             println!("  but document 01 says {said:?}");
             as_said = false;
         }
-        for case in compare_sheet(under_test, &example.sheet, 0) {
-            if let Some(difference) = &case.difference {
-                println!("  {}: {difference}", case.kind);
-            }
-            table.add(case.kind, case.difference.is_some(), case.size);
-        }
+        run.sheet(name, &example.sheet, 0);
     }
-    print_cases(&table) && as_said
+    print_cases(&run.table) && as_said
 }
 
 fn found(under_test: &dyn Implementation, example: &Example) -> (usize, usize, Result<usize, u32>) {
@@ -154,6 +111,11 @@ fn found(under_test: &dyn Implementation, example: &Example) -> (usize, usize, R
     };
     let graph = built.written(0);
     (graph[1] as usize, graph[2] as usize, headers)
+}
+
+fn print_sample() -> bool {
+    print!("{}", sample::sample());
+    true
 }
 
 fn list_input() -> bool {

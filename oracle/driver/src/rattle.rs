@@ -82,6 +82,14 @@ mod c {
             out: *mut u8,
             out_len: usize,
         ) -> Written;
+        pub fn suhkelva_build(
+            s: *const u32,
+            s_len: usize,
+            scratch: *mut u32,
+            scratch_len: usize,
+            out: *mut u32,
+            out_len: usize,
+        ) -> Written;
     }
 }
 
@@ -125,6 +133,19 @@ mod calls {
     pub fn write_blocks(s: &[u32], out: &mut [u8]) -> c::Written {
         unsafe { c::suhkelva_write_blocks(s.as_ptr(), s.len(), out.as_mut_ptr(), out.len()) }
     }
+
+    pub fn build(s: &[u32], scratch: &mut [u32], out: &mut [u32]) -> c::Written {
+        unsafe {
+            c::suhkelva_build(
+                s.as_ptr(),
+                s.len(),
+                scratch.as_mut_ptr(),
+                scratch.len(),
+                out.as_mut_ptr(),
+                out.len(),
+            )
+        }
+    }
 }
 
 /// C's fields as an outcome: counts of what was written and further numbers, and the slices lent for writing as they are after
@@ -159,19 +180,51 @@ fn says(number: u32, place: u32, numbers: &[u32]) -> Outcome {
 /// Words beyond what is lent, which must stay as they are.
 const GUARD: usize = 8;
 
-/// The outcome of a call that is lent `lent` elements for writing, filled with junk before: none of it may be left, and what
-/// stands behind must be.
+const JUNK: u32 = 0xdead_beef;
+
+/// What is lent for writing, filled with junk before the call: none of it may be left, and what stands behind must be.
+struct Lent<T> {
+    elements: Vec<T>,
+    lent: usize,
+    junk: T,
+}
+
+impl<T: Copy + PartialEq> Lent<T> {
+    fn new(lent: usize, junk: T) -> Self {
+        let elements = vec![junk; lent + GUARD];
+        Lent {
+            elements,
+            lent,
+            junk,
+        }
+    }
+
+    fn slice(&mut self) -> &mut [T] {
+        &mut self.elements[..self.lent]
+    }
+
+    fn after(mut self) -> Vec<T> {
+        let behind = self.elements.split_off(self.lent);
+        let untouched = behind.iter().all(|&x| x == self.junk);
+        assert!(untouched, "the library wrote past what it was lent");
+        self.elements
+    }
+}
+
+/// The outcome of a call that is lent one slice for writing.
 fn writing<T: Copy + PartialEq>(
     lent: usize,
     junk: T,
     call: impl FnOnce(&mut [T]) -> c::Written,
 ) -> Outcome<T> {
-    let mut out = vec![junk; lent + GUARD];
-    let r = call(&mut out[..lent]);
-    let untouched = out[lent..].iter().all(|&x| x == junk);
-    assert!(untouched, "the library wrote past what it was lent");
-    out.truncate(lent);
-    outcome((r.number, r.place), &[r.count], &[], vec![out])
+    let mut out = Lent::new(lent, junk);
+    let r = call(out.slice());
+    outcome((r.number, r.place), &[r.count], &[], vec![out.after()])
+}
+
+/// The builder alone, over what the caller lends; whether it was accepted.
+pub fn builds(words: &[u32], scratch: &mut [u32], out: &mut [u32]) -> bool {
+    calls::build(words, scratch, out).number == 0
 }
 
 /// The rewrite in Rattle; it lacks the calls that the library does not have yet.
@@ -214,11 +267,19 @@ impl Implementation for Rattle {
     }
 
     fn conversion(&self, words: &[u32], out: usize) -> Outcome {
-        writing(out, 0xdead_beef, |out| calls::convert(words, out))
+        writing(out, JUNK, |out| calls::convert(words, out))
     }
 
     fn reader(&self, bytes: &[u8], out: usize) -> Outcome {
-        writing(out, 0xdead_beef, |out| calls::read_blocks(bytes, out))
+        writing(out, JUNK, |out| calls::read_blocks(bytes, out))
+    }
+
+    fn builder(&self, words: &[u32], scratch: usize, out: usize) -> Outcome {
+        let mut scratch = Lent::new(scratch, JUNK);
+        let mut out = Lent::new(out, JUNK);
+        let r = calls::build(words, scratch.slice(), out.slice());
+        let slices = vec![scratch.after(), out.after()];
+        outcome((r.number, r.place), &[r.count], &[], slices)
     }
 
     fn writer(&self, words: &[u32], out: usize) -> Outcome<u8> {

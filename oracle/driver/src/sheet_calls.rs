@@ -1,6 +1,6 @@
-//! The calls that take a sheet or its blocks and need no graph: the sheet check, max_rotation, num_constraints, the conversion,
-//! the block reader and the block writer. Sheets and blocks, good and broken, and the comparison with the plain Rust; where a
-//! sheet is good, of the two numbers with the Rust too.
+//! The calls that take a sheet or its blocks: the sheet check, max_rotation, num_constraints, the conversion, the builder, the
+//! block reader and the block writer. Sheets and blocks, good and broken, and the comparison with the plain Rust; where a sheet
+//! is good, of the two numbers with the Rust too.
 
 use std::fmt::Debug;
 
@@ -76,6 +76,21 @@ const WRITE: WritingRows = [
     "write_blocks, against plain: 15, lent nothing",
 ];
 
+/// The builder: a graph lent exactly what it needs or more, 3 to 7, 14 and 15 lent less or nothing.
+const BUILD: [&str; 11] = [
+    "build, against plain: a graph, lent exactly",
+    "build, against plain: a graph, lent more",
+    "build, against plain: 3",
+    "build, against plain: 4",
+    "build, against plain: 5",
+    "build, against plain: 6",
+    "build, against plain: 7",
+    "build, against plain: 14, scratch lent less",
+    "build, against plain: 14, scratch lent nothing",
+    "build, against plain: 15, output lent less",
+    "build, against plain: 15, output lent nothing",
+];
+
 /// The reader: an answer lent exactly what it needs or more, 1, 2, 15 lent one less or nothing.
 const READ: [&str; 6] = [
     "read_blocks, against plain: words, lent exactly",
@@ -90,7 +105,7 @@ const READ: [&str; 6] = [
 pub fn kinds() -> Vec<&'static str> {
     let numbers = [CHECK, ROTATION, CONSTRAINTS].concat();
     let writing = [CONVERT, WRITE].concat();
-    [&numbers, &AGAINST_RUST[..], &writing, &READ].concat()
+    [&numbers, &AGAINST_RUST[..], &writing, &BUILD, &READ].concat()
 }
 
 /// What is put to the calls: words that may be a sheet, or bytes that may be blocks.
@@ -109,7 +124,7 @@ pub fn compare_input(under_test: &dyn Implementation, input: &Input) -> Vec<Case
 }
 
 /// Reply and every lent slice. The first element that differs is shown.
-fn case<T: PartialEq + Debug>(kind: &'static str, ours: &Outcome<T>, due: &Outcome<T>) -> Case {
+pub fn case<T: PartialEq + Debug>(kind: &'static str, ours: &Outcome<T>, due: &Outcome<T>) -> Case {
     let difference = (ours != due).then(|| {
         let at = |k: usize| {
             ours.slices[k]
@@ -186,7 +201,7 @@ fn compare_words(under_test: &dyn Implementation, words: &[u32]) -> Vec<Case> {
         }
     }
 
-    let length = sheet.map_or(words.len(), |sheet| sheet.length());
+    let length = sheet.as_ref().map_or(words.len(), |sheet| sheet.length());
     for lent in lengths(length) {
         let due = Plain.conversion(words, lent);
         let ours = under_test.conversion(words, lent);
@@ -197,7 +212,36 @@ fn compare_words(under_test: &dyn Implementation, words: &[u32]) -> Vec<Case> {
         let ours = under_test.writer(words, lent);
         cases.push(case(writing_row(&WRITE, &due, lent), &ours, &due));
     }
+    let records = sheet.map_or(words.len() / 5, |sheet| sheet.records.len());
+    for (scratch, out) in build_lengths(records, length) {
+        let due = Plain.builder(words, scratch, out);
+        let ours = under_test.builder(words, scratch, out);
+        let exactly = (scratch, out) == (records, length);
+        let row = match due.refusal().map(|refusal| refusal.number) {
+            None => usize::from(!exactly),
+            Some(14) => 7 + usize::from(scratch == 0),
+            Some(15) => 9 + usize::from(out == 0),
+            Some(number) => number as usize - 1,
+        };
+        cases.push(case(BUILD[row], &ours, &due));
+    }
     cases
+}
+
+/// Scratch and output that are lent where so much is needed: as much, more of one or both, less of one or both, nothing.
+fn build_lengths(records: usize, words: usize) -> [(usize, usize); 9] {
+    let short = records.saturating_sub(1);
+    [
+        (records, words),
+        (records + 1, words + 130),
+        (records + 130, words + 1),
+        (short, words),
+        (short, words.saturating_sub(1)),
+        (0, words),
+        (records, words.saturating_sub(1)),
+        (records + 1, 0),
+        (0, 0),
+    ]
 }
 
 fn compare_bytes(under_test: &dyn Implementation, bytes: &[u8]) -> Vec<Case> {

@@ -2,7 +2,7 @@
 
 use plain::field::P;
 use plain::sheet::{
-    ADD, CHALLENGE, CONSTANT, IS_FIRST_ROW, IS_LAST_ROW, IS_TRANSITION, MAIN, MUL, NEG,
+    children, ADD, CHALLENGE, CONSTANT, IS_FIRST_ROW, IS_LAST_ROW, IS_TRANSITION, MAIN, MUL, NEG,
     PREPROCESSED, PUBLIC, SUB, VARIABLE,
 };
 use plain::{Interaction, Record, Sheet};
@@ -291,30 +291,38 @@ fn tiny(rng: &mut Rng) -> Sheet {
     sheet(rng, records, constraints, interactions, 3)
 }
 
-fn folding(rng: &mut Rng) -> Sheet {
-    let style = Style {
+fn folding_style(rng: &mut Rng) -> Style {
+    Style {
         kinds: [3, 0, 0, 1, 6, 6, 6, 6, 5],
         special: 95,
         columns: 3,
         reach: rng.pick(&[4, 12, usize::MAX]),
         degrees: some_degrees(rng),
         ..STYLE
-    };
+    }
+}
+
+fn folding(rng: &mut Rng) -> Sheet {
+    let style = folding_style(rng);
     let count = rng.any_size(400);
     let records = records(rng, count, &style);
     let (constraints, interactions) = (rng.any_size(20), rng.below(5));
     sheet(rng, records, constraints, interactions, 6)
 }
 
-fn shared(rng: &mut Rng) -> Sheet {
-    let style = Style {
+fn shared_style(rng: &mut Rng) -> Style {
+    Style {
         kinds: [4, 1, 1, 1, 3, 8, 8, 4, 2],
         columns: 3,
         reach: rng.between(2, 8),
         copies: 20,
         degrees: some_degrees(rng),
         ..STYLE
-    };
+    }
+}
+
+fn shared(rng: &mut Rng) -> Sheet {
+    let style = shared_style(rng);
     let count = rng.any_size(300);
     let records = records(rng, count, &style);
     let (constraints, interactions) = (rng.any_size(10), rng.below(4));
@@ -411,28 +419,36 @@ fn near_limits(rng: &mut Rng) -> Sheet {
     made
 }
 
-fn all_kinds(rng: &mut Rng) -> Sheet {
-    let style = Style {
+fn all_kinds_style(rng: &mut Rng) -> Style {
+    Style {
         kinds: [1; 9],
         wild: rng.pick(&[0, 1, 5, 30]),
         columns: 30,
         degrees: some_degrees(rng),
         ..STYLE
-    };
+    }
+}
+
+fn all_kinds(rng: &mut Rng) -> Sheet {
+    let style = all_kinds_style(rng);
     let count = rng.any_size(1_000);
     let records = records(rng, count, &style);
     let (constraints, interactions) = (rng.any_size(40), rng.below(8));
     sheet(rng, records, constraints, interactions, 10)
 }
 
-fn repeated(rng: &mut Rng) -> Sheet {
-    let style = Style {
+fn repeated_style(rng: &mut Rng) -> Style {
+    Style {
         copies: 60,
         columns: 2,
         bounded: true,
         degrees: some_degrees(rng),
         ..STYLE
-    };
+    }
+}
+
+fn repeated(rng: &mut Rng) -> Sheet {
+    let style = repeated_style(rng);
     let count = rng.any_size(200);
     let records = records(rng, count, &style);
     let (constraints, interactions) = (rng.any_size(1_024), rng.below(6));
@@ -517,4 +533,53 @@ fn full(rng: &mut Rng) -> Sheet {
     let records = records(rng, 4_096, &style);
     let (constraints, interactions) = (rng.pick(&[10, 1_024]), rng.pick(&[0, 10, 1_024]));
     sheet(rng, records, constraints, interactions, 4)
+}
+
+type Sized = (&'static str, fn(&mut Rng, usize) -> Sheet);
+
+/// Shapes of a given number of records, in which as many as can be are reached: for measuring.
+pub const SIZED: [Sized; 6] = [
+    ("no two equal", |_, count| reached(distinct(count))),
+    ("folding", |rng, count| styled(rng, count, folding_style)),
+    ("shared subexpressions", |rng, count| {
+        styled(rng, count, shared_style)
+    }),
+    ("all kinds", |rng, count| {
+        styled(rng, count, all_kinds_style)
+    }),
+    ("repeated records", |rng, count| {
+        styled(rng, count, repeated_style)
+    }),
+    ("chain", chain),
+];
+
+fn styled(rng: &mut Rng, count: usize, style: fn(&mut Rng) -> Style) -> Sheet {
+    let style = style(rng);
+    reached(records(rng, count, &style))
+}
+
+/// Variables in columns of their own, and sums of two records before.
+fn distinct(count: usize) -> Vec<Record> {
+    let record = |k: u32| match k % 2 {
+        0 => [VARIABLE, MAIN, 0, 0, k],
+        _ => [ADD, k - 1, k.saturating_sub(2), 1, 0],
+    };
+    (0..count as u32).map(record).collect()
+}
+
+/// A sheet whose constraints are the records that no other names, the last ones if there are more than 1,024.
+fn reached(records: Vec<Record>) -> Sheet {
+    let mut named = vec![false; records.len()];
+    for record in &records {
+        children(record)
+            .iter()
+            .for_each(|&c| named[c as usize] = true);
+    }
+    let constraints = (0..records.len() as u32).rev();
+    let constraints = constraints.filter(|&k| !named[k as usize]);
+    Sheet {
+        constraints: constraints.take(1_024).collect(),
+        interactions: vec![],
+        records,
+    }
 }

@@ -1,0 +1,11 @@
+pub mod Writing
+pub mod Digits
+pub mod Signs
+pub mod Pieces
+pub mod Rows
+pub mod Heads
+pub mod Lengths
+pub mod Layouts
+pub mod Handing
+pub mod Steps
+pub mod Totals

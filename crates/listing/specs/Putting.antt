@@ -1,0 +1,18 @@
+-- Bytes written to a slice from a place on.
+use mathlib.Core.Path.{_≡_}
+use mathlib.Core.List.{List, _++_}
+use Prim.Native.Nat.{ℕ, _+_, _≤_}
+use lib.ListN.{length, take, drop}
+
+-- Some bytes put at a place.
+abbrev pub put : List ℕ → ℕ → List ℕ → List ℕ
+put out at xs = take at out ++ (xs ++ drop (at + length xs) out)
+
+-- There is room for them.
+abbrev pub Room : (out : List ℕ) (at : ℕ) (xs : List ℕ) → Type 0
+Room out at xs = at + length xs ≤ length out
+
+-- They are put, and `next` is where the output goes on.
+pub record Puts (out : List ℕ) (at : ℕ) (xs : List ℕ) (out′ : List ℕ) (next : ℕ) : Type 0 where
+  pub out-is : out′ ≡ put out at xs
+  pub next-is : next ≡ at + length xs

@@ -1,0 +1,33 @@
+use mathlib.Core.Path.{ap, _∙_}
+use mathlib.Core.List.{[]}
+use borrow.Author.Needs.{needs}
+use lib.ListN.{getD}
+use Rattle.suhkelva.specs.Fields.{writtenFields}
+use Rattle.semantics.specs.Call.{Outcome}
+use Rattle.suhkelva.proofs.suhkelva_build.Statement.{statement}
+use Rattle.suhkelva.proofs.suhkelva_build.Tie as tie
+
+build-requires : tie.Need-build-requires
+build-requires c κs = search needs
+
+written-fields-requires : tie.Need-written-fields-requires
+written-fields-requires c κs = search needs
+
+same-length : tie.Need-same-length
+same-length c = search needs
+
+same-length-2 : tie.Need-same-length-2
+same-length-2 c = search needs
+
+returns : tie.Need-returns
+returns c = (
+  c .written-fields .ensures ∙ ap (λ (o : Outcome). writtenFields (o .reply)) (c .before .before .before .before .before .build .ensures),
+  (
+    ap (λ (o : Outcome). getD (o .slices) 0 []) (c .before .before .before .before .before .build .ensures),
+    ap (λ (o : Outcome). getD (o .slices) 1 []) (c .before .before .before .before .before .build .ensures),
+  ),
+)
+
+pub suhkelva-build-spec : {M : Type 1} → statement M
+suhkelva-build-spec =
+    tie.close (tie.spec build-requires written-fields-requires same-length same-length-2 returns)
