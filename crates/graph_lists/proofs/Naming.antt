@@ -5,7 +5,7 @@ use Prim.Native.Nat.{ℕ, suc, pred, _+_, _-_, _%_, _≤_, _<_}
 use native.Mathlib.Omega.{arith}
 use native.Mathlib.Nat.{mod-eq-of-lt}
 use lib.ListN.{length, getD, set, length-append, length-set, length-map}
-use Rattle.records.specs.Access.{part, messageLength}
+use Rattle.records.specs.Access.{part, messageLength, eachWords}
 use Rattle.records.proofs.Parts.{part-more, part-length}
 use Rattle.graph_lists.specs.Lists.{put, nodeNumbers, marksOf, Named, NamedInteraction, NamedInteractions, renamedWords, renamedAll}
 use Rattle.graph_lists.proofs.Sweeps.{put-none, put-length, put-put, put-one, put-next, set-next}
@@ -125,7 +125,7 @@ module _ (ws s : List ℕ) (at count : ℕ) (out₀ : List ℕ) (to : ℕ) (name
       next-interaction = next-left .0
 
       next-whole : h .words ++ (renamedWords ws s from ++ renamedAll ws s (from + (4 + messageLength ws from)) (count - (i + 1))) ≡ renamedAll ws s at count
-      unfolding renamedAll
+      unfolding eachWords
       next-whole = ap (λ (n : ℕ). h .words ++ renamedAll ws s from n) (sym less) ∙ h .whole
 
       words-length : length (renamedWords ws s from) ≡ 4 + messageLength ws from
@@ -154,7 +154,7 @@ module _ (ws s : List ℕ) (at count : ℕ) (out₀ : List ℕ) (to : ℕ) (name
 
 pub written-done : (ws s : List ℕ) (at count : ℕ) (out₀ : List ℕ) (to : ℕ) (out : List ℕ) (from next i : ℕ) (h : Written ws s at count out₀ to out from next i) → count ≤ i
     → h .words ≡ renamedAll ws s at count
-unfolding renamedAll
+unfolding eachWords
 written-done ws s at count out₀ to out from next i h l =
     let z : count - i ≡ 0 = omega arith in
     sym (append-nil (h .words)) ∙ ap (λ (n : ℕ). h .words ++ renamedAll ws s from n) (sym z) ∙ h .whole

@@ -7,7 +7,7 @@ use lib.ListN.{length, getD, drop, length-map}
 use Rattle.semantics.specs.Sheet.{Interaction, interactionWords}
 use Rattle.semantics.specs.Graph.{renamed}
 use Rattle.semantics.proofs.Members.{Mem, mem-here, mem-there, mem-left, mem-right, mem-getD}
-use Rattle.records.specs.Access.{messageLength}
+use Rattle.records.specs.Access.{messageLength, eachWords}
 use Rattle.records.proofs.Reading.{roots, bus-is, weight-is, count-word, count-is, length-is, message-is, next-stands, interaction-inside, field-word, first-stands}
 use Rattle.graph_lists.specs.Lists.{nodeNumbers, marksOf, NamedInteraction, NamedInteractions, renamedWords, renamedAll}
 
@@ -63,7 +63,7 @@ module _ (rest : List ℕ) (ws : List ℕ) where
   pub renamed-are : (at : ℕ) (xs : List Interaction) → drop at ws ≡ flatMap interactionWords xs ++ rest → (scratch : List ℕ) (num : ℕ → ℕ)
       → ((c : ℕ) → Mem c (roots xs) → pred (marksOf scratch c) ≡ num c)
       → renamedAll ws scratch at (length xs) ≡ flatMap interactionWords (map (renamed num) xs)
-  unfolding flatMap renamedAll
+  unfolding flatMap eachWords
   renamed-are at [] e scratch num h = refl
   renamed-are at (x ∷ xs) e scratch num h =
       let f = first-stands rest ws at x xs e in

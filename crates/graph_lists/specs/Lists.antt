@@ -12,7 +12,7 @@ use Rattle.semantics.specs.Check.{readSheet, check}
 use Rattle.semantics.specs.Walk.{member, order}
 use Rattle.semantics.specs.Graph.{graphRoots, graphOf}
 use Rattle.semantics.specs.Call.{padded}
-use Rattle.records.specs.Access.{recordsOf, messageLength, countAt, fieldsAt}
+use Rattle.records.specs.Access.{recordsOf, messageLength, eachWords, countAt, fieldsAt}
 use Rattle.nodes.specs.Memory.{Holds}
 
 -- The nodes of the constraints are flagged in scratch by 65,536 while they are put into ascending order.
@@ -73,9 +73,8 @@ renamedWords ws scratch at =
     ++ (nodeNumbers (marksOf scratch) (countAt ws at)
     ++ ((messageLength ws at ∷ []) ++ nodeNumbers (marksOf scratch) (fieldsAt ws at)))
 
-unfoldable pub renamedAll : (ws : List ℕ) (scratch : List ℕ) (at n : ℕ) → List ℕ
-renamedAll ws scratch at zero = []
-renamedAll ws scratch at (suc n) = renamedWords ws scratch at ++ renamedAll ws scratch (at + (4 + messageLength ws at)) n
+abbrev pub renamedAll : (ws : List ℕ) (scratch : List ℕ) (at n : ℕ) → List ℕ
+renamedAll ws scratch at n = eachWords (renamedWords ws scratch) ws at n
 
 -- What turning their names into nodes asks.
 pub record NamedInteraction (ws : List ℕ) (at : ℕ) (scratch : List ℕ) : Type 0 where

@@ -3,24 +3,20 @@ use mathlib.Core.Path.{_≡_, sym, ap, _∙_}
 use mathlib.Core.List.{List, _∷_}
 use Prim.Native.Nat.{ℕ, suc, _<_}
 use lib.ListN.{length, set}
-use Rattle.semantics.specs.Arithmetic.{prime}
 use Rattle.semantics.specs.Sheet.{Record}
-use Rattle.semantics.specs.Value.{nodeOf, recordAt}
 use Rattle.semantics.specs.Graph as graph
-use Rattle.semantics.specs.Graph.{Built, pick, takeIn, addRecord, build, find, intern}
+use Rattle.semantics.specs.Graph.{Built, takeIn, addRecord, build, find, intern}
 use Rattle.records.specs.Access.{recordsOf}
 use Rattle.nodes.specs.Memory.{tabulate, mark, nodesOut, builtOf, Holds}
 use Rattle.nodes.proofs.Marks.{mark-more}
+use Rattle.graph_walk.specs.Walking.{pickOfRecord}
 
 -- A record that goes to a node that is there, and one whose node is interned.
 module _ (ws done scratch out : List ℕ) (n : ℕ) (h : Holds ws done scratch out n) (r : ℕ) (l : r < length (recordsOf ws)) where
   abbrev step : graph.Pick → Built
   step q = takeIn (builtOf ws done) r q
 
-  abbrev pub picked : graph.Pick
-  picked = pick prime (builtOf ws done) (recordAt (recordsOf ws) r) (nodeOf (recordAt (recordsOf ws) r))
-
-  pub holds-present : (k : ℕ) → picked ≡ graph.present k → Holds ws (r ∷ done) (set scratch r (suc k)) out n
+  pub holds-present : (k : ℕ) → pickOfRecord ws r done ≡ graph.present k → Holds ws (r ∷ done) (set scratch r (suc k)) out n
   unfolding builtOf build addRecord takeIn
   holds-present k e = record {
     scratch-is =
@@ -30,7 +26,7 @@ module _ (ws done scratch out : List ℕ) (n : ℕ) (h : Holds ws done scratch o
     count-is = h .count-is ∙ ap (λ (q : graph.Pick). length (step q .nodes)) (sym e);
   }
 
-  pub holds-made : (q : Record) → picked ≡ graph.make q → (out′ : List ℕ) (index n′ : ℕ) → length out′ ≡ length out
+  pub holds-made : (q : Record) → pickOfRecord ws r done ≡ graph.make q → (out′ : List ℕ) (index n′ : ℕ) → length out′ ≡ length out
       → index ≡ find q (builtOf ws done .nodes) → out′ ≡ nodesOut (length out) (intern q (builtOf ws done .nodes))
       → n′ ≡ length (intern q (builtOf ws done .nodes)) → Holds ws (r ∷ done) (set scratch r (suc index)) out′ n′
   unfolding builtOf build addRecord takeIn
