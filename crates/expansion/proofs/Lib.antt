@@ -1,3 +1,4 @@
 pub mod Replies
 pub mod Walked
+pub mod Messages
 pub mod Steps

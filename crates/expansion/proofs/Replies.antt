@@ -10,7 +10,7 @@ use Rattle.semantics.specs.Answer.{Answer, good, refused}
 use Rattle.semantics.specs.Sheet.{Sheet}
 use Rattle.semantics.specs.Check.{readSheet, check}
 use Rattle.semantics.specs.Call.{Result, Outcome, zeros, padded, paddedAll, outcome, onSheet, expansion, constraintCall, interactionCall}
-use Rattle.semantics.proofs.Encoding.{check-sound, sheet-back}
+use Rattle.records.proofs.Reading.{read-found}
 use Rattle.sheet.specs.declared.Refusal.{Refusal}
 use Rattle.sheet.specs.declared.Head.{Head}
 use Rattle.sheet.specs.declared.Checked.{Checked}
@@ -38,12 +38,6 @@ kept-count k o l = omega (arith, length-take k o)
 pub cut-none : (o : List ℕ) → cut 0 o ≡ zeros (length o)
 unfolding zeros
 cut-none o = ap (λ (n : ℕ). replicate n 0) (sub-zero (length o))
-
--- The sheet that was found is the one that the words read as.
-pub read-found : (ws : List ℕ) (t : Sheet) → check prime ws ≡ good t → t ≡ readSheet ws
-read-found ws t e =
-    let w = check-sound prime ws t e .1 in
-    sym (ap readSheet (w .2) ∙ sheet-back t (replicate (w .0) 0))
 
 pub sheet-found : (ws : List ℕ) {r : Checked} {h : Head} → r ≡ checkedOf (check prime ws) → r ≡ checked.Sheet h → CheckedSheet ws (h .records) (h .constraints) (h .interactions)
 sheet-found ws e q =

@@ -1,7 +1,7 @@
 -- The steps of an expansion, in the order of its refusals.
 use mathlib.Core.Path.{_≡_, refl, sym, ap, subst, _∙_}
 use mathlib.Core.Bool.{cond}
-use mathlib.Core.List.{List, [], _∷_, map}
+use mathlib.Core.List.{List, [], _∷_, _++_, map, map-append}
 use Prim.Native.Nat.{ℕ, _+_, _*_, _≤_, _<_}
 use native.Mathlib.Omega.{arith}
 use lib.Dec.{eqb, leb}
@@ -13,12 +13,13 @@ use Rattle.semantics.specs.Sheet.{Sheet}
 use Rattle.semantics.specs.Check.{readSheet, check}
 use Rattle.semantics.specs.Walk.{order}
 use Rattle.semantics.specs.Expand.{expandAll}
-use Rattle.semantics.specs.Group.{Root, Item, Group, constraintRoots, constraintTerm, headers, variables, terms, layout}
-use Rattle.semantics.specs.Call.{Result, needs, result, fitted, firstShort, family, constraintOutputs}
+use Rattle.semantics.specs.Group.{Root, Item, Group, constraintRoots, countRoots, fieldRoots, constraintTerm, interactionTerm, headers, variables, terms, layout}
+use Rattle.semantics.specs.Call.{Result, needs, result, fitted, firstShort, family, constraintOutputs, interactionOutputs, maxFieldsLen}
 use Rattle.semantics.proofs.Basics.{cond-true, cond-false}
 use Rattle.semantics.proofs.Calls.{needs-met}
-use Rattle.semantics.proofs.Demands.{constraint-nodes}
+use Rattle.semantics.proofs.Demands.{constraint-nodes, count-nodes, field-nodes}
 use Rattle.records.specs.Access.{recordsOf}
+use Rattle.records.proofs.Reading.{counts, fields}
 use Rattle.sheet.specs.declared.Refusal.{Refusal}
 use Rattle.expand.specs.declared.Expanded.{Expanded}
 use Rattle.expand.specs.declared.Expanded.the-variants as expanded
@@ -27,8 +28,13 @@ use Rattle.grouping.specs.declared.Grouped.{Grouped}
 use Rattle.grouping.specs.declared.Grouped.the-variants as grouped
 use Rattle.expansion.specs.declared.ConstraintLists.{ConstraintLists}
 use Rattle.expansion.specs.declared.ConstraintLists.the-variants.{Written, Refused}
-use Rattle.grouping.specs.Families.{groupsOf, StartsWith, Laid}
-use Rattle.expansion.specs.Answers.{expansionOf, constraintAnswer, constraintsIn, constraintsOf, refusalOf, Inside, CheckedSheet}
+use Rattle.grouping.specs.Families.{groupsOf, Front, Laid}
+use Rattle.expansion.specs.declared.InteractionLengths.{InteractionLengths}
+use Rattle.expansion.specs.declared.InteractionLists.{InteractionLists}
+use Rattle.expansion.specs.declared.InteractionLists.the-variants as interaction
+use Rattle.grouping.proofs.Slices.{later-none, later-short, first-none, first-short}
+use Rattle.grouping.specs.declared.Lengths.{Lengths}
+use Rattle.expansion.specs.Answers.{interactionAnswer, interactionsOf, BothInside, shortOf, expansionOf, constraintAnswer, constraintsIn, constraintsOf, refusalOf, Inside, CheckedSheet}
 
 needs-short : {X : Type 0} (number needed lent : ℕ) (rest : Answer X) → lent < needed → refused number needed ≡ needs number needed lent rest
 unfolding needs
@@ -80,7 +86,7 @@ module _ (outputs : List (List ℕ)) (lent numbers : List ℕ) where
       ∙ sym (cond-false (eqb (firstShort 1 outputs lent) 0) (result outputs numbers) (refused 17 (firstShort 1 outputs lent))
       (ne-eqb (firstShort 1 outputs lent) 0 (λ q. n (sym e ∙ q))))
 
-front-take : (k : ℕ) (words slice : List ℕ) → StartsWith words slice → k ≡ length words → take k slice ≡ words
+front-take : (k : ℕ) (words slice : List ℕ) → Front words slice → k ≡ length words → take k slice ≡ words
 front-take k words slice f e = ap (λ (n : ℕ). take n slice) e ∙ f .1
 
 module _ (gs : List Group) (h v t : List ℕ) where
@@ -137,3 +143,59 @@ module _ (ws : List ℕ) (work pool : ℕ) (h v t : List ℕ) (lh lv lt : ℕ) (
               ∙ walk-done work pool (lh ∷ lv ∷ lt ∷ []) constraintRoots (constraintOutputs prime) (λ x. []) s enough room used (sym walks ∙ x),
           subst (λ (a : ConstraintLists). Inside a h v t) (sym q) (laid-inside (groupsOf ws (constraintRoots s)) h v t g l),
         )
+
+-- Both families of the interactions.
+module _ (gs ks : List Group) (h v t h₂ v₂ t₂ : List ℕ) where
+  abbrev lent : List ℕ
+  lent = length h ∷ length v ∷ length t ∷ length h₂ ∷ length v₂ ∷ length t₂ ∷ []
+
+  abbrev both : List (List ℕ)
+  both = layout interactionTerm gs ++ layout interactionTerm ks
+
+  pub counts-short : (g : Grouped) (k : ℕ) → Laid interactionTerm gs h v t g → g ≡ grouped.Short k → (numbers : List ℕ)
+      → refused 17 k ≡ fitted both lent numbers
+  unfolding layout
+  counts-short g k l e numbers =
+      let m = subst (Laid interactionTerm gs h v t) e l in
+      let n : firstShort 1 (layout interactionTerm gs) (length h ∷ length v ∷ length t ∷ []) ≡ 0 → ⊥ = λ z. m .1 (sym (m .0) ∙ z) in
+      short both lent numbers k
+      (first-short 0 (layout interactionTerm gs) (layout interactionTerm ks) (length h ∷ length v ∷ length t ∷ []) (length h₂ ∷ length v₂ ∷ length t₂ ∷ []) refl n ∙ m .0) (m .1)
+
+  module _ (g : Grouped) (a : Lengths) (l : Laid interactionTerm gs h v t g) (e : g ≡ grouped.Written a) where
+    first : Laid interactionTerm gs h v t (grouped.Written a)
+    first = subst (Laid interactionTerm gs h v t) e l
+
+    goes-on : firstShort 1 both lent ≡ firstShort 4 (layout interactionTerm ks) (length h₂ ∷ length v₂ ∷ length t₂ ∷ [])
+    unfolding layout
+    goes-on =
+        first-none 0 (layout interactionTerm gs) (layout interactionTerm ks) (length h ∷ length v ∷ length t ∷ []) (length h₂ ∷ length v₂ ∷ length t₂ ∷ []) refl (first .0)
+
+    pub fields-short : (g₂ : Grouped) (k : ℕ) → Laid interactionTerm ks h₂ v₂ t₂ g₂ → g₂ ≡ grouped.Short k → (numbers : List ℕ)
+        → refused 17 (3 + k) ≡ fitted both lent numbers
+    fields-short g₂ k l₂ e₂ numbers =
+        let m = subst (Laid interactionTerm ks h₂ v₂ t₂) e₂ l₂ in
+        let n : firstShort 1 (layout interactionTerm ks) (length h₂ ∷ length v₂ ∷ length t₂ ∷ []) ≡ 0 → ⊥ = λ z. m .1 (sym (m .0) ∙ z) in
+        short both lent numbers (3 + k)
+        (goes-on ∙ later-short 3 0 (layout interactionTerm ks) (length h₂ ∷ length v₂ ∷ length t₂ ∷ []) n ∙ ap (λ (x : ℕ). 3 + x) (m .0)) (λ z. absurd (omega (arith, z)))
+
+    module _ (g₂ : Grouped) (b : Lengths) (l₂ : Laid interactionTerm ks h₂ v₂ t₂ g₂) (e₂ : g₂ ≡ grouped.Written b) (ni mf : ℕ) where
+      abbrev answer : InteractionLists
+      answer = interaction.Written (record { numerators = a; denominators = b; «num_interactions» = ni; «max_fields_len» = mf })
+
+      second : Laid interactionTerm ks h₂ v₂ t₂ (grouped.Written b)
+      second = subst (Laid interactionTerm ks h₂ v₂ t₂) e₂ l₂
+
+      pub both-fit : (interactionAnswer answer h v t h₂ v₂ t₂ ≡ fitted both lent (ni ∷ mf ∷ [])) × BothInside answer h v t h₂ v₂ t₂
+      unfolding layout
+      both-fit = (
+        (λ i. good (record {
+          outputs = front-take (a .headers) (headers 0 0 gs) h (first .1) (first .4) i ∷ front-take (a .variables) (variables gs) v (first .2) (first .5) i
+              ∷ front-take (a .terms) (terms interactionTerm gs) t (first .3) (first .6) i
+              ∷ front-take (b .headers) (headers 0 0 ks) h₂ (second .1) (second .4) i ∷ front-take (b .variables) (variables ks) v₂ (second .2) (second .5) i
+              ∷ front-take (b .terms) (terms interactionTerm ks) t₂ (second .3) (second .6) i ∷ [];
+          numbers = ni ∷ mf ∷ [];
+        }))
+            ∙ fits both lent (ni ∷ mf ∷ []) (goes-on ∙ later-none 3 0 (layout interactionTerm ks) (length h₂ ∷ length v₂ ∷ length t₂ ∷ []) (second .0)),
+        (subst (λ (n : ℕ). n ≤ length h) (sym (first .4)) (first .1 .0), subst (λ (n : ℕ). n ≤ length v) (sym (first .5)) (first .2 .0), subst (λ (n : ℕ). n ≤ length t) (sym (first .6)) (first .3 .0)),
+        (subst (λ (n : ℕ). n ≤ length h₂) (sym (second .4)) (second .1 .0), subst (λ (n : ℕ). n ≤ length v₂) (sym (second .5)) (second .2 .0), subst (λ (n : ℕ). n ≤ length t₂) (sym (second .6)) (second .3 .0)),
+      )

@@ -7,14 +7,14 @@ use native.Mathlib.Omega.{arith}
 use lib.ListN.{length, getD, take, drop, replicate, length-append, length-replicate, getD-replicate, List·getD-append}
 use Rattle.semantics.specs.Arithmetic.{prime}
 use Rattle.semantics.specs.Answer.{good}
-use Rattle.semantics.specs.Sheet.{Interaction}
+use Rattle.semantics.specs.Sheet.{Interaction, GoodInteraction}
 use Rattle.semantics.specs.Check.{readSheet, check}
 use Rattle.semantics.specs.Walk.{member, order}
 use Rattle.semantics.specs.Monomial.{listAt}
 use Rattle.semantics.specs.Group.{Root, labelled, constraintRoots, countRoots, fieldRoots}
-use Rattle.semantics.proofs.Members.{Mem, mem-here, mem-there, Below, append-below, mem-left, mem-right}
+use Rattle.semantics.proofs.Members.{Mem, mem-here, mem-there, Below, append-below, cons-below, flat-below, not-in, mem-left, mem-right}
 use Rattle.semantics.proofs.Orders.{order-roots, order-below, order-distinct, distinct-length}
-use Rattle.semantics.proofs.GraphSheets.{named-below}
+use Rattle.semantics.proofs.GraphSheets.{named-below, interaction-facts}
 use Rattle.semantics.proofs.Demands.{constraint-nodes, count-nodes, field-nodes}
 use Rattle.semantics.proofs.Sorting.{All}
 use Rattle.records.specs.Access.{recordsOf, part, constraintsAt, interactionsAt, countWords, fieldWords, NamesInside, AllRootsInside}
@@ -29,7 +29,7 @@ use Rattle.sheet.specs.declared.Refusal.{Refusal}
 use Rattle.expand.specs.Walking.{Holds, Kept, Expands, Walking}
 use Rattle.expand.proofs.Roots.{start-walking, all-expanded, far-none, far-refused, far-more, far-walking}
 use Rattle.expansion.specs.Answers.{CheckedSheet}
-use Rattle.grouping.specs.Families.{StoredList, Grouping}
+use Rattle.grouping.specs.Families.{Standing, Grouping}
 
 -- Cleared words in front of a pool.
 module _ (ws : List ℕ) (records : ℕ) (are : records ≡ length (recordsOf ws)) (z rest : List ℕ) (n : ℕ) (e : z ≡ replicate n 0) (m : n ≡ 2 * records) where
@@ -75,7 +75,7 @@ all-nodes P (r ∷ rs) f = (
 -- The lists of all that was reached stand in the pool.
 module _ (ws : List ℕ) (checked : check prime ws ≡ good (readSheet ws)) (names : List ℕ) (below : Below (length (recordsOf ws)) names)
     (pool : List ℕ) (used : ℕ) (holds : Holds ws (order (recordsOf ws) names) pool used) where
-  pub standing : (i : ℕ) → Mem i names → StoredList (listAt prime (recordsOf ws)) pool i
+  pub standing : (i : ℕ) → Mem i names → Standing (listAt prime (recordsOf ws)) pool i
   standing i m =
       let k = holds .old i (order-roots (recordsOf ws) (lows ws checked) names below i m) in
       let d = distinct-length (length (recordsOf ws)) (order (recordsOf ws) names) (order-distinct (recordsOf ws) (lows ws checked) names below)
@@ -85,7 +85,7 @@ module _ (ws : List ℕ) (checked : check prime ws ≡ good (readSheet ws)) (nam
   pub grouping-of : (roots : List Root) → ((i : ℕ) → Mem i (map (λ (r : Root). r .node) roots) → Mem i names) → Grouping ws pool roots
   grouping-of roots f = record {
     checked = checked;
-    lists = all-nodes (StoredList (listAt prime (recordsOf ws)) pool) roots (λ i m. standing i (f i m));
+    lists = all-nodes (Standing (listAt prime (recordsOf ws)) pool) roots (λ i m. standing i (f i m));
   }
 
 -- The constraints.
@@ -116,3 +116,46 @@ module _ (ws : List ℕ) (checked : check prime ws ≡ good (readSheet ws)) wher
     fields-there =
         let i = interactions-stand ws checked in
         (λ j. fieldWords ws (ea j) (ec j)) ∙ fields-are (i .0) ws (interactionsAt ws) xs (i .1)
+
+  pub counts-below : Below (length (recordsOf ws)) (counts xs)
+  counts-below =
+      let n : ℕ = length (recordsOf ws) in
+      flat-below n _ (λ i. GoodInteraction n) (λ i x u. cons-below n (x .count) [] (interaction-facts n x u .count) (λ c m. not-in c m)) 0 xs (inside ws checked .interactions)
+
+  pub fields-below : Below (length (recordsOf ws)) (fields xs)
+  fields-below =
+      let n : ℕ = length (recordsOf ws) in
+      flat-below n _ (λ i. GoodInteraction n) (λ i x u. interaction-facts n x u .message) 0 xs (inside ws checked .interactions)
+
+  pub named-below-both : Below (length (recordsOf ws)) (counts xs ++ fields xs)
+  named-below-both = append-below (length (recordsOf ws)) (counts xs) (fields xs) counts-below fields-below
+
+  -- One list of roots after another.
+  module _ (work pool : List ℕ) (used : ℕ) (p : Walking ws work pool used) (front-roots back-roots : List ℕ) (below : Below (length (recordsOf ws)) front-roots)
+      (work₁ pool₁ : List ℕ) (u : Expanded) (f : Visiting ws front-roots (λ (d : List ℕ). Holds ws d pool used) (Expands ws pool₁ u)) where
+    pub first-refused : (v : Refusal) → u ≡ Refused v → Visiting ws (front-roots ++ back-roots) (λ (d : List ℕ). Holds ws d pool used) (Expands ws pool₁ u)
+    first-refused v e = far-refused ws work pool used p [] work pool used (far-none ws work pool used p) front-roots work₁ pool₁ u f v e back-roots (front-roots ++ back-roots) refl
+
+    module _ (n : ℕ) (e : u ≡ Used n) where
+      pub second-walking : length work₁ ≡ length work → length pool₁ ≡ length pool → Walking ws work₁ pool₁ n
+      second-walking lw lp =
+          far-walking ws work pool used p front-roots work₁ pool₁ n
+          (far-more ws work pool used p [] work pool used (far-none ws work pool used p) front-roots work₁ pool₁ u f below lw lp n e)
+
+      pub both-walked : (pool₂ : List ℕ) (u₂ : Expanded) → Visiting ws back-roots (λ (d : List ℕ). Holds ws d pool₁ n) (Expands ws pool₂ u₂)
+          → Visiting ws (front-roots ++ back-roots) (λ (d : List ℕ). Holds ws d pool used) (Expands ws pool₂ u₂)
+      both-walked pool₂ u₂ g =
+          visiting-both ws checked front-roots back-roots below (λ (d : List ℕ). Holds ws d pool used) (λ (d : List ℕ). Holds ws d pool₁ n) (Expands ws pool₂ u₂)
+          (subst (λ (x : Expanded). Visiting ws front-roots (λ (d : List ℕ). Holds ws d pool used) (Expands ws pool₁ x)) e f) g
+
+  -- The lists of all counts and fields stand in the pool.
+  module _ (pool : List ℕ) (used : ℕ) (holds : Holds ws (order (recordsOf ws) (counts xs ++ fields xs)) pool used) where
+    pub counts-grouping : Grouping ws pool (countRoots (readSheet ws))
+    counts-grouping =
+        grouping-of ws checked (counts xs ++ fields xs) named-below-both pool used holds (countRoots (readSheet ws))
+        (λ i m. mem-left i (counts xs) (fields xs) (subst (Mem i) (count-nodes (readSheet ws)) m))
+
+    pub fields-grouping : Grouping ws pool (fieldRoots (readSheet ws))
+    fields-grouping =
+        grouping-of ws checked (counts xs ++ fields xs) named-below-both pool used holds (fieldRoots (readSheet ws))
+        (λ i m. mem-right i (counts xs) (fields xs) (subst (Mem i) (field-nodes (readSheet ws)) m))

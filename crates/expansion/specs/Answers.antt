@@ -1,7 +1,7 @@
 -- What the answers of the expansions stand for (01, "What each call hands back").
 use mathlib.Core.Path.{_≡_}
 use mathlib.Core.List.{List, [], _∷_, _++_, map}
-use Prim.Native.Nat.{ℕ, _+_, _*_, _-_, _≤_}
+use Prim.Native.Nat.{ℕ, zero, suc, _+_, _*_, _-_, _≤_, max}
 use lib.ListN.{length, take, replicate}
 use Rattle.semantics.specs.Arithmetic.{prime}
 use Rattle.semantics.specs.Answer.{Answer, good, refused, andThen}
@@ -11,6 +11,7 @@ use Rattle.semantics.specs.Walk.{order}
 use Rattle.semantics.specs.Expand.{expandAll}
 use Rattle.semantics.specs.Group.{Root, constraintRoots, countRoots, fieldRoots}
 use Rattle.semantics.specs.Call.{Reply, Outcome, Result, needs, fitted, constraintOutputs, interactionOutputs, maxFieldsLen}
+use Rattle.records.specs.Access.{messageLength}
 use Rattle.sheet.specs.Replies.{refusedReply}
 use Rattle.grouping.specs.declared.Lengths.{Lengths}
 use Rattle.grouping.specs.declared.Grouped.{Grouped}
@@ -126,3 +127,12 @@ tooShort k = record { number = 17; place = k }
 abbrev pub constraintsIn : Grouped → ConstraintLists
 constraintsIn (grouped.Written n) = Written n
 constraintsIn (grouped.Short k) = Refused (tooShort k)
+
+abbrev pub shortOf : Grouped → (first : ℕ) → Refusal
+shortOf (grouped.Short k) first = tooShort (first + k)
+shortOf (grouped.Written n) first = record { number = 0; place = 0 }
+
+-- The largest message length of n interactions from `at` on.
+unfoldable pub longestFrom : (ws : List ℕ) (at n : ℕ) → ℕ
+longestFrom ws at zero = 0
+longestFrom ws at (suc n) = max (messageLength ws at) (longestFrom ws (at + (4 + messageLength ws at)) n)

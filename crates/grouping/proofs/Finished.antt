@@ -1,29 +1,24 @@
 -- The rows before and after the terms are placed, and the slices of a family when all is written.
 use mathlib.Core.Path.{_≡_, refl, sym, _∙_, ap, subst}
-use mathlib.Core.Bool.{Bool, true, false, cond}
-use mathlib.Core.List.{List, [], _∷_, _++_, map, flatMap, append-assoc, append-nil, map-append}
-use Prim.Native.Nat.{ℕ, zero, suc, _+_, _*_, _-_, _≤_, _<_}
+use mathlib.Core.Bool.{Bool, cond}
+use mathlib.Core.List.{List, [], _∷_, _++_, map, flatMap}
+use Prim.Native.Nat.{ℕ, zero, suc, _+_, _*_, _-_, _≤_}
 use native.Mathlib.Omega.{arith}
-use lib.Dec.{eqb, leb}
-use lib.ListN.{length, getD, take, drop, set, replicate, length-append, length-map, length-drop, length-replicate, take-append-drop}
+use lib.Dec.{eqb}
+use lib.ListN.{length, getD, take, drop, set, replicate, length-append, length-drop, length-replicate, take-append-drop}
 use lib.Seq.{getD-set-other, getD-set-same, length-take-le, take-add, take-append-seam}
-use borrow.Author.Tests.{le-leb, lt-leb}
 use Rattle.semantics.specs.Monomial.{Monomial}
-use Rattle.semantics.specs.Group.{Root, labelled, Item, itemsOf, items, Group, groups, constraintTerm, headers, variables, terms, layout, rows}
-use Rattle.semantics.specs.Call.{zeros, padded, firstShort}
-use Rattle.semantics.proofs.Basics.{cond-true, cond-false}
+use Rattle.semantics.specs.Group.{Root, Item, itemsOf, rows}
+use Rattle.semantics.specs.Call.{zeros, padded}
 use Rattle.semantics.proofs.Sorting.{All}
-use Rattle.semantics.proofs.Combining.{Asc}
-use Rattle.semantics.proofs.Grouping.{headers-length, terms-length, constraint-wide}
-use Rattle.group.specs.Grouped.{Tally, tallyAll, Ascends, total, tallyRow, tallied, RowInside, Rows, column, sum, totalled, cursors, select, placed, Room, countOf}
-use Rattle.group.specs.Grouped.{nonZero, listOf, itemsAt, termOf, widthOf, Placing, varsIn, headersOf, Vacant, Rooted, varsNamed}
+use Rattle.group.specs.Grouped.{Tally, tallyAll, Ascends, total, tallyRow, tallied, RowInside, Rows, column, sum, totalled, cursors, select, placed}
+use Rattle.group.specs.Grouped.{itemsAt, termOf, widthOf, Placing, varsIn, headersOf, Vacant, Rooted, varsNamed}
 use Rattle.group.proofs.Tallies.{total-all, length-all}
 use Rattle.group.proofs.Places.{placed-none, padded-is, zeros-add, zeros-long}
 use Rattle.group.proofs.Headers.{rows-length, tallied-length}
 use Rattle.group.proofs.RowTotals.{words, column-words}
-use Rattle.group.proofs.Counting.{tallyRow-cursor, row-count, zeros-drop}
+use Rattle.group.proofs.Counting.{tallyRow-cursor, row-count}
 use Rattle.grouping.proofs.NamedLists.{vars-length}
-use Rattle.group.proofs.RowVariables.{vars-cons}
 
 -- Every row has four words.
 abbrev Four : List (List ℕ) → Type 0
@@ -180,13 +175,6 @@ headers-filled n H H′ P r e d l =
     sym (take-append-drop (4 * n) H′)
     ∙ ap (λ (x : List ℕ). x ++ drop (4 * n) H′) (sym (rows-flat n H′) ∙ ap flat e ∙ flat-headers P 0 0 (rows 4 n H) (rows-four n H (r .room)) (r .inside))
     ∙ ap (λ (x : List ℕ). hs ++ x) (d ∙ r .rest ∙ ap zeros q) ∙ sym (padded-is hs (length H′))
-
--- A vacant slice with words in front.
-pub vacant-written : (ws s s′ : List ℕ) → Vacant ws s → length s′ ≡ length s → s′ ≡ ws ++ drop (length ws) s → s′ ≡ padded ws (length s′)
-vacant-written ws s s′ v l e =
-    let q : length s - length ws ≡ length s′ - length ws = omega arith in
-    e ∙ ap (λ (x : List ℕ). ws ++ drop (length ws) x) (v .0) ∙ ap (λ (x : List ℕ). ws ++ x) (zeros-drop (length ws) (length s) (v .1) ∙ ap zeros q)
-    ∙ sym (padded-is ws (length s′))
 
 -- The items of a root carry its label.
 pub items-label : (r : Root) (ms : List Monomial) → itemsOf r ms ≡ itemsAt (r .index) (r .field) ms

@@ -1,17 +1,16 @@
 -- A family of roots, from counting to the finished slices: what its groups are, and the first slice that is too short.
 use mathlib.Core.Path.{_≡_, refl, sym, ap, subst, _∙_}
 use mathlib.Core.Logic.{_⊎_, inl, inr}
-use mathlib.Core.Bool.{Bool, true, false, cond}
+use mathlib.Core.Bool.{Bool}
 use mathlib.Core.List.{List, [], _∷_, _++_, map, flatMap}
-use Prim.Native.Nat.{ℕ, zero, suc, _+_, _*_, _-_, _≤_, _<_}
+use Prim.Native.Nat.{ℕ, _+_, _*_, _-_, _≤_, _<_}
 use native.Mathlib.Omega.{arith}
 use lib.Dec.{leb}
-use lib.ListN.{length, getD, take, drop, replicate, length-append, length-map, length-replicate}
+use lib.ListN.{length, take, drop, replicate, length-append, length-map, length-replicate}
 use lib.Seq.{take-append-seam}
 use borrow.Author.Tests.{le-leb, lt-leb}
 use Rattle.semantics.specs.Arithmetic.{prime}
 use Rattle.semantics.specs.Monomial.{Monomial, listAt}
-use Rattle.semantics.specs.Expand.{listSize}
 use Rattle.semantics.specs.Group.{Root, Item, itemsOf, items, Group, groups, headers, variables, terms, layout, rows}
 use Rattle.semantics.specs.Call.{zeros, padded, firstShort}
 use Rattle.semantics.proofs.Basics.{cond-true, cond-false}
@@ -22,10 +21,10 @@ use Rattle.group.specs.declared.Tallied.the-variants.{Headers, Full}
 use Rattle.grouping.specs.declared.Lengths.{Lengths}
 use Rattle.grouping.specs.declared.Grouped.{Grouped}
 use Rattle.grouping.specs.declared.Grouped.the-variants.{Written, Short}
-use Rattle.group.specs.Grouped.{Tally, tallyAll, total, tallied, Rows, Counted, select, countOf, placed, Room, column, sum, listOf, InPool, Rooted, varsNamed, termOf, widthOf, Placing, ToPlace, Places, varsIn, headersOf}
-use Rattle.grouping.specs.Families.{ToTally, ToPlaceRoots, StoredList, Grouping, groupsOf, Measured, StartsWith, Laid}
+use Rattle.group.specs.Grouped.{Tally, tallyAll, total, tallied, Rows, Counted, select, countOf, placed, Room, column, sum, listOf, InPool, Rooted, varsNamed, termOf, widthOf, Placing, Places, varsIn, headersOf}
+use Rattle.grouping.specs.Families.{ToTally, ToPlaceRoots, Standing, Grouping, Measured, Front, Laid}
 use Rattle.group.proofs.Gathering.{gathered}
-use Rattle.group.proofs.Tallies.{counted, varsOf, counted-gathered, gathered-whole, count-all}
+use Rattle.group.proofs.Tallies.{counted, counted-gathered, gathered-whole, count-all}
 use Rattle.group.proofs.Labels.{Labels, groups-gathered, list-ascends}
 use Rattle.group.proofs.Places.{placed-all, padded-is}
 use Rattle.group.proofs.Headers.{tallied-length}
@@ -94,7 +93,7 @@ unfolding total
 total-none = refl
 
 -- Words in front of a slice, and zeros behind them.
-pub padded-starts : (words slice : List ℕ) → slice ≡ padded words (length slice) → StartsWith words slice
+pub padded-starts : (words slice : List ℕ) → slice ≡ padded words (length slice) → Front words slice
 padded-starts words slice e =
     let p = e ∙ padded-is words (length slice) in
     let l = ap length p ∙ length-append words (zeros (length slice - length words)) in
@@ -115,7 +114,7 @@ module _ (ws P : List ℕ) (roots : List Root) (labels : Labels roots) (g : Grou
   unfolding nodesOf
   rooted = go roots (g .lists)
     where
-      go : (rs : List Root) → All (λ (r : Root). StoredList list P (r .node)) rs → All (Rooted P) (map (λ (r : Root). r .node) rs)
+      go : (rs : List Root) → All (λ (r : Root). Standing list P (r .node)) rs → All (Rooted P) (map (λ (r : Root). r .node) rs)
       go [] h = tt
       go (r ∷ rs) h = (
         record {
@@ -128,7 +127,7 @@ module _ (ws P : List ℕ) (roots : List Root) (labels : Labels roots) (g : Grou
   in-pool : All (λ (r : Root). InPool P (r .node)) roots
   in-pool = go roots (g .lists)
     where
-      go : (rs : List Root) → All (λ (r : Root). StoredList list P (r .node)) rs → All (λ (r : Root). InPool P (r .node)) rs
+      go : (rs : List Root) → All (λ (r : Root). Standing list P (r .node)) rs → All (λ (r : Root). InPool P (r .node)) rs
       go [] h = tt
       go (r ∷ rs) h = (stored-in P (r .node) (list (r .node)) (h .0 .stored) (h .0 .low), go rs (h .1))
 
@@ -137,7 +136,7 @@ module _ (ws P : List ℕ) (roots : List Root) (labels : Labels roots) (g : Grou
   unfolding items flatMap
   agree = go roots (g .lists)
     where
-      go : (rs : List Root) → All (λ (r : Root). StoredList list P (r .node)) rs → items list rs ≡ items (listOf P) rs
+      go : (rs : List Root) → All (λ (r : Root). Standing list P (r .node)) rs → items list rs ≡ items (listOf P) rs
       go [] h = refl
       go (r ∷ rs) h = λ i. itemsOf r (sym (stored-list P (r .node) (list (r .node)) (h .0 .stored)) i) ++ go rs (h .1) i
 
@@ -265,7 +264,7 @@ module _ (ws P : List ℕ) (roots : List Root) (labels : Labels roots) (g : Grou
 
           -- All is written.
           pub fit-written : (H₃ W₃ : List ℕ) → length H₃ ≡ length H → length W₃ ≡ length W → length T₂ ≡ length T
-              → StartsWith (headersOf 0 0 (tallied n H₂ P)) H₃ → StartsWith (varsIn (tallied n H₂ P)) W₃ → Laid (termOf b) (groups list roots) H₃ W₃ T₂ (Written c)
+              → Front (headersOf 0 0 (tallied n H₂ P)) H₃ → Front (varsIn (tallied n H₂ P)) W₃ → Laid (termOf b) (groups list roots) H₃ W₃ T₂ (Written c)
           fit-written H₃ W₃ lh lv lt x y =
               let s = sizes in
               let o = r .rows-are .room in
@@ -280,9 +279,9 @@ module _ (ws P : List ℕ) (roots : List Root) (labels : Labels roots) (g : Grou
               let h = there in (
                 short-none (termOf b) (groups list roots) (length H₃) (length W₃) (length T₂)
                     (omega (arith, s .0)) (omega (arith, s .1, h .3)) (omega (arith, s .2, h .4)),
-                subst (λ (w : List ℕ). StartsWith w H₃) hs x,
-                subst (λ (w : List ℕ). StartsWith w W₃) vw y,
-                subst (λ (w : List ℕ). StartsWith w T₂) ts (padded-starts (placed (termOf b) (widthOf b) (tallied n H P) (items (listOf P) roots′)) T₂ (placed-now .terms-are)),
+                subst (λ (w : List ℕ). Front w H₃) hs x,
+                subst (λ (w : List ℕ). Front w W₃) vw y,
+                subst (λ (w : List ℕ). Front w T₂) ts (padded-starts (placed (termOf b) (widthOf b) (tallied n H P) (items (listOf P) roots′)) T₂ (placed-now .terms-are)),
                 h .0 ∙ sym (s .0),
                 h .1 ∙ sym (s .1),
                 h .2 ∙ sym (s .2),

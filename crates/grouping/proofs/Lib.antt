@@ -1,4 +1,5 @@
-pub mod Finished
 pub mod NamedLists
+pub mod Finished
 pub mod RootItems
 pub mod Fitting
+pub mod Slices

@@ -1,14 +1,14 @@
 -- Counting the lists of records that words name: what is left to count gives the whole.
 use mathlib.Core.Path.{_≡_, refl, sym, ap, subst, _∙_}
 use mathlib.Core.List.{List, [], _∷_, _++_, flatMap, append-assoc, append-nil}
-use Prim.Native.Nat.{ℕ, zero, suc, _+_, _*_, _-_, _≤_, _<_}
+use Prim.Native.Nat.{ℕ, suc, _+_, _*_, _-_, _≤_, _<_}
 use native.Mathlib.Omega.{arith}
 use lib.ListN.{length, getD, take, drop, length-append}
 use lib.Seq.{drop-cons}
 use Rattle.semantics.proofs.Sorting.{All}
 use Rattle.records.specs.Access.{recordsOf, part, messageLength, eachWords, RootsInside, AllRootsInside}
 use Rattle.group.specs.declared.Tallied.the-variants.{Headers, Full}
-use Rattle.group.specs.Grouped.{Tally, tallyAll, total, tallied, Rows, Counted, nonZero, listOf, InPool, Rooted, varsNamed}
+use Rattle.group.specs.Grouped.{tallyAll, total, tallied, Rows, Counted, nonZero, listOf, InPool, Rooted, varsNamed}
 use Rattle.grouping.specs.Families.{ToTally}
 use Rattle.group.proofs.Tallies.{tallyAll-append, tallyAll-grows, total-all}
 use Rattle.group.proofs.PoolLists.{nonZero-length}

@@ -1,24 +1,23 @@
 -- Placing the terms of roots: what is left to place gives the whole; the roots that the words name.
 use mathlib.Core.Path.{_≡_, refl, sym, ap, subst, _∙_}
-use mathlib.Core.Bool.{Bool, true, false, cond}
+use mathlib.Core.Bool.{Bool}
 use mathlib.Core.List.{List, [], _∷_, _++_, map, flatMap, append-assoc, append-nil}
-use Prim.Native.Nat.{ℕ, zero, suc, _+_, _*_, _-_, _≤_, _<_}
+use Prim.Native.Nat.{ℕ, suc, _+_, _*_, _-_, _≤_, _<_}
 use native.Mathlib.Omega.{arith}
 use native.Mathlib.Numerals.{add-one}
-use lib.Dec.{eqb}
-use lib.ListN.{length, getD, take, drop, length-append}
+use lib.ListN.{length, getD, drop, length-append}
 use Rattle.semantics.specs.Arithmetic.{prime}
 use Rattle.semantics.specs.Answer.{good}
-use Rattle.semantics.specs.Sheet.{Interaction, Sheet, Each, GoodInteraction, interactionWords}
+use Rattle.semantics.specs.Sheet.{Interaction, Each, GoodInteraction, interactionWords}
 use Rattle.semantics.specs.Check.{readSheet, check}
 use Rattle.semantics.specs.Monomial.{Monomial}
 use Rattle.semantics.specs.Group.{Root, labelled, constraintRoots, countRoots, fieldRoots, Item, itemsOf, items}
 use Rattle.semantics.proofs.Sorting.{All}
-use Rattle.records.specs.Access.{recordsOf, constraintsAt, interactionsAt, part, messageLength, eachWords, countAt, fieldsAt, countWords, fieldWords, RootsInside, AllRootsInside}
-use Rattle.records.proofs.Reading.{counts, fields, count-word, message-is, next-stands, first-stands, head-counts, counts-small, constraints-are, constraints-inside, interactions-stand, interactions-inside, counts-are, fields-are}
+use Rattle.records.specs.Access.{recordsOf, constraintsAt, interactionsAt, part, messageLength, countWords, fieldWords, RootsInside, AllRootsInside}
+use Rattle.records.proofs.Reading.{count-word, message-is, next-stands, first-stands, head-counts, counts-small, constraints-are, constraints-inside, interactions-stand, interactions-inside, counts-are, fields-are}
 use Rattle.records.proofs.Steps.{inside}
 use Rattle.semantics.proofs.GraphSheets.{interaction-facts}
-use Rattle.group.specs.Grouped.{Tally, Room, nonZero, listOf, InPool, itemsAt, Placing, ToPlace, Places, varsNamed}
+use Rattle.group.specs.Grouped.{Room, listOf, InPool, itemsAt, Placing, ToPlace, Places, varsNamed}
 use Rattle.grouping.specs.Families.{constraintRoot, fieldRoot, eachRoots, countRootAt, fieldRootsAt, ToPlaceRoots}
 use Rattle.group.proofs.Tallies.{varsOf}
 use Rattle.group.proofs.Placements.{room-front}

@@ -15,7 +15,6 @@ use Rattle.semantics.specs.Call.{firstShort}
 use Rattle.semantics.proofs.Sorting.{All}
 use Rattle.records.specs.Access.{recordsOf, messageLength, fieldsAt}
 use Rattle.monomial.specs.Words.{Stored}
-use Rattle.grouping.specs.declared.Lengths.{Lengths}
 use Rattle.grouping.specs.declared.Grouped.{Grouped}
 use Rattle.grouping.specs.declared.Grouped.the-variants.{Written, Short}
 use Rattle.group.specs.Grouped.{total, tallied, Rows, listOf, InPool, ToPlace, Rooted}
@@ -51,7 +50,7 @@ pub record ToPlaceRoots (interaction : Bool) (n : ℕ) (headers pool terms : Lis
   pub lists : All (λ (r : Root). InPool pool (r .node)) roots
 
 -- A record's finished list stands in the pool, at places that a word can hold, and is inside the limit.
-pub record StoredList (list : ℕ → List Monomial) (pool : List ℕ) (i : ℕ) : Type 0 where
+pub record Standing (list : ℕ → List Monomial) (pool : List ℕ) (i : ℕ) : Type 0 where
   pub stored : Stored pool i (list i)
   pub low : getD pool (2 * i) 0 + listSize (list i) ≤ 4294967295
   pub few : length (list i) ≤ 256
@@ -59,7 +58,7 @@ pub record StoredList (list : ℕ → List Monomial) (pool : List ℕ) (i : ℕ)
 -- What grouping a family asks: a checked sheet, and the list of every root in the pool.
 pub record Grouping (ws pool : List ℕ) (roots : List Root) : Type 0 where
   pub checked : check prime ws ≡ good (readSheet ws)
-  pub lists : All (λ (r : Root). StoredList (listAt prime (recordsOf ws)) pool (r .node)) roots
+  pub lists : All (λ (r : Root). Standing (listAt prime (recordsOf ws)) pool (r .node)) roots
 
 -- The groups of a family of a sheet's roots.
 abbrev pub groupsOf : (ws : List ℕ) → List Root → List Group
@@ -72,14 +71,14 @@ Measured n width v t variables terms (Written c) =
 Measured n width v t variables terms (Short k) = ((k ≡ 2) × (variables < v)) ⊎ ((k ≡ 3) × (v ≤ variables) × (terms < width * t))
 
 -- Words in front of a slice.
-abbrev pub StartsWith : (words slice : List ℕ) → Type 0
-StartsWith words slice = (length words ≤ length slice) × (take (length words) slice ≡ words)
+abbrev pub Front : (words slice : List ℕ) → Type 0
+Front words slice = (length words ≤ length slice) × (take (length words) slice ≡ words)
 
 -- The lists of a family stand in front of the three slices; or the first slice that is too short (01: "17: a finished list exceeds its
 -- output slice. Place: the first such slice").
 abbrev pub Laid : (term : Item → List ℕ) → List Group → (hs vs ts : List ℕ) → Grouped → Type 0
 Laid term gs hs vs ts (Written c) =
     (firstShort 1 (layout term gs) (length hs ∷ length vs ∷ length ts ∷ []) ≡ 0)
-    × StartsWith (headers 0 0 gs) hs × StartsWith (variables gs) vs × StartsWith (terms term gs) ts
+    × Front (headers 0 0 gs) hs × Front (variables gs) vs × Front (terms term gs) ts
     × (c .headers ≡ length (headers 0 0 gs)) × (c .variables ≡ length (variables gs)) × (c .terms ≡ length (terms term gs))
 Laid term gs hs vs ts (Short k) = (firstShort 1 (layout term gs) (length hs ∷ length vs ∷ length ts ∷ []) ≡ k) × (k ≡ 0 → ⊥)

@@ -7,9 +7,9 @@ ghost use lib.ListN.{length};
 ghost use Rattle.semantics.specs.Check.{readSheet};
 ghost use Rattle.semantics.specs.Group.{constraintRoots, countRoots, fieldRoots, constraintTerm, interactionTerm};
 ghost use Rattle.group.specs.Grouped.{tallied, total, Rows, column, sum, widthOf, Placing, varsIn, headersOf};
-ghost use Rattle.grouping.specs.Families.{Measured, StartsWith, Grouping, Laid, groupsOf};
+ghost use Rattle.grouping.specs.Families.{Measured, Front, Grouping, Laid, groupsOf};
 
-mod families;
+pub mod families;
 
 use group::Tallied;
 use group::place;
@@ -60,7 +60,7 @@ fn start_groups(headers: &mut [u32], n: usize, pool: &[u32], terms: &mut [u32])
 // Writes the variables of the rows, and the offsets.
 fn finish_groups(headers: &mut [u32], n: usize, pool: &[u32], variables: &mut [u32])
     requires { ⌜ Rows n (now headers) (now pool) × (n ≤ 16777216) × (total (tallied n (now headers) (now pool)) ≤ 16777216) × (length (varsIn (tallied n (now headers) (now pool))) ≤ length (now variables)) ⌝ }
-    ensures { λ _. ⌜ StartsWith (headersOf 0 0 (tallied n (now (headers .entry)) (now (pool .entry)))) (now (headers .exit)) × StartsWith (varsIn (tallied n (now (headers .entry)) (now (pool .entry)))) (now (variables .exit)) ⌝ }
+    ensures { λ _. ⌜ Front (headersOf 0 0 (tallied n (now (headers .entry)) (now (pool .entry)))) (now (headers .exit)) × Front (varsIn (tallied n (now (headers .entry)) (now (pool .entry)))) (now (variables .exit)) ⌝ }
 {
     place::write_variables(headers, n, pool, variables);
     totals::fill_offsets(headers, n);

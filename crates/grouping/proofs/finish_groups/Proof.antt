@@ -1,12 +1,7 @@
-use mathlib.Core.Path.{_≡_, refl, sym, ap, subst, _∙_}
-use mathlib.Core.Logic.{_⊎_, inl, inr}
-use mathlib.Core.Bool.{Bool, true, false}
-use mathlib.Core.List.{List, [], _∷_, _++_}
-use Prim.Native.Nat.{ℕ, _+_, _*_, _-_, _≤_, _<_}
+use Prim.Native.Nat.{_-_}
 use native.Mathlib.Omega.{arith}
 use borrow.Author.Needs.{needs}
-use lib.ListN.{length, getD, take, drop, replicate}
-use Rattle.group.specs.Grouped.{tallied, total, varsIn, headersOf}
+use Rattle.group.specs.Grouped.{tallied, varsIn, headersOf}
 use Rattle.grouping.proofs.Finished.{total-is, vars-few, headers-filled, written-starts}
 use Rattle.grouping.proofs.Fitting.{padded-starts}
 use Rattle.grouping.proofs.finish_groups.Statement.{statement}
@@ -16,23 +11,23 @@ use Rattle.grouping.proofs.finish_groups.Lts as lts
 use Rattle.group.proofs.place.write_variables.Reads as write-variables-reads
 use Rattle.group.proofs.totals.fill_offsets.Reads as fill-offsets-reads
 
--- src/grouping.rt:69:5
+-- src/lib.rt:69:5
 write-variables-requires : tie.Need-write-variables-requires
 write-variables-requires c κs = let p = c .before .before .before .before .before .pre in (p .0, p .3)
 
--- src/grouping.rt:70:5
+-- src/lib.rt:70:5
 fill-offsets-requires : tie.Need-fill-offsets-requires
 fill-offsets-requires c κs = let a = c .before .before .before .before .before .before .before .before .before .args in let p = c .before .before .before .before .before .before .before .before .before .pre in let t = total-is (a .n) (a .headers .now) (a .pool .now) (p .0) in let v = vars-few (a .n) (a .headers .now) (a .pool .now) (p .0) in (p .0 .room, omega (arith, p .1), omega (arith, p .2))
 
--- src/grouping.rt:65:1
+-- src/lib.rt:65:1
 same-length : tie.Need-same-length
 same-length c = search needs
 
--- src/grouping.rt:65:1
+-- src/lib.rt:65:1
 same-length-2 : tie.Need-same-length-2
 same-length-2 c = search needs
 
--- src/grouping.rt:65:1
+-- src/lib.rt:65:1
 returns : tie.Need-returns
 returns c = let a = c .before .before .before .before .before .before .before .before .before .before .before .before .args in
     let p = c .before .before .before .before .before .before .before .before .before .before .before .before .pre in

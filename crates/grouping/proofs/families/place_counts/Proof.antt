@@ -1,11 +1,9 @@
-use mathlib.Core.Path.{_≡_, refl, sym, ap, subst, _∙_}
-use mathlib.Core.Bool.{true, false}
-use mathlib.Core.List.{List, [], _∷_, _++_}
-use Prim.Native.Nat.{ℕ, _+_, _*_, _-_, _≤_, _<_}
+use mathlib.Core.Path.{sym, ap}
+use mathlib.Core.Bool.{true}
+use Prim.Native.Nat.{ℕ, _+_, _-_}
 use native.Mathlib.Omega.{arith}
 use borrow.Author.Needs.{needs}
-use lib.ListN.{length, getD}
-use Rattle.semantics.specs.Group.{Root}
+use lib.ListN.{getD}
 use Rattle.grouping.specs.Families.{countRootAt}
 use Rattle.grouping.proofs.RootItems.{EachRoots, each-roots-start, each-roots-done, each-roots-inside, each-roots-ready, each-roots-more, one-ready, one-placed}
 use Rattle.grouping.proofs.families.place_counts.Statement.{statement}

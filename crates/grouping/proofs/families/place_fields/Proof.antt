@@ -1,11 +1,9 @@
-use mathlib.Core.Path.{_≡_, refl, sym, ap, subst, _∙_}
-use mathlib.Core.Bool.{true, false}
-use mathlib.Core.List.{List, [], _∷_, _++_}
-use Prim.Native.Nat.{ℕ, _+_, _*_, _-_, _≤_, _<_}
+use mathlib.Core.Path.{sym, subst}
+use mathlib.Core.Bool.{true}
+use Prim.Native.Nat.{ℕ, _+_, _-_}
 use native.Mathlib.Omega.{arith}
 use borrow.Author.Needs.{needs}
-use lib.ListN.{length, getD}
-use Rattle.semantics.specs.Group.{Root, labelled, items}
+use Rattle.semantics.specs.Group.{labelled, items}
 use Rattle.records.specs.Access.{part}
 use Rattle.group.specs.Grouped.{listOf, Places}
 use Rattle.grouping.specs.Families.{fieldRoot, fieldRootsAt, ToPlaceRoots}

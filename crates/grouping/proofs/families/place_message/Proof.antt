@@ -1,11 +1,8 @@
-use mathlib.Core.Path.{_≡_, refl, sym, ap, subst, _∙_}
-use mathlib.Core.Bool.{true, false}
-use mathlib.Core.List.{List, [], _∷_, _++_}
-use Prim.Native.Nat.{ℕ, _+_, _*_, _-_, _≤_, _<_}
+use mathlib.Core.Path.{refl}
+use mathlib.Core.Bool.{true}
+use Prim.Native.Nat.{_-_}
 use native.Mathlib.Omega.{arith}
 use borrow.Author.Needs.{needs}
-use lib.ListN.{length, getD}
-use Rattle.semantics.specs.Group.{Root}
 use Rattle.grouping.proofs.RootItems.{RootsAt, roots-at-start, roots-at-done, roots-at-ready, roots-at-more}
 use Rattle.grouping.proofs.families.place_message.Statement.{statement}
 use Rattle.grouping.proofs.families.place_message.Tie as tie

@@ -1,15 +1,9 @@
-use mathlib.Core.Path.{_≡_, refl, sym, ap, subst, _∙_}
-use mathlib.Core.Bool.{true, false}
-use mathlib.Core.List.{List, [], _∷_, _++_}
-use Prim.Native.Nat.{ℕ, _+_, _*_, _-_, _≤_, _<_}
+use mathlib.Core.Path.{subst, _∙_}
+use Prim.Native.Nat.{_+_, _-_}
 use native.Mathlib.Omega.{arith}
 use borrow.Author.Needs.{needs}
-use lib.ListN.{length, getD}
-use Rattle.records.specs.Access.{recordsOf, countAt}
-use Rattle.records.proofs.Rooting.{count-inside, message-inside}
-use Rattle.group.specs.declared.Tallied.the-variants.{Headers, Full}
+use Rattle.records.specs.Access.{countAt}
 use Rattle.group.specs.Grouped.{tallied, tallyAll, Counted, varsNamed}
-use Rattle.grouping.specs.Families.{ToTally}
 use Rattle.grouping.proofs.NamedLists.{EachAt, each-start, each-done, each-inside, each-ready, each-more, each-full}
 use Rattle.grouping.proofs.families.tally_counts.Statement.{statement}
 use Rattle.grouping.proofs.families.tally_counts.Tie as tie

@@ -1,12 +1,8 @@
-use mathlib.Core.Path.{_≡_, refl, sym, ap, subst, _∙_}
-use mathlib.Core.Bool.{true, false}
-use mathlib.Core.List.{List, [], _∷_, _++_}
-use Prim.Native.Nat.{ℕ, _+_, _*_, _-_, _≤_, _<_}
+use mathlib.Core.Path.{sym, subst, _∙_}
+use Prim.Native.Nat.{ℕ, _+_, _-_}
 use native.Mathlib.Omega.{arith}
 use borrow.Author.Needs.{needs}
-use lib.ListN.{length, getD}
-use Rattle.records.specs.Access.{recordsOf, part, fieldsAt}
-use Rattle.records.proofs.Rooting.{count-inside, message-inside}
+use Rattle.records.specs.Access.{part, fieldsAt}
 use Rattle.group.specs.declared.Tallied.the-variants.{Headers, Full}
 use Rattle.group.specs.Grouped.{tallied, tallyAll, Counted, varsNamed}
 use Rattle.grouping.specs.Families.{ToTally}

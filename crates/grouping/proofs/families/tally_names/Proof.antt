@@ -1,10 +1,7 @@
-use mathlib.Core.Path.{_≡_, refl, sym, ap, subst, _∙_}
-use mathlib.Core.List.{List, [], _∷_, _++_}
-use Prim.Native.Nat.{ℕ, _+_, _*_, _-_, _≤_, _<_}
+use mathlib.Core.Path.{subst, _∙_}
+use Prim.Native.Nat.{_-_}
 use native.Mathlib.Omega.{arith}
 use borrow.Author.Needs.{needs}
-use lib.ListN.{length, getD}
-use Rattle.group.specs.declared.Tallied.the-variants.{Headers, Full}
 use Rattle.group.specs.Grouped.{tallied, tallyAll, nonZero, listOf, Counted}
 use Rattle.grouping.proofs.NamedLists.{NamesAt, at-start, at-done, at-ready, at-more, at-full}
 use Rattle.grouping.proofs.families.tally_names.Statement.{statement}
