@@ -15,7 +15,7 @@ use Rattle.expansion.specs.Answers.{longestFrom}
 
 longest-words : (rest ws : List ℕ) (at : ℕ) (xs : List Interaction) → drop at ws ≡ flatMap interactionWords xs ++ rest
     → longestFrom ws at (length xs) ≡ foldr (λ (x : Interaction) (n : ℕ). max (length (x .message)) n) 0 xs
-unfolding longestFrom foldr flatMap
+unfolding longestFrom flatMap
 longest-words rest ws at [] e = refl
 longest-words rest ws at (x ∷ xs) e =
     let tail : List ℕ = flatMap interactionWords xs ++ rest in

@@ -132,6 +132,11 @@ abbrev pub shortOf : Grouped → (first : ℕ) → Refusal
 shortOf (grouped.Short k) first = tooShort (first + k)
 shortOf (grouped.Written n) first = record { number = 0; place = 0 }
 
+-- A slice's number is at most 3.
+abbrev pub ShortFew : Grouped → Type 0
+ShortFew (grouped.Short k) = k ≤ 3
+ShortFew (grouped.Written n) = Unit {0}
+
 -- The largest message length of n interactions from `at` on.
 unfoldable pub longestFrom : (ws : List ℕ) (at n : ℕ) → ℕ
 longestFrom ws at zero = 0

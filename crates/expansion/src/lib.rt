@@ -12,7 +12,7 @@ ghost use Rattle.records.specs.Access.{recordsOf, AllRootsInside};
 ghost use Rattle.records.proofs.Reading.{counts, fields};
 ghost use Rattle.grouping.specs.Families.{Grouping};
 ghost use Rattle.expand.specs.Walking.{Expands};
-ghost use Rattle.expansion.specs.Answers.{refusalOf, constraintsIn, shortOf, longestFrom, constraintOutcome, constraintAnswer, constraintsOf, lengthsOf, cut, Inside, CheckedSheet, interactionOutcome, interactionAnswer, interactionsOf, bothLengths, BothInside};
+ghost use Rattle.expansion.specs.Answers.{refusalOf, constraintsIn, shortOf, ShortFew, longestFrom, constraintOutcome, constraintAnswer, constraintsOf, lengthsOf, cut, Inside, CheckedSheet, interactionOutcome, interactionAnswer, interactionsOf, bothLengths, BothInside};
 use expand::Expanded;
 use grouping::Grouped;
 use grouping::Lengths;
@@ -222,7 +222,7 @@ fn max_fields_len(s: &[u32], at: usize, interactions: usize) -> usize
 
 // The refusal of a family whose slice is too short; its slices are counted from `first`.
 fn too_short(grouped: Grouped, first: usize) -> Refusal
-    requires { ⌜ first ≤ 3 ⌝ }
+    requires { ⌜ (first ≤ 3) × ShortFew grouped ⌝ }
     ensures { λ r. ⌜ r ≡ shortOf grouped first ⌝ }
 {
     match grouped {
