@@ -26,23 +26,23 @@ use Rattle.records.proofs.interactions_at.Reads as interactions-at-reads
 use Rattle.records.proofs.wide.Reads as wide-reads
 use Rattle.slices.proofs.zero_all.Reads as zero-all-reads
 
--- src/lib.rt:140:5
+-- src/lib.rt:136:5
 zero-all-requires : tie.Need-zero-all-requires
 zero-all-requires c κs = search needs
 
--- src/lib.rt:141:9
+-- src/lib.rt:137:9
 interactions-at-requires : tie.Need-interactions-at-requires
 interactions-at-requires c κs = search needs
 
--- src/lib.rt:142:31
+-- src/lib.rt:138:31
 shared-slice-read-wide : tie.Need-shared-slice-read-wide
 shared-slice-read-wide c = let h = head-inside (c .before .before .before .before .before .before .before .before .before .before .before .args .sheet .now) (c .before .before .before .before .before .before .before .before .before .before .before .pre .checked) in omega arith
 
--- src/lib.rt:142:9
+-- src/lib.rt:138:9
 wide-requires : tie.Need-wide-requires
 wide-requires c κs = search needs
 
--- src/lib.rt:143:9
+-- src/lib.rt:139:9
 tally-fields-requires : tie.Need-tally-fields-requires
 tally-fields-requires c κs = let a = c .before .before .before .before .before .before .before .before .before .before .before .before .before .args in
     let g = c .before .before .before .before .before .before .before .before .before .before .before .before .before .pre in
@@ -55,19 +55,19 @@ tally-fields-requires c κs = let a = c .before .before .before .before .before 
     let span = interaction-span ws (g .checked) at count (c .before .before .before .interactions-at .ensures) (c .before .wide .ensures) in
     (span .0, fit-start ws P (fieldRoots (readSheet ws)) (field-labels (readSheet ws)) g (fields-few ws (g .checked)) (z .last .0) (fieldWords ws at count) (length (a .headers .now)) (z .ensures) names)
 
--- src/lib.rt:144:26
+-- src/lib.rt:140:26
 enum-known-counted : tie.Need-enum-known-counted
 enum-known-counted c = search needs
 
--- src/lib.rt:145:9
+-- src/lib.rt:141:9
 enum-told : tie.Need-enum-told
 enum-told c = search needs
 
--- src/lib.rt:145:9
+-- src/lib.rt:141:9
 same-length : tie.Need-same-length
 same-length c = search needs
 
--- src/lib.rt:145:9
+-- src/lib.rt:141:9
 returns : tie.Need-returns
 returns c = let a = c .before .before .before .before .before .before .before .before .before .before .before .before .before .before .before .before .before .before .args in
     let g = c .before .before .before .before .before .before .before .before .before .before .before .before .before .before .before .before .before .before .pre in
@@ -83,7 +83,7 @@ returns c = let a = c .before .before .before .before .before .before .before .b
     fit-full ws P (fieldRoots (readSheet ws)) (field-labels (readSheet ws)) g (fields-few ws (g .checked)) (z .last .0) (fieldWords ws at count) (length (a .headers .now)) (z .ensures) names true H (a .variables .now) (a .terms .now)
     (subst (Counted H P (tallyAll (varsNamed P (fieldWords ws at count)) (tallied 0 (z .last .0) P))) (c .enum-told .given .1) (t .ensures))
 
--- src/lib.rt:147:9
+-- src/lib.rt:143:9
 room-for-requires : tie.Need-room-for-requires
 room-for-requires c κs = let a = c .before .before .before .before .before .before .before .before .before .before .before .before .before .before .before .before .before .before .before .before .args in
     let g = c .before .before .before .before .before .before .before .before .before .before .before .before .before .before .before .before .before .before .before .before .pre in
@@ -101,19 +101,19 @@ room-for-requires c κs = let a = c .before .before .before .before .before .bef
     let x = fit-room ws P (fieldRoots (readSheet ws)) (field-labels (readSheet ws)) g (fields-few ws (g .checked)) true n H r in
     (x .0, x .1, x .2, omega arith)
 
--- src/lib.rt:148:26
+-- src/lib.rt:144:26
 enum-known-fit : tie.Need-enum-known-fit
 enum-known-fit c = search needs
 
--- src/lib.rt:149:9
+-- src/lib.rt:145:9
 enum-told-2 : tie.Need-enum-told-2
 enum-told-2 c = search needs
 
--- src/lib.rt:149:9
+-- src/lib.rt:145:9
 same-length-2 : tie.Need-same-length-2
 same-length-2 c = search needs
 
--- src/lib.rt:149:9
+-- src/lib.rt:145:9
 returns-2 : tie.Need-returns-2
 returns-2 c = let a = c .before .before .before .before .before .before .before .before .before .before .before .before .before .before .before .before .before .before .before .before .before .before .before .args in
     let g = c .before .before .before .before .before .before .before .before .before .before .before .before .before .before .before .before .before .before .before .before .before .before .before .pre in
@@ -131,7 +131,7 @@ returns-2 c = let a = c .before .before .before .before .before .before .before 
     let u = c .before .before .room-for in
     fit-short ws P (fieldRoots (readSheet ws)) (field-labels (readSheet ws)) g (fields-few ws (g .checked)) true n H r (a .variables .now) (a .terms .now) (u .result) (u .ensures) (c .enum-told2 .given .0 .0) (c .enum-told2 .given .1)
 
--- src/lib.rt:151:5
+-- src/lib.rt:147:5
 start-groups-requires : tie.Need-start-groups-requires
 start-groups-requires c κs = let a = c .before .before .before .before .before .before .before .before .before .before .before .before .before .before .before .before .before .before .before .before .before .before .before .before .before .before .args in
     let g = c .before .before .before .before .before .before .before .before .before .before .before .before .before .before .before .before .before .before .before .before .before .before .before .before .before .before .pre in
@@ -148,7 +148,7 @@ start-groups-requires c κs = let a = c .before .before .before .before .before 
     let r = fit-rows ws P (fieldRoots (readSheet ws)) (field-labels (readSheet ws)) g (fields-few ws (g .checked)) (z .last .0) (fieldWords ws at count) (length (a .headers .now)) (z .ensures) names H n (subst (Counted H P (tallyAll (varsNamed P (fieldWords ws at count)) (tallied 0 (z .last .0) P))) (c .before .before .before .before .before .before .before .before .counted .given .1) (t .ensures)) in
     (r .rows-are, r .total-small)
 
--- src/lib.rt:152:5
+-- src/lib.rt:148:5
 place-fields-requires : tie.Need-place-fields-requires
 place-fields-requires c κs = let a = c .before .before .before .before .before .before .before .before .before .before .before .before .before .before .before .before .before .before .before .before .before .before .before .before .before .before .before .before .before .before .before .before .before .args in
     let g = c .before .before .before .before .before .before .before .before .before .before .before .before .before .before .before .before .before .before .before .before .before .before .before .before .before .before .before .before .before .before .before .before .before .pre in
@@ -170,7 +170,7 @@ place-fields-requires c κs = let a = c .before .before .before .before .before 
     let same = field-labelled ws (g .checked) at count (c .before .before .before .before .before .before .before .before .before .before .before .before .before .before .before .before .before .before .before .before .before .before .before .interactions-at .ensures) (c .before .before .before .before .before .before .before .before .before .before .before .before .before .before .before .before .before .before .before .before .before .wide .ensures) in
     (span .0, span .1, fit-place ws P (fieldRoots (readSheet ws)) (field-labels (readSheet ws)) g (fields-few ws (g .checked)) true n H r (a .variables .now) (a .terms .now) (u .result) (u .ensures) (w .0 .0) (w .1) (s .last .0) (s .last .1 .1 .1 .0) p (eachRoots (fieldRootsAt ws) ws 0 at count) same)
 
--- src/lib.rt:153:5
+-- src/lib.rt:149:5
 finish-groups-requires : tie.Need-finish-groups-requires
 finish-groups-requires c κs = let a = c .before .before .before .before .before .before .before .before .before .before .before .before .before .before .before .before .before .before .before .before .before .before .before .before .before .before .before .before .before .before .before .before .before .before .before .before .before .before .before .before .args in
     let g = c .before .before .before .before .before .before .before .before .before .before .before .before .before .before .before .before .before .before .before .before .before .before .before .before .before .before .before .before .before .before .before .before .before .before .before .before .before .before .before .before .pre in
@@ -193,19 +193,19 @@ finish-groups-requires c κs = let a = c .before .before .before .before .before
     let q = c .before .before .before .before .before .before .place-fields in
     fit-finish ws P (fieldRoots (readSheet ws)) (field-labels (readSheet ws)) g (fields-few ws (g .checked)) true n H r (a .variables .now) (a .terms .now) (u .result) (u .ensures) (w .0 .0) (w .1) (s .last .0) (s .last .1 .1 .1 .0) p (eachRoots (fieldRootsAt ws) ws 0 at count) same (q .last .1 .1 .1 .0) (q .last .1 .1 .1 .1 .1 .1 .0) (q .ensures)
 
--- src/lib.rt:130:1
+-- src/lib.rt:126:1
 same-length-3 : tie.Need-same-length-3
 same-length-3 c = c .before .before .before .before .finish-groups .kept .0 ∙ c .before .before .before .before .before .before .before .before .before .before .before .place-fields .kept .1 .1 .1 .0 ∙ c .before .before .before .before .before .before .before .before .before .before .before .before .before .before .before .before .before .before .start-groups .kept .0 ∙ c .before .before .before .before .before .before .before .before .before .before .before .before .before .before .before .before .before .before .before .before .before .before .before .before .before .before .before .before .before .before .before .tally-fields .kept .1 .1 .1 .0 ∙ c .before .before .before .before .before .before .before .before .before .before .before .before .before .before .before .before .before .before .before .before .before .before .before .before .before .before .before .before .before .before .before .before .before .before .before .before .before .before .zero-all .kept .0
 
--- src/lib.rt:130:1
+-- src/lib.rt:126:1
 same-length-4 : tie.Need-same-length-4
 same-length-4 c = search needs
 
--- src/lib.rt:130:1
+-- src/lib.rt:126:1
 same-length-5 : tie.Need-same-length-5
 same-length-5 c = search needs
 
--- src/lib.rt:130:1
+-- src/lib.rt:126:1
 returns-3 : tie.Need-returns-3
 returns-3 c = let a = c .before .before .before .before .before .before .before .before .before .before .before .before .before .before .before .before .before .before .before .before .before .before .before .before .before .before .before .before .before .before .before .before .before .before .before .before .before .before .before .before .before .before .before .before .before .args in
     let g = c .before .before .before .before .before .before .before .before .before .before .before .before .before .before .before .before .before .before .before .before .before .before .before .before .before .before .before .before .before .before .before .before .before .before .before .before .before .before .before .before .before .before .before .before .before .pre in
