@@ -5,7 +5,7 @@ use Prim.Native.Nat.{ℕ, _+_, _≤_, _<_}
 use native.Mathlib.Omega.{arith}
 use lib.ListN.{length, getD, take}
 use Rattle.semantics.specs.Arithmetic.{prime}
-use Rattle.semantics.specs.Call.{Outcome, Accepted, handedBack, constraintCall, interactionCall}
+use Rattle.semantics.specs.Call.{Outcome, Accepted, handedBack}
 use Rattle.semantics.specs.Sheetlist.{decimal, line, refusedText, consText, interText, endText, step, constraintLines, interactionLines}
 use Rattle.sheet.specs.declared.Refusal.{Refusal}
 use Rattle.listing.specs.declared.headers.Family.{Family}
@@ -50,25 +50,28 @@ module _ (family : Family) (o : Outcome) (s : Sound 2 o) (k : ℕ) (n : Lengths)
     inside = rw (← headers-back, ← variables-back, ← terms-back) inside;
   }
 
--- Constraints.
-module _ (graph : List ℕ) (w p h v t : ℕ) (w-is : w ≡ 4096) (p-is : p ≡ 4096) (h-is : h ≡ 1024) (v-is : v ≡ 1024) (t-is : t ≡ 1024)
-    (r : ConstraintLists) (work pool hs vs ts : List ℕ) (e : constraintOutcome r work pool hs vs ts ≡ constraintCall prime graph w p h v t) where
-  constraints-are : constraintOutcome r work pool hs vs ts ≡ constraintsOf graph
-  constraints-are = e ∙ (λ i. constraintCall prime graph (w-is i) (p-is i) (h-is i) (v-is i) (t-is i))
+-- What comes after the constraints, and what the interactions print from the front of their slices.
+abbrev pub afterConstraints : (graph : List ℕ) → List ℕ
+afterConstraints graph = step interText (interactionsOf graph) (interactionLines prime (interactionsOf graph))
 
-  abbrev rest : List ℕ
+abbrev pub bothLines : InteractionLengths → (hs vs ts hs′ vs′ ts′ : List ℕ) → List ℕ
+bothLines n hs vs ts hs′ vs′ ts′ = frontLines Numerators (n .numerators) hs vs ts ++ (frontLines Denominators (n .denominators) hs′ vs′ ts′ ++ line (endText ∷ []))
+
+-- Constraints.
+module _ (graph : List ℕ) (r : ConstraintLists) (work pool hs vs ts : List ℕ) (e : constraintOutcome r work pool hs vs ts ≡ constraintsOf graph) where
+  abbrev pub rest : List ℕ
   rest = constraintLines prime graph (constraintsOf graph)
 
   pub constraints-refused : (x : Refusal) (m : ℕ) → r ≡ constraint.Refused x → m ≡ x .number
       → line (refusedText ∷ consText ∷ decimal m ∷ decimal (x .place) ∷ []) ≡ step consText (constraintsOf graph) rest
   constraints-refused x m q number =
-      let o : constraintOutcome (constraint.Refused x) work pool hs vs ts ≡ constraintsOf graph = ap (λ a. constraintOutcome a work pool hs vs ts) (sym q) ∙ constraints-are in
+      let o : constraintOutcome (constraint.Refused x) work pool hs vs ts ≡ constraintsOf graph = ap (λ a. constraintOutcome a work pool hs vs ts) (sym q) ∙ e in
       refused-line consText 2 (constraintsOf graph) rest x m (constraint-sound prime graph 4096 4096 1024 1024 1024)
       (ap (λ (u : Outcome). u .reply) o) (subst (λ (u : Outcome). 2 < length (u .slices)) o (omega arith)) number
 
   module _ (n : Lengths) (q : r ≡ constraint.Written n) where
     written : constraintsOf graph ≡ constraintOutcome (constraint.Written n) work pool hs vs ts
-    written = sym constraints-are ∙ ap (λ a. constraintOutcome a work pool hs vs ts) q
+    written = sym e ∙ ap (λ a. constraintOutcome a work pool hs vs ts) q
 
     accepted : Accepted (constraintsOf graph)
     accepted = ap (λ (u : Outcome). u .reply .number) written
@@ -90,22 +93,18 @@ module _ (graph : List ℕ) (w p h v t : ℕ) (w-is : w ≡ 4096) (p-is : p ≡ 
         fronts Constraints (constraintsOf graph) sound 0 n hs vs ts many (count 0) (count 1) (count 2) (slice 2) (slice 3) (slice 4)
         (constraints-handed prime graph 4096 4096 1024 1024 1024 256 512 (omega arith) (omega arith) accepted .inside)
 
-    pub constraint-joins : frontLines Constraints n hs vs ts ++ step interText (interactionsOf graph) (interactionLines prime (interactionsOf graph))
+    pub constraint-joins : frontLines Constraints n hs vs ts ++ afterConstraints graph
         ≡ step consText (constraintsOf graph) rest
     constraint-joins =
-        ap (λ (l : List ℕ). l ++ step interText (interactionsOf graph) (interactionLines prime (interactionsOf graph)))
+        ap (λ (l : List ℕ). l ++ afterConstraints graph)
         (sym (lines-back Constraints (constraintsOf graph) sound 0 n hs vs ts many (count 0) (count 1) (count 2) (slice 2) (slice 3) (slice 4)))
         ∙ constraint-prints graph (constraintsOf graph)
         ∙ step-on consText (constraintsOf graph) rest accepted
 
 -- Interactions.
-module _ (graph : List ℕ) (w p h v t h′ v′ t′ : ℕ) (w-is : w ≡ 4096) (p-is : p ≡ 4096) (h-is : h ≡ 512) (v-is : v ≡ 512) (t-is : t ≡ 512)
-    (h′-is : h′ ≡ 512) (v′-is : v′ ≡ 512) (t′-is : t′ ≡ 512) (r : InteractionLists) (work pool hs vs ts hs′ vs′ ts′ : List ℕ)
-    (e : interactionOutcome r work pool hs vs ts hs′ vs′ ts′ ≡ interactionCall prime graph w p h v t h′ v′ t′) where
-  interactions-are : interactionOutcome r work pool hs vs ts hs′ vs′ ts′ ≡ interactionsOf graph
-  interactions-are = e ∙ (λ i. interactionCall prime graph (w-is i) (p-is i) (h-is i) (v-is i) (t-is i) (h′-is i) (v′-is i) (t′-is i))
-
-  abbrev all : List ℕ
+module _ (graph : List ℕ) (r : InteractionLists) (work pool hs vs ts hs′ vs′ ts′ : List ℕ)
+    (e : interactionOutcome r work pool hs vs ts hs′ vs′ ts′ ≡ interactionsOf graph) where
+  abbrev pub all : List ℕ
   all = interactionLines prime (interactionsOf graph)
 
   both-sound : Sound 2 (interactionsOf graph)
@@ -115,13 +114,13 @@ module _ (graph : List ℕ) (w p h v t h′ v′ t′ : ℕ) (w-is : w ≡ 4096)
       → line (refusedText ∷ interText ∷ decimal m ∷ decimal (x .place) ∷ []) ≡ step interText (interactionsOf graph) all
   interactions-refused x m q number =
       let o : interactionOutcome (interaction.Refused x) work pool hs vs ts hs′ vs′ ts′ ≡ interactionsOf graph =
-      ap (λ a. interactionOutcome a work pool hs vs ts hs′ vs′ ts′) (sym q) ∙ interactions-are in
+      ap (λ a. interactionOutcome a work pool hs vs ts hs′ vs′ ts′) (sym q) ∙ e in
       refused-line interText 2 (interactionsOf graph) all x m both-sound
       (ap (λ (u : Outcome). u .reply) o) (subst (λ (u : Outcome). 2 < length (u .slices)) o (omega arith)) number
 
   module _ (n : InteractionLengths) (q : r ≡ interaction.Written n) where
     both-written : interactionsOf graph ≡ interactionOutcome (interaction.Written n) work pool hs vs ts hs′ vs′ ts′
-    both-written = sym interactions-are ∙ ap (λ a. interactionOutcome a work pool hs vs ts hs′ vs′ ts′) q
+    both-written = sym e ∙ ap (λ a. interactionOutcome a work pool hs vs ts hs′ vs′ ts′) q
 
     both-accepted : Accepted (interactionsOf graph)
     both-accepted = ap (λ (u : Outcome). u .reply .number) both-written
@@ -146,7 +145,7 @@ module _ (graph : List ℕ) (w p h v t h′ v′ t′ : ℕ) (w-is : w ≡ 4096)
         fronts Denominators (interactionsOf graph) both-sound 3 (n .denominators) hs′ vs′ ts′ (omega (arith, eight)) (count-at 3) (count-at 4) (count-at 5) (slice-at 5) (slice-at 6) (slice-at 7)
         (denominators-handed prime graph 4096 4096 512 512 512 128 171 (omega arith) (omega arith) both-accepted .inside)
 
-    pub interaction-joins : frontLines Numerators (n .numerators) hs vs ts ++ (frontLines Denominators (n .denominators) hs′ vs′ ts′ ++ line (endText ∷ []))
+    pub interaction-joins : bothLines n hs vs ts hs′ vs′ ts′
         ≡ step interText (interactionsOf graph) all
     interaction-joins =
         (λ i. sym (lines-back Numerators (interactionsOf graph) both-sound 0 (n .numerators) hs vs ts (omega (arith, eight)) (count-at 0) (count-at 1) (count-at 2) (slice-at 2) (slice-at 3) (slice-at 4)) i

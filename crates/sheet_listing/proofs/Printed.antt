@@ -11,7 +11,7 @@ use borrow.Author.Tests.{le-leb, lt-leb}
 use Rattle.semantics.specs.Arithmetic.{prime}
 use Rattle.semantics.specs.Sheet.{Sheet, encode, headWords, recordWords, interactionWords}
 use Rattle.semantics.specs.Graph.{graphOf}
-use Rattle.semantics.specs.Call.{Outcome, Accepted, handedBack, readerCall, builderCall, maxRotationCall}
+use Rattle.semantics.specs.Call.{Outcome, Accepted, handedBack, readerCall, maxRotationCall}
 use Rattle.semantics.specs.Sheetlist.{decimal, line, refusedText, readText, dagText, consText, step, constraintLines, graphLines, sheetLines, sheetlist}
 use Rattle.semantics.proofs.Basics.{cond-true, cond-false}
 use Rattle.sheet.specs.declared.Refusal.{Refusal}
@@ -29,18 +29,23 @@ use Rattle.listing.proofs.Totals.{sheetlist-most}
 use Rattle.sheet_listing.specs.Fronts.{numberOf}
 use Rattle.sheet_listing.proofs.Sounds.{Sound, reader-sound, builder-sound, refused-line}
 
--- The graph's line, with the number that `max_rotation` hands back.
+-- The graph's line, and what comes after it.
+abbrev pub dagLine : (graph : List ℕ) (rotation : ℕ) → List ℕ
+dagLine graph rotation = line (dagText ∷ decimal (getD graph 1 0) ∷ decimal (getD graph 2 0) ∷ decimal rotation ∷ [])
+
+abbrev pub afterGraph : (graph : List ℕ) → List ℕ
+afterGraph graph = step consText (constraintsOf graph) (constraintLines prime graph (constraintsOf graph))
+
+-- The number that `max_rotation` hands back.
 number-back : (r : Counted) → getD (countedOutcome r .reply .numbers) 0 0 ≡ numberOf r
 number-back (counted.Number n) = refl
 number-back (counted.Refused x) = refl
 
 pub graph-joins : (graph : List ℕ) (r : Counted) (m : ℕ) → countedOutcome r ≡ maxRotationCall prime graph → m ≡ numberOf r
-    → line (dagText ∷ decimal (getD graph 1 0) ∷ decimal (getD graph 2 0) ∷ decimal m ∷ []) ++ step consText (constraintsOf graph) (constraintLines prime graph (constraintsOf graph))
-    ≡ graphLines prime graph
+    → dagLine graph m ++ afterGraph graph ≡ graphLines prime graph
 graph-joins graph r m e q =
     let z : m ≡ getD (rotates graph .reply .numbers) 0 0 = q ∙ sym (number-back r) ∙ ap (λ (o : Outcome). getD (o .reply .numbers) 0 0) e in
-    ap (λ (k : ℕ). line (dagText ∷ decimal (getD graph 1 0) ∷ decimal (getD graph 2 0) ∷ decimal k ∷ []) ++ step consText (constraintsOf graph) (constraintLines prime graph (constraintsOf graph))) z
-    ∙ graph-prints graph
+    ap (λ (k : ℕ). dagLine graph k ++ afterGraph graph) z ∙ graph-prints graph
 
 -- A sheet's words are four at the least.
 some-words : (s : Sheet) → 3 < length (encode s)
@@ -48,22 +53,18 @@ unfolding encode headWords
 some-words s = omega (arith, length-append (headWords s) (flatMap recordWords (s .records) ++ (s .constraints ++ flatMap interactionWords (s .interactions))))
 
 -- The builder.
-module _ (sheet : List ℕ) (s g : ℕ) (s-is : s ≡ 1016) (g-is : g ≡ 1016) (r : Written) (scratch out : List ℕ)
-    (e : builtOutcome r scratch out ≡ builderCall prime sheet s g) where
-  built-is : builtOutcome r scratch out ≡ builds sheet
-  built-is = e ∙ (λ i. builderCall prime sheet (s-is i) (g-is i))
-
+module _ (sheet : List ℕ) (r : Written) (scratch out : List ℕ) (e : builtOutcome r scratch out ≡ builds sheet) where
   pub built-refused : (x : Refusal) (m : ℕ) → r ≡ Refused x → m ≡ x .number
       → line (refusedText ∷ dagText ∷ decimal m ∷ decimal (x .place) ∷ []) ≡ sheetLines prime sheet
   built-refused x m q number =
-      let o : builtOutcome (Refused x) scratch out ≡ builds sheet = ap (λ a. builtOutcome a scratch out) (sym q) ∙ built-is in
+      let o : builtOutcome (Refused x) scratch out ≡ builds sheet = ap (λ a. builtOutcome a scratch out) (sym q) ∙ e in
       refused-line dagText 1 (builds sheet) _ x m (builder-sound prime sheet 1016 1016)
       (ap (λ (u : Outcome). u .reply) o) (subst (λ (u : Outcome). 1 < length (u .slices)) o (omega arith)) number
       ∙ sheet-prints sheet
 
   module _ (n : ℕ) (q : r ≡ Words n) where
     built : builds sheet ≡ builtOutcome (Words n) scratch out
-    built = sym built-is ∙ ap (λ a. builtOutcome a scratch out) q
+    built = sym e ∙ ap (λ a. builtOutcome a scratch out) q
 
     pub built-fits : n ≤ length out
     built-fits =
@@ -94,25 +95,22 @@ module _ (bytes : List ℕ) where
   unfolding sheetlist
   too-long l = sym (cond-false (leb (length bytes) 4096) _ _ (lt-leb (length bytes) 4096 l))
 
-  module _ (l : length bytes ≤ 4096) (s : ℕ) (s-is : s ≡ 1016) (r : Written) (sheet : List ℕ) (e : writtenOutcome r sheet ≡ readerCall bytes s) where
+  module _ (l : length bytes ≤ 4096) (r : Written) (sheet : List ℕ) (e : writtenOutcome r sheet ≡ reads) where
     read-prints : step readText reads (sheetLines prime (handedBack 0 reads 0)) ≡ sheetlist prime bytes
     unfolding sheetlist
     read-prints = sym (cond-true (leb (length bytes) 4096) _ _ (le-leb (length bytes) 4096 l))
 
-    read-is : writtenOutcome r sheet ≡ reads
-    read-is = e ∙ ap (readerCall bytes) s-is
-
     pub read-refused : (x : Refusal) (m : ℕ) → r ≡ Refused x → m ≡ x .number
         → line (refusedText ∷ readText ∷ decimal m ∷ decimal (x .place) ∷ []) ≡ sheetlist prime bytes
     read-refused x m q number =
-        let o : writtenOutcome (Refused x) sheet ≡ reads = ap (λ a. writtenOutcome a sheet) (sym q) ∙ read-is in
+        let o : writtenOutcome (Refused x) sheet ≡ reads = ap (λ a. writtenOutcome a sheet) (sym q) ∙ e in
         refused-line readText 0 reads _ x m (reader-sound bytes 1016)
         (ap (λ (u : Outcome). u .reply) o) (subst (λ (u : Outcome). 0 < length (u .slices)) o (omega arith)) number
         ∙ read-prints
 
     module _ (n : ℕ) (q : r ≡ Words n) where
       read : reads ≡ writtenOutcome (Words n) sheet
-      read = sym read-is ∙ ap (λ a. writtenOutcome a sheet) q
+      read = sym e ∙ ap (λ a. writtenOutcome a sheet) q
 
       pub read-fits : n ≤ length sheet
       read-fits =

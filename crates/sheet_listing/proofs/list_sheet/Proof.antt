@@ -1,72 +1,87 @@
+use mathlib.Core.Path.{_≡_}
+use mathlib.Core.List.{[], _∷_}
+use native.Mathlib.Omega.{arith}
+use lib.ListN.{length, take, length-take}
+use Rattle.semantics.specs.Arithmetic.{prime}
+use Rattle.semantics.specs.Sheetlist.{decimal, line, refusedText, readText, sheetLines}
+use Rattle.sheet_listing.proofs.Printed.{too-long, read-refused, read-fits, read-joins, all-room, all-put}
 use borrow.Author.Needs.{needs}
 use Rattle.sheet_listing.proofs.list_sheet.Statement.{statement}
 use Rattle.sheet_listing.proofs.list_sheet.Tie as tie
-use Rattle.sheet_listing.proofs.list_sheet.Reads as reads
-use Rattle.sheet_listing.proofs.list_sheet.Lts as lts
-use Rattle.block_reader.proofs.read_blocks.Reads as read-blocks-reads
-use Rattle.listing.proofs.lines.put_refused.Reads as put-refused-reads
-use Rattle.listing.proofs.lines.wide.Reads as wide-reads
-use Rattle.sheet_listing.proofs.put_sheet.Reads as put-sheet-reads
 
--- src/lib.rt:202:43
 slice-aggregate-put-refused : tie.Need-slice-aggregate-put-refused
 slice-aggregate-put-refused c = search needs
 
--- src/lib.rt:202:9
 put-refused-requires : tie.Need-put-refused-requires
-put-refused-requires c κs = ?
+put-refused-requires c κs =
+    let a = c .before .before .before .before .args in
+    all-room (a .bytes .now) (a .out .now) (search needs) (line (refusedText ∷ readText ∷ decimal 1 ∷ decimal 0 ∷ [])) (too-long (a .bytes .now) (c .before .before .if1 .taken))
 
--- src/lib.rt:202:9
 returns : tie.Need-returns
-returns c = ?
+returns c =
+    let a = c .before .before .before .before .before .args in
+    all-put (a .bytes .now) (a .out .now) (search needs) _ (too-long (a .bytes .now) (c .before .before .before .if1 .taken)) _ _ (c .put-refused .ensures)
 
--- src/lib.rt:205:49
 slice-aggregate-read-blocks : tie.Need-slice-aggregate-read-blocks
 slice-aggregate-read-blocks c = search needs
 
--- src/lib.rt:205:9
 read-blocks-requires : tie.Need-read-blocks-requires
 read-blocks-requires c κs = search needs
 
--- src/lib.rt:207:24
 enum-known-read : tie.Need-enum-known-read
 enum-known-read c = search needs
 
--- src/lib.rt:207:48
 array-share-prefix-sheet : tie.Need-array-share-prefix-sheet
-array-share-prefix-sheet c = ?
+array-share-prefix-sheet c =
+    let a = c .before .before .before .before .before .before .before .before .before .args in
+    let v = c .before .before .before .before .before .read-blocks in
+    let n = c .before .before .read in
+    read-fits (a .bytes .now) (c .before .before .before .before .before .before .before .if1 .left) (v .result) (v .last .1 .0) (v .ensures) (n .given .0 .0) (n .given .1)
 
--- src/lib.rt:207:48
 slice-aggregate-put-sheet : tie.Need-slice-aggregate-put-sheet
-slice-aggregate-put-sheet c = ?
+slice-aggregate-put-sheet c =
+    let a = c .before .before .before .before .before .before .before .before .before .before .args in
+    let v = c .before .before .before .before .before .before .read-blocks in
+    let n = c .before .before .before .read in
+    omega (arith, read-fits (a .bytes .now) (c .before .before .before .before .before .before .before .before .if1 .left) (v .result) (v .last .1 .0) (v .ensures) (n .given .0 .0) (n .given .1), length-take (n .given .0 .0) (v .last .1 .0))
 
--- src/lib.rt:207:30
 put-sheet-requires : tie.Need-put-sheet-requires
-put-sheet-requires c κs = ?
+put-sheet-requires c κs =
+    let a = c .before .before .before .before .before .before .before .before .before .before .args in
+    let v = c .before .before .before .before .before .before .read-blocks in
+    let n = c .before .before .before .read in
+    all-room (a .bytes .now) (a .out .now) (search needs) (sheetLines prime (take (n .given .0 .0) (v .last .1 .0))) (read-joins (a .bytes .now) (c .before .before .before .before .before .before .before .before .if1 .left) (v .result) (v .last .1 .0) (v .ensures) (n .given .0 .0) (n .given .1))
 
--- src/lib.rt:208:26
 enum-known-read-2 : tie.Need-enum-known-read-2
 enum-known-read-2 c = search needs
 
--- src/lib.rt:209:40
 slice-aggregate-put-refused-2 : tie.Need-slice-aggregate-put-refused-2
 slice-aggregate-put-refused-2 c = search needs
 
--- src/lib.rt:209:49
 wide-requires : tie.Need-wide-requires
 wide-requires c κs = search needs
 
--- src/lib.rt:209:13
 put-refused-requires-2 : tie.Need-put-refused-requires-2
-put-refused-requires-2 c κs = ?
+put-refused-requires-2 c κs =
+    let a = c .before .before .before .before .before .before .before .before .before .before .before .args in
+    let v = c .before .before .before .before .before .before .before .read-blocks in
+    let x = c .before .before .before .before .read2 in
+    all-room (a .bytes .now) (a .out .now) (search needs) _ (read-refused (a .bytes .now) (c .before .before .before .before .before .before .before .before .before .if1 .left) (v .result) (v .last .1 .0) (v .ensures) (x .given .0 .0) (c .wide .result) (x .given .1) (c .wide .ensures))
 
--- src/lib.rt:198:1
 returns-2 : tie.Need-returns-2
-returns-2 c = ?
+returns-2 c =
+    let a = c .before .before .before .before .before .before .before .before .before .before .before .args in
+    let v = c .before .before .before .before .before .before .before .read-blocks in
+    let n = c .before .before .before .before .read in
+    all-put (a .bytes .now) (a .out .now) (search needs) _ (read-joins (a .bytes .now) (c .before .before .before .before .before .before .before .before .before .if1 .left) (v .result) (v .last .1 .0) (v .ensures) (n .given .0 .0) (n .given .1)) _ _ (c .put-sheet .ensures)
 
--- src/lib.rt:198:1
 returns-3 : tie.Need-returns-3
-returns-3 c = ?
+returns-3 c =
+    let a = c .before .before .before .before .before .before .before .before .before .before .before .before .args in
+    let v = c .before .before .before .before .before .before .before .before .read-blocks in
+    let x = c .before .before .before .before .before .read2 in
+    let w = c .before .wide in
+    all-put (a .bytes .now) (a .out .now) (search needs) _ (read-refused (a .bytes .now) (c .before .before .before .before .before .before .before .before .before .before .if1 .left) (v .result) (v .last .1 .0) (v .ensures) (x .given .0 .0) (w .result) (x .given .1) (w .ensures)) _ _ (c .put-refused2 .ensures)
 
 pub list-sheet-spec : {M : Type 1} → statement M
 list-sheet-spec =

@@ -1,33 +1,33 @@
+use mathlib.Core.Path.{sym}
+use native.Mathlib.Omega.{arith}
+use lib.ListN.{length-take}
 use borrow.Author.Needs.{needs}
 use Rattle.sheet_listing.proofs.put_lists.Statement.{statement}
 use Rattle.sheet_listing.proofs.put_lists.Tie as tie
-use Rattle.sheet_listing.proofs.put_lists.Reads as reads
-use Rattle.sheet_listing.proofs.put_lists.Lts as lts
-use Rattle.listing.proofs.headers.put_headers.Reads as put-headers-reads
 
--- src/lib.rt:41:43
 slice-aggregate-put-headers : tie.Need-slice-aggregate-put-headers
-slice-aggregate-put-headers c = ?
+slice-aggregate-put-headers c =
+    let a = c .before .before .before .before .before .before .args in
+    omega (arith, length-take (a .n .headers) (a .headers .now), c .before .before .before .before .before .before .pre .0 .headers-fit)
 
--- src/lib.rt:41:58
 slice-aggregate-put-headers-2 : tie.Need-slice-aggregate-put-headers-2
-slice-aggregate-put-headers-2 c = ?
+slice-aggregate-put-headers-2 c =
+    let a = c .before .before .before .before .before .before .before .args in
+    omega (arith, length-take (a .n .variables) (a .variables .now), c .before .before .before .before .before .before .before .pre .0 .variables-fit)
 
--- src/lib.rt:41:75
 slice-aggregate-put-headers-3 : tie.Need-slice-aggregate-put-headers-3
-slice-aggregate-put-headers-3 c = ?
+slice-aggregate-put-headers-3 c =
+    let a = c .before .before .before .before .before .before .before .before .args in
+    omega (arith, length-take (a .n .terms) (a .terms .now), c .before .before .before .before .before .before .before .before .pre .0 .terms-fit)
 
--- src/lib.rt:41:5
 put-headers-requires : tie.Need-put-headers-requires
-put-headers-requires c κs = search needs
+put-headers-requires c κs = (c .before .before .before .before .before .before .before .before .pre .0 .inside, c .before .before .before .before .before .before .before .before .pre .1)
 
--- src/lib.rt:26:1
 same-length : tie.Need-same-length
 same-length c = search needs
 
--- src/lib.rt:26:1
 returns : tie.Need-returns
-returns c = search needs
+returns c = c .before .before .put-headers .ensures
 
 pub put-lists-spec : {M : Type 1} → statement M
 put-lists-spec =

@@ -1,72 +1,80 @@
+use native.Mathlib.Omega.{arith}
+use lib.ListN.{length-take}
+use Rattle.listing.proofs.Writing.{room-is, puts-is}
+use Rattle.sheet_listing.proofs.Printed.{built-refused, built-fits, graph-words, built-joins}
 use borrow.Author.Needs.{needs}
 use Rattle.sheet_listing.proofs.put_sheet.Statement.{statement}
 use Rattle.sheet_listing.proofs.put_sheet.Tie as tie
-use Rattle.sheet_listing.proofs.put_sheet.Reads as reads
-use Rattle.sheet_listing.proofs.put_sheet.Lts as lts
-use Rattle.dag.proofs.build.Reads as build-reads
-use Rattle.listing.proofs.lines.put_refused.Reads as put-refused-reads
-use Rattle.listing.proofs.lines.wide.Reads as wide-reads
-use Rattle.sheet_listing.proofs.put_graph.Reads as put-graph-reads
 
--- src/lib.rt:188:35
 slice-aggregate-build : tie.Need-slice-aggregate-build
 slice-aggregate-build c = search needs
 
--- src/lib.rt:188:49
 slice-aggregate-build-2 : tie.Need-slice-aggregate-build-2
 slice-aggregate-build-2 c = search needs
 
--- src/lib.rt:188:9
 build-requires : tie.Need-build-requires
 build-requires c κs = search needs
 
--- src/lib.rt:190:24
 enum-known-built : tie.Need-enum-known-built
 enum-known-built c = search needs
 
--- src/lib.rt:190:49
 array-share-prefix-graph : tie.Need-array-share-prefix-graph
-array-share-prefix-graph c = ?
+array-share-prefix-graph c =
+    let a = c .before .before .before .before .before .before .before .before .before .before .before .args in
+    let v = c .before .before .before .before .before .before .build in
+    let n = c .before .before .built in
+    built-fits (a .sheet .now) (v .result) (v .last .1 .0) (v .last .1 .1 .0) (v .ensures) (n .given .0 .0) (n .given .1)
 
--- src/lib.rt:190:49
 slice-aggregate-put-graph : tie.Need-slice-aggregate-put-graph
-slice-aggregate-put-graph c = ?
+slice-aggregate-put-graph c =
+    let a = c .before .before .before .before .before .before .before .before .before .before .before .before .args in
+    let v = c .before .before .before .before .before .before .before .build in
+    let n = c .before .before .before .built in
+    omega (arith, built-fits (a .sheet .now) (v .result) (v .last .1 .0) (v .last .1 .1 .0) (v .ensures) (n .given .0 .0) (n .given .1), length-take (n .given .0 .0) (v .last .1 .1 .0))
 
--- src/lib.rt:190:30
 put-graph-requires : tie.Need-put-graph-requires
-put-graph-requires c κs = ?
+put-graph-requires c κs =
+    let a = c .before .before .before .before .before .before .before .before .before .before .before .before .args in
+    let v = c .before .before .before .before .before .before .before .build in
+    let n = c .before .before .before .built in
+    (graph-words (a .sheet .now) (v .result) (v .last .1 .0) (v .last .1 .1 .0) (v .ensures) (n .given .0 .0) (n .given .1), room-is (a .out .now) (a .at) (built-joins (a .sheet .now) (v .result) (v .last .1 .0) (v .last .1 .1 .0) (v .ensures) (n .given .0 .0) (n .given .1)) (c .before .before .before .before .before .before .before .before .before .before .before .before .pre))
 
--- src/lib.rt:191:26
 enum-known-built-2 : tie.Need-enum-known-built-2
 enum-known-built-2 c = search needs
 
--- src/lib.rt:192:41
 slice-aggregate-put-refused : tie.Need-slice-aggregate-put-refused
 slice-aggregate-put-refused c = search needs
 
--- src/lib.rt:192:49
 wide-requires : tie.Need-wide-requires
 wide-requires c κs = search needs
 
--- src/lib.rt:192:13
 put-refused-requires : tie.Need-put-refused-requires
-put-refused-requires c κs = ?
+put-refused-requires c κs =
+    let a = c .before .before .before .before .before .before .before .before .before .before .before .before .before .args in
+    let v = c .before .before .before .before .before .before .before .before .build in
+    let x = c .before .before .before .before .built2 in
+    room-is (a .out .now) (a .at) (built-refused (a .sheet .now) (v .result) (v .last .1 .0) (v .last .1 .1 .0) (v .ensures) (x .given .0 .0) (c .wide .result) (x .given .1) (c .wide .ensures)) (c .before .before .before .before .before .before .before .before .before .before .before .before .before .pre)
 
--- src/lib.rt:182:1
 same-length : tie.Need-same-length
 same-length c = search needs
 
--- src/lib.rt:182:1
 returns : tie.Need-returns
-returns c = ?
+returns c =
+    let a = c .before .before .before .before .before .before .before .before .before .before .before .before .before .before .before .args in
+    let v = c .before .before .before .before .before .before .before .before .before .before .build in
+    let n = c .before .before .before .before .before .before .built in
+    puts-is (c .before .before .put-graph .ensures) (built-joins (a .sheet .now) (v .result) (v .last .1 .0) (v .last .1 .1 .0) (v .ensures) (n .given .0 .0) (n .given .1))
 
--- src/lib.rt:182:1
 same-length-2 : tie.Need-same-length-2
 same-length-2 c = search needs
 
--- src/lib.rt:182:1
 returns-2 : tie.Need-returns-2
-returns-2 c = ?
+returns-2 c =
+    let a = c .before .before .before .before .before .before .before .before .before .before .before .before .before .before .before .before .args in
+    let v = c .before .before .before .before .before .before .before .before .before .before .before .build in
+    let x = c .before .before .before .before .before .before .before .built2 in
+    let w = c .before .before .before .wide in
+    puts-is (c .before .before .put-refused .ensures) (built-refused (a .sheet .now) (v .result) (v .last .1 .0) (v .last .1 .1 .0) (v .ensures) (x .given .0 .0) (w .result) (x .given .1) (w .ensures))
 
 pub put-sheet-spec : {M : Type 1} → statement M
 put-sheet-spec =
