@@ -24,6 +24,7 @@ use Rattle.sheet_calls.specs.Replies.{countedOutcome}
 use Rattle.dag.specs.Calls.{builtOutcome}
 use Rattle.dag.proofs.Demands.{build-demand}
 use Rattle.listing.specs.Putting.{put, Room, Puts}
+use Rattle.listing.proofs.Writing.{puts-length}
 use Rattle.listing.proofs.Steps.{builds, rotates, constraintsOf, step-on, graph-prints, sheet-prints}
 use Rattle.listing.proofs.Totals.{sheetlist-most}
 use Rattle.sheet_listing.specs.Fronts.{numberOf}
@@ -133,9 +134,9 @@ module _ (bytes : List ℕ) where
     all-room xs e = omega (arith, ap length e, sheetlist-most bytes)
 
     pub all-put : (xs : List ℕ) → xs ≡ sheetlist prime bytes → (out′ : List ℕ) (r : ℕ) → Puts out 0 xs out′ r
-        → (r ≤ 65536) × (take r out′ ≡ sheetlist prime bytes)
+        → (r ≤ length out′) × (take r out′ ≡ sheetlist prime bytes)
     all-put xs e out′ r h =
         let z : r ≡ length xs = h .next-is ∙ omega arith in (
-          omega (arith, z, ap length e, sheetlist-most bytes),
+          omega (arith, z, all-room xs e, puts-length h (all-room xs e)),
           (λ i. take (z i) (h .out-is i)) ∙ take-at xs (drop (0 + length xs) out) (length xs) refl ∙ e,
         )

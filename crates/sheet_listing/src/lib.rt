@@ -16,6 +16,7 @@ use expansion::ConstraintLists;
 use expansion::InteractionLengths;
 use expansion::InteractionLists;
 use expansion::Lengths;
+use libc::STDOUT_FILENO;
 use listing::headers;
 use listing::headers::Family;
 use listing::lines;
@@ -196,7 +197,7 @@ fn put_sheet(out: &mut [u8], at: usize, sheet: &[u32]) -> usize
 
 // The bytes that `sheetlist` prints go to the front of `out`; their number is handed back.
 pub fn list_sheet(bytes: &[u8], out: &mut [u8; 65536]) -> usize
-    ensures { λ r. ⌜ (r ≤ 65536) × (take r (now (out .exit)) ≡ sheetlist prime (now (bytes .entry))) ⌝ }
+    ensures { λ r. ⌜ (r ≤ length (now (out .exit))) × (take r (now (out .exit)) ≡ sheetlist prime (now (bytes .entry))) ⌝ }
 {
     if 4096 < bytes.len() {
         return lines::put_refused(out, 0, b"read", 1, 0);
@@ -209,4 +210,11 @@ pub fn list_sheet(bytes: &[u8], out: &mut [u8; 65536]) -> usize
             lines::put_refused(out, 0, b"read", lines::wide(r.number), r.place)
         }
     }
+}
+
+// Writes them to standard output.
+pub fn print_sheet(bytes: &[u8]) {
+    let mut out = [0u8; 65536];
+    let length = list_sheet(bytes, &mut out);
+    io::write_all(STDOUT_FILENO, &out[..length]);
 }
