@@ -1,6 +1,5 @@
 -- What the answers of the reader and of the builder print, and the whole output.
 use mathlib.Core.Path.{_≡_, refl, sym, ap, subst, _∙_}
-use mathlib.Core.Bool.{true, false}
 use mathlib.Core.List.{List, [], _∷_, _++_, flatMap}
 use Prim.Native.Nat.{ℕ, _+_, _≤_, _<_}
 use native.Mathlib.Omega.{arith}
@@ -11,7 +10,7 @@ use borrow.Author.Tests.{le-leb, lt-leb}
 use Rattle.semantics.specs.Arithmetic.{prime}
 use Rattle.semantics.specs.Sheet.{Sheet, encode, headWords, recordWords, interactionWords}
 use Rattle.semantics.specs.Graph.{graphOf}
-use Rattle.semantics.specs.Call.{Outcome, Accepted, handedBack, readerCall, maxRotationCall}
+use Rattle.semantics.specs.Call.{Outcome, handedBack, readerCall, maxRotationCall}
 use Rattle.semantics.specs.Sheetlist.{decimal, line, refusedText, readText, dagText, consText, step, constraintLines, graphLines, sheetLines, sheetlist}
 use Rattle.semantics.proofs.Basics.{cond-true, cond-false}
 use Rattle.sheet.specs.declared.Refusal.{Refusal}
@@ -23,7 +22,7 @@ use Rattle.sheet_calls.specs.declared.Counted.the-variants as counted
 use Rattle.sheet_calls.specs.Replies.{countedOutcome}
 use Rattle.dag.specs.Calls.{builtOutcome}
 use Rattle.dag.proofs.Demands.{build-demand}
-use Rattle.listing.specs.Putting.{put, Room, Puts}
+use Rattle.listing.specs.Putting.{Room, Puts}
 use Rattle.listing.proofs.Writing.{puts-length}
 use Rattle.listing.proofs.Steps.{builds, rotates, constraintsOf, step-on, graph-prints, sheet-prints}
 use Rattle.listing.proofs.Totals.{sheetlist-most}

@@ -1,12 +1,11 @@
 -- What the outcome of a call tells: its counts are inside its slices, and its refusals have a number.
 use mathlib.Core.Path.{_≡_, refl, sym, ap, subst, _∙_}
-use mathlib.Core.Bool.{Bool, true, false, cond}
 use mathlib.Core.List.{List, [], _∷_, _++_, map}
 use Prim.Native.Nat.{ℕ, zero, suc, _+_, _*_, _-_, _/_, _≤_, _<_}
 use native.Mathlib.Omega.{arith}
 use lib.ListN.{length, getD, drop, length-append, length-map}
 use lib.Seq.{getD-append-add}
-use Rattle.semantics.specs.Answer.{Answer, good, refused, andThen}
+use Rattle.semantics.specs.Answer.{Answer, good, refused}
 use Rattle.semantics.specs.Sheet.{Sheet, lengthOf}
 use Rattle.semantics.specs.Check.{check}
 use Rattle.semantics.specs.Block.{blockGood, badLength, readBlocks}

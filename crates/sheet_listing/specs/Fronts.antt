@@ -1,10 +1,8 @@
 -- Lists that stand in front of their slices, as an expansion writes them.
-use mathlib.Core.List.{List, _++_}
+use mathlib.Core.List.{List}
 use Prim.Native.Nat.{ℕ, _≤_}
 use lib.ListN.{length, take}
-use Rattle.semantics.specs.Sheetlist.{line, endText}
 use Rattle.listing.specs.declared.headers.Family.{Family}
-use Rattle.listing.specs.declared.headers.Family.the-variants.{Numerators, Denominators}
 use Rattle.listing.specs.Families.{widthOf, familyLines, HeadersInside}
 use Rattle.sheet_calls.specs.declared.Counted.{Counted}
 use Rattle.sheet_calls.specs.declared.Counted.the-variants.{Number, Refused}

@@ -1,7 +1,6 @@
-use mathlib.Core.Path.{_≡_}
 use mathlib.Core.List.{[], _∷_}
 use native.Mathlib.Omega.{arith}
-use lib.ListN.{length, take, length-take}
+use lib.ListN.{take, length-take}
 use Rattle.semantics.specs.Arithmetic.{prime}
 use Rattle.semantics.specs.Sheetlist.{decimal, line, refusedText, readText, sheetLines}
 use Rattle.sheet_listing.proofs.Printed.{too-long, read-refused, read-fits, read-joins, all-room, all-put}
