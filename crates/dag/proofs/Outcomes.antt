@@ -14,21 +14,16 @@ use Rattle.semantics.specs.Check.{readSheet, check}
 use Rattle.semantics.specs.Graph.{graphOf}
 use Rattle.semantics.specs.Call.{Result, outcome, needs, result, builderCall, zeros, paddedAll}
 use Rattle.semantics.proofs.Basics.{cond-true, cond-false}
-use Rattle.semantics.proofs.Encoding.{check-sound, sheet-back}
 use Rattle.sheet.specs.declared.Refusal.{Refusal}
 use Rattle.sheet.specs.declared.Checked.{Checked}
 use Rattle.sheet.specs.declared.Checked.the-variants as checked
 use Rattle.sheet.specs.declared.Written.the-variants.{Words, Refused}
 use Rattle.sheet.specs.Scans.{checkedOf}
 use Rattle.sheet.proofs.Answers.{on-found, on-refused}
+use Rattle.records.proofs.Reading.{read-found}
+use Rattle.graph_lists.specs.Lists.{graphOut, graphLength}
 use Rattle.dag.specs.Calls.{builtOutcome, Clear}
-use Rattle.dag.specs.Memory.{Starting, graphOut, graphLength}
-
--- The sheet that was found is the one that the words read as.
-pub read-found : (ws : List ℕ) (t : Sheet) → check prime ws ≡ good t → t ≡ readSheet ws
-read-found ws t e =
-    let w = check-sound prime ws t e .1 in
-    sym (ap readSheet (w .2) ∙ sheet-back t (replicate (w .0) 0))
+use Rattle.dag.specs.Calls.{Starting}
 
 pub clear-found : (ws : List ℕ) (t : Sheet) → check prime ws ≡ good t → (records words : ℕ) → records ≡ length (t .records) → words ≡ lengthOf t
     → (scratch out : List ℕ) → scratch ≡ zeros (length scratch) → out ≡ zeros (length out) → Clear ws records words scratch out

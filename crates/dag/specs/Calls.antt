@@ -1,7 +1,7 @@
--- What the builder's answer stands for (01, "What each call hands back").
+-- What the builder's answer stands for (01, "What each call hands back"), and what its parts ask.
 use mathlib.Core.Path.{_≡_}
 use mathlib.Core.List.{List, [], _∷_}
-use Prim.Native.Nat.{ℕ}
+use Prim.Native.Nat.{ℕ, _≤_}
 use lib.ListN.{length}
 use Rattle.semantics.specs.Arithmetic.{prime}
 use Rattle.semantics.specs.Answer.{good}
@@ -21,4 +21,11 @@ pub record Clear (ws : List ℕ) (records words : ℕ) (scratch out : List ℕ) 
   pub records-are : records ≡ length (readSheet ws .records)
   pub words-are : words ≡ lengthOf (readSheet ws)
   pub scratch-is : scratch ≡ zeros (length scratch)
+  pub out-is : out ≡ zeros (length out)
+
+-- What building asks: a checked sheet, scratch of E zeros, and an output of zeros that has room for the sheet.
+pub record Starting (ws scratch out : List ℕ) : Type 0 where
+  pub checked : check prime ws ≡ good (readSheet ws)
+  pub room : lengthOf (readSheet ws) ≤ length out
+  pub scratch-is : scratch ≡ zeros (length (readSheet ws .records))
   pub out-is : out ≡ zeros (length out)

@@ -1,5 +1,2 @@
-pub mod Picks
-pub mod Memory
-pub mod Nodes
 pub mod Calls
 pub mod Demand

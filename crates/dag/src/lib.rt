@@ -5,24 +5,11 @@ ghost use Rattle.semantics.specs.Arithmetic.{prime};
 ghost use Rattle.semantics.specs.Call.{builderCall, zeros};
 ghost use Rattle.dag.specs.Calls.{builtOutcome, Clear};
 
-mod finish;
 mod graph;
-mod nodes;
-mod rules;
-mod walk;
 
 use sheet::Checked;
 use sheet::Refusal;
 use sheet::Written;
-
-// A record as five words.
-pub struct Record {
-    pub kind: u32,
-    pub a: u32,
-    pub b: u32,
-    pub c: u32,
-    pub d: u32,
-}
 
 // The graph of a checked sheet, where scratch and output are long enough.
 fn build_checked(

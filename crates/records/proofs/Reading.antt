@@ -8,14 +8,20 @@ use lib.ListN.{length, getD, take, drop, replicate, length-append, length-drop, 
 use lib.Seq.{take-append-seam, drop-at, drop-drop, getD-drop}
 use Rattle.semantics.specs.Arithmetic.{prime}
 use Rattle.semantics.specs.Answer.{good}
-use Rattle.semantics.specs.Sheet.{Interaction, Each, GoodInteraction, headWords, recordWords, interactionWords}
+use Rattle.semantics.specs.Sheet.{Sheet, Interaction, Each, GoodInteraction, headWords, recordWords, interactionWords}
 use Rattle.semantics.specs.Check.{readSheet, check}
-use Rattle.semantics.proofs.Encoding.{records-length, head-limits}
+use Rattle.semantics.proofs.Encoding.{records-length, head-limits, check-sound, sheet-back}
 use Rattle.semantics.proofs.Access.{spare, words-are, words-count, count-words, constraint-word, interactions-from}
 use Rattle.semantics.proofs.Members.{mem-getD}
 use Rattle.semantics.proofs.GraphSheets.{named-below, interaction-facts}
 use Rattle.records.specs.Access.{recordsOf, constraintsAt, interactionsAt, part, messageLength, eachWords, countAt, fieldsAt, rootWords, countWords, fieldWords, NamesInside, AllRootsInside}
 use Rattle.records.proofs.Steps.{inside}
+
+-- The sheet that was found is the one that the words read as.
+pub read-found : (ws : List ℕ) (t : Sheet) → check prime ws ≡ good t → t ≡ readSheet ws
+read-found ws t e =
+    let w = check-sound prime ws t e .1 in
+    sym (ap readSheet (w .2) ∙ sheet-back t (replicate (w .0) 0))
 
 -- The records that interactions name: the fields of each before its count; the counts alone; the fields alone.
 abbrev pub rootsOf : Interaction → List ℕ

@@ -39,15 +39,17 @@ pub kind-neg : (r : Record) → r .kind ≡ 8 → children (nodeOf r) ≡ r .a �
 unfolding nodeOf children
 kind-neg r e = rw e
 
-pub kind-flat : (r : Record) → r .kind < 6 → children (nodeOf r) ≡ []
+pub kind-flat : (r : Record) → (6 ≤ r .kind → 9 < r .kind) → children (nodeOf r) ≡ []
 unfolding nodeOf children
 kind-flat r h =
     let P : Node → Type 0 = λ k. children k ≡ [] in
+    let not : (k : ℕ) → 6 ≤ k → k ≤ 9 → eqb (r .kind) k ≡ true → ⊥ =
+    λ k l m e. absurd (omega (arith, eqb-true (r .kind) k e, h (omega (arith, eqb-true (r .kind) k e)))) in
     by-test P (eqb (r .kind) 5) (λ e. refl)
-    (λ _. by-test P (eqb (r .kind) 6) (λ e. absurd (omega (arith, eqb-true (r .kind) 6 e)))
-    (λ _. by-test P (eqb (r .kind) 7) (λ e. absurd (omega (arith, eqb-true (r .kind) 7 e)))
-    (λ _. by-test P (eqb (r .kind) 8) (λ e. absurd (omega (arith, eqb-true (r .kind) 8 e)))
-    (λ _. by-test P (eqb (r .kind) 9) (λ e. absurd (omega (arith, eqb-true (r .kind) 9 e))) (λ _. refl)))))
+    (λ _. by-test P (eqb (r .kind) 6) (λ e. absurd (not 6 (omega arith) (omega arith) e))
+    (λ _. by-test P (eqb (r .kind) 7) (λ e. absurd (not 7 (omega arith) (omega arith) e))
+    (λ _. by-test P (eqb (r .kind) 8) (λ e. absurd (not 8 (omega arith) (omega arith) e))
+    (λ _. by-test P (eqb (r .kind) 9) (λ e. absurd (not 9 (omega arith) (omega arith) e)) (λ _. refl)))))
 
 module _ (ws : List ℕ) (checked : check prime ws ≡ good (readSheet ws)) (r : ℕ) (l : r < length (recordsOf ws)) where
   pub record-good : GoodRecord prime r (recordAt (recordsOf ws) r)
@@ -119,7 +121,7 @@ module _ (ws : List ℕ) (checked : check prime ws ≡ good (readSheet ws)) (r :
     -- Its children, by its kind.
     pub none-is : q .kind < 6 → childrenAt (recordsOf ws) r ≡ []
     unfolding childrenAt
-    none-is h = kind-flat R (omega (arith, kind-is))
+    none-is h = kind-flat R (λ g. omega (arith, kind-is))
 
     pub one-is : q .kind ≡ 8 → (x : ℕ) → x ≡ q .a → childrenAt (recordsOf ws) r ≡ x ∷ []
     unfolding childrenAt

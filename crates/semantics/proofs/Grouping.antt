@@ -29,13 +29,13 @@ unfoldable pub shown : (Item → List ℕ) → Group → Listed
 shown term g = record { vars = g .vars; terms = map term (g .terms) }
 
 -- What is laid out reads back.
-headers-length : (vo to : ℕ) (gs : List Group) → length (headers vo to gs) ≡ 4 * length gs
+pub headers-length : (vo to : ℕ) (gs : List Group) → length (headers vo to gs) ≡ 4 * length gs
 unfolding headers
 headers-length vo to [] = refl
 headers-length vo to (g ∷ gs) = ap (λ (n : ℕ). suc (suc (suc (suc n)))) (headers-length _ _ gs) ∙ omega arith
 
 module _ (term : Item → List ℕ) (width : ℕ) (wide : (t : Item) → length (term t) ≡ width) where
-  terms-length : (ts : List Item) → length (flatMap term ts) ≡ width * length ts
+  pub terms-length : (ts : List Item) → length (flatMap term ts) ≡ width * length ts
   unfolding flatMap
   terms-length ts = elim ts [
     | [] ↦ omega arith
@@ -103,7 +103,7 @@ key-inj t u e =
     let c : t .coef ≡ u .coef = cc in
     λ d. record { vars = v d; index = i d; field = f d; coef = c d }
 
-later-asym : (t u : Item) → later t u ≡ true → later u t ≡ false
+pub later-asym : (t u : Item) → later t u ≡ true → later u t ≡ false
 unfolding later
 later-asym t u h = go (before (key t) (key u)) refl
   where
@@ -131,7 +131,7 @@ lex-append (x ∷ s) (y ∷ t) u v l h = go (lex-inv x y s t h) (lex-append s t 
     go (inl a) ih = lex-head x y (s ++ u) (t ++ v) a
     go (inr a) ih = lex-tail x y (s ++ u) (t ++ v) (a .0) (ih (a .1))
 
-later-vars : (t u : Item) → beforeVars (u .vars) (t .vars) ≡ true → later t u ≡ true
+pub later-vars : (t u : Item) → beforeVars (u .vars) (t .vars) ≡ true → later t u ≡ true
 unfolding beforeVars later key
 later-vars t u h = go (lex-inv (length (u .vars)) (length (t .vars)) (u .vars) (t .vars) h)
   where

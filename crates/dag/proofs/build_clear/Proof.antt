@@ -1,5 +1,4 @@
 use mathlib.Core.Path.{ap, _∙_}
-use Prim.Native.Nat.{_-_, _/_}
 use borrow.Author.Needs.{needs}
 use lib.ListN.{length}
 use Rattle.semantics.specs.Arithmetic.{prime}

@@ -3,9 +3,6 @@ use native.Mathlib.Omega.{arith}
 use borrow.Author.Needs.{needs}
 use Rattle.records.proofs.constraints_at.Statement.{statement}
 use Rattle.records.proofs.constraints_at.Tie as tie
-use Rattle.records.proofs.constraints_at.Reads as reads
-use Rattle.records.proofs.constraints_at.Lts as lts
-use Rattle.records.proofs.wide.Reads as wide-reads
 
 -- src/lib.rt:45:18
 shared-slice-read-wide : tie.Need-shared-slice-read-wide

@@ -3,10 +3,6 @@ use native.Mathlib.Omega.{arith}
 use borrow.Author.Needs.{needs}
 use Rattle.records.proofs.interactions_at.Statement.{statement}
 use Rattle.records.proofs.interactions_at.Tie as tie
-use Rattle.records.proofs.interactions_at.Reads as reads
-use Rattle.records.proofs.interactions_at.Lts as lts
-use Rattle.records.proofs.constraints_at.Reads as constraints-at-reads
-use Rattle.records.proofs.wide.Reads as wide-reads
 
 -- src/lib.rt:53:5
 constraints-at-requires : tie.Need-constraints-at-requires

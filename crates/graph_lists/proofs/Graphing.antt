@@ -1,0 +1,236 @@
+-- The graph in the output, from the state when all records are added.
+use mathlib.Core.Path.{_≡_, refl, sym, ap, subst, _∙_}
+use mathlib.Core.List.{List, _++_, map, flatMap}
+use Prim.Native.Nat.{ℕ, suc, pred, _+_, _*_, _-_, _≤_, _<_}
+use native.Mathlib.Omega.{arith}
+use lib.ListN.{length, getD, set, drop, length-map, length-append}
+use Rattle.semantics.specs.Arithmetic.{prime}
+use Rattle.semantics.specs.Sheet.{Sheet, interactionWords, encode, headWords, lengthOf}
+use Rattle.semantics.specs.Check.{readSheet}
+use Rattle.semantics.specs.Walk.{member}
+use Rattle.semantics.specs.Graph.{Built, built, graphRoots, graphOf, sortedOnce, renamed}
+use Rattle.semantics.proofs.Basics.{by-test}
+use Rattle.semantics.proofs.Members.{Mem, mem-left, mem-right, mem-getD, Below, map-below}
+use Rattle.semantics.proofs.Encoding.{records-length}
+use Rattle.semantics.proofs.Access.{constraint-word, words-count}
+use Rattle.semantics.proofs.Orders.{order-closed, order-roots, order-below, order-distinct, distinct-length}
+use Rattle.semantics.proofs.GraphSheets.{graph-roots, sorted-length}
+use Rattle.records.specs.Access.{recordsOf, constraintsAt, interactionsAt, part}
+use Rattle.records.specs.Orders.{Order}
+use Rattle.records.proofs.Steps.{inside, few-records, lows}
+use Rattle.records.proofs.Reading.{roots, counts-small, constraints-are, interactions-stand}
+use Rattle.nodes.specs.Memory.{tabulate, mark, nodesOut, builtOf}
+use Rattle.nodes.proofs.States as states
+use Rattle.nodes.proofs.Marks.{tabulate-length}
+use Rattle.graph_lists.specs.Lists.{Finishing, allAdded, graphOut, graphLength, flagged, flaggedAmong, plainBelow, marksOf, nodeNumbers, put, renamedAll, Named, NamedInteractions}
+use Rattle.graph_lists.proofs.Sweeps.{put-length}
+use Rattle.graph_lists.proofs.Renaming.{map-same, renamed-are, named-are}
+use Rattle.graph_lists.proofs.Closing.{plain-again, flagged-are, graph-words, graph-fits}
+
+pub encode-long : (g : Sheet) → length (encode g) ≡ 4 + (5 * length (g .records) + (length (g .constraints) + length (flatMap interactionWords (g .interactions))))
+unfolding encode headWords
+encode-long g = simp (length-append, records-length) (omega arith)
+
+module _ (ws scratch out : List ℕ) (n : ℕ) (f : Finishing ws scratch out n) where
+  abbrev s : Sheet
+  s = readSheet ws
+
+  abbrev E : ℕ
+  E = length (recordsOf ws)
+
+  abbrev B : Built
+  B = builtOf ws (allAdded ws)
+
+  abbrev g : Sheet
+  g = graphOf prime s
+
+  roots-below : Below E (graphRoots s)
+  roots-below = graph-roots prime s (inside ws (f .checked))
+
+  ordered : Order ws (allAdded ws)
+  ordered = record {
+    closed = order-closed (recordsOf ws) (lows ws (f .checked)) (graphRoots s) roots-below;
+    distinct = order-distinct (recordsOf ws) (lows ws (f .checked)) (graphRoots s) roots-below;
+    below = order-below (recordsOf ws) (lows ws (f .checked)) (graphRoots s) roots-below;
+  }
+
+  -- The mark of a record that is named.
+  module _ (c : ℕ) (m : Mem c (graphRoots s)) where
+    added : Mem c (allAdded ws)
+    added = order-roots (recordsOf ws) (lows ws (f .checked)) (graphRoots s) roots-below c m
+
+    marked : marksOf scratch c ≡ suc (B .num c)
+    marked = states.scratch-num ws (allAdded ws) scratch out n (f .holds) c (roots-below c m) added
+
+    number-is : pred (marksOf scratch c) ≡ B .num c
+    number-is = ap pred marked
+
+    root-named : (c < length scratch) × (0 < marksOf scratch c) × (marksOf scratch c ≤ length scratch)
+    root-named =
+        let l = states.scratch-length ws (allAdded ws) scratch out n (f .holds) in
+        (omega (arith, roots-below c m), omega (arith, marked), omega (arith, marked, states.num-small ws (f .checked) (allAdded ws) ordered c added))
+
+  marks-small : (i : ℕ) → i < length scratch → marksOf scratch i < 65536
+  unfolding mark
+  marks-small i l =
+      subst (λ (k : ℕ). k < 65536)
+      (sym (states.scratch-at ws (allAdded ws) scratch out n (f .holds) i (omega (arith, states.scratch-length ws (allAdded ws) scratch out n (f .holds)))))
+      (by-test (λ (k : ℕ). k < 65536) (member i (allAdded ws))
+      (λ e. omega (arith, states.num-small ws (f .checked) (allAdded ws) ordered i e, few-records ws (f .checked))) (λ e. omega arith))
+
+  constraint-root : (c : ℕ) → Mem c (s .constraints) → Mem c (graphRoots s)
+  unfolding graphRoots
+  constraint-root c m = mem-left c (s .constraints) (roots (s .interactions)) m
+
+  interaction-root : (c : ℕ) → Mem c (roots (s .interactions)) → Mem c (graphRoots s)
+  unfolding graphRoots
+  interaction-root c m = mem-right c (s .constraints) (roots (s .interactions)) m
+
+  -- What turning the constraints into nodes asks.
+  pub constraints-named : (at count : ℕ) → at ≡ constraintsAt ws → count ≡ length (s .constraints) → Named ws at count scratch
+  constraints-named at count e k = record {
+    small = marks-small;
+    inside = omega (arith, words-count prime ws s (f .checked));
+    named = λ j l.
+        let w : getD ws (at + j) 0 ≡ getD (s .constraints) j 0 = ap (λ (a : ℕ). getD ws (a + j) 0) e ∙ constraint-word prime ws s (f .checked) j (omega arith) in
+        subst (λ (c : ℕ). (c < length scratch) × (0 < marksOf scratch c) × (marksOf scratch c ≤ length scratch)) (sym w)
+        (root-named (getD (s .constraints) j 0) (constraint-root (getD (s .constraints) j 0) (mem-getD (s .constraints) j (omega arith))));
+  }
+
+  abbrev nums : List ℕ
+  nums = map (B .num) (s .constraints)
+
+  numbers-are : (at count : ℕ) → at ≡ constraintsAt ws → count ≡ length (s .constraints) → nodeNumbers (marksOf scratch) (part at count ws) ≡ nums
+  numbers-are at count e k =
+      (λ i. nodeNumbers (marksOf scratch) (part (e i) (k i) ws)) ∙ ap (nodeNumbers (marksOf scratch)) (constraints-are ws (f .checked))
+      ∙ map-same (λ (x : ℕ). pred (marksOf scratch x)) (B .num) (s .constraints) (λ c m. number-is c (constraint-root c m))
+
+  nodes-count : n ≡ length (B .nodes)
+  nodes-count = f .holds .count-is
+
+  nums-below : Below n nums
+  nums-below = map-below n (B .num) (s .constraints) (λ c m. omega (arith, nodes-count, states.num-below ws (f .checked) (allAdded ws) ordered c (added c (constraint-root c m))))
+
+  pub nodes-few : n ≤ length scratch
+  nodes-few =
+      omega (
+        arith,
+        nodes-count,
+        states.kept ws (f .checked) (allAdded ws) ordered .few,
+        states.scratch-length ws (allAdded ws) scratch out n (f .holds),
+        distinct-length E (allAdded ws) (ordered .distinct) (ordered .below),
+      )
+
+  pub nodes-small : n ≤ 4096
+  nodes-small = omega (arith, nodes-few, states.scratch-length ws (allAdded ws) scratch out n (f .holds), few-records ws (f .checked))
+
+  pub lists-small : (length (s .constraints) ≤ 1024) × (length (s .interactions) ≤ 1024)
+  lists-small = let h = counts-small ws (f .checked) in (h .1, h .2)
+
+  -- The graph's lists and their length.
+  records-are : g .records ≡ B .nodes
+  unfolding graphOf built builtOf
+  records-are = refl
+
+  sorted-are : g .constraints ≡ sortedOnce nums
+  unfolding graphOf built builtOf
+  sorted-are = refl
+
+  interactions-are : g .interactions ≡ map (renamed (B .num)) (s .interactions)
+  unfolding graphOf built builtOf
+  interactions-are = refl
+
+  fits : 4 + 5 * n + length (g .constraints) + length (flatMap interactionWords (g .interactions)) ≤ length out
+  unfolding lengthOf
+  fits =
+      let k : length (g .records) ≡ n = ap length records-are ∙ sym nodes-count in
+      omega (arith, encode-long g, graph-fits ws (f .checked), f .room, k)
+
+  pub four-words : 4 ≤ length out
+  four-words = omega (arith, fits)
+
+  -- The constraints are flagged, written and plain again.
+  module _ (at count : ℕ) (ea : at ≡ constraintsAt ws) (ec : count ≡ length (s .constraints)) (s₁ : List ℕ)
+      (e₁ : s₁ ≡ tabulate 0 (length scratch) (flagged (marksOf scratch) (nodeNumbers (marksOf scratch) (part at count ws)))) where
+    flags-are : s₁ ≡ tabulate 0 (length scratch) (flagged (marksOf scratch) nums)
+    flags-are = e₁ ∙ ap (λ (l : List ℕ). tabulate 0 (length scratch) (flagged (marksOf scratch) l)) (numbers-are at count ea ec)
+
+    among-are : flaggedAmong 0 n s₁ ≡ g .constraints
+    among-are = ap (flaggedAmong 0 n) flags-are ∙ flagged-are scratch nums n marks-small nums-below nodes-few ∙ sym sorted-are
+
+    pub room-flagged : (n ≤ length s₁) × (n < 4294967296) × (4 + 5 * n + length (flaggedAmong 0 n s₁) ≤ length out)
+    room-flagged =
+        let l : length s₁ ≡ length scratch = ap length e₁ ∙ tabulate-length 0 (length scratch) _ in
+        let k : length (flaggedAmong 0 n s₁) ≡ length (g .constraints) = ap length among-are in
+        (omega (arith, nodes-few), omega (arith, nodes-small), omega (arith, fits))
+
+    module _ (s₂ out₁ : List ℕ) (next : ℕ) (e₂ : s₂ ≡ tabulate 0 (length s₁) (plainBelow n s₁)) (o₁ : out₁ ≡ put out (4 + 5 * n) (flaggedAmong 0 n s₁))
+        (q : next ≡ 4 + 5 * n + length (flaggedAmong 0 n s₁)) (from ints : ℕ) (ef : from ≡ at + count) (ei : ints ≡ length (s .interactions)) where
+      plain : s₂ ≡ scratch
+      plain = e₂ ∙ ap (λ (l : List ℕ). tabulate 0 (length l) (plainBelow n l)) flags-are ∙ plain-again scratch nums n marks-small nums-below nodes-few
+
+      from-is : interactionsAt ws ≡ from
+      from-is = omega arith
+
+      stands : drop (interactionsAt ws) ws ≡ flatMap interactionWords (s .interactions) ++ interactions-stand ws (f .checked) .0
+      stands = interactions-stand ws (f .checked) .1
+
+      renamed-now : renamedAll ws s₂ from ints ≡ flatMap interactionWords (g .interactions)
+      renamed-now =
+          (λ i. renamedAll ws (plain i) (sym from-is i) (ei i))
+          ∙ renamed-are (interactions-stand ws (f .checked) .0) ws (interactionsAt ws) (s .interactions) stands scratch (B .num)
+          (λ c m. number-is c (interaction-root c m))
+          ∙ ap (flatMap interactionWords) (sym interactions-are)
+
+      next-is : next ≡ 4 + 5 * n + length (g .constraints)
+      next-is = q ∙ ap (λ (l : List ℕ). 4 + 5 * n + length l) among-are
+
+      out₁-is : out₁ ≡ put out (4 + 5 * n) (g .constraints)
+      out₁-is = o₁ ∙ ap (put out (4 + 5 * n)) among-are
+
+      out₁-length : length out₁ ≡ length out
+      out₁-length = ap length out₁-is ∙ put-length out (4 + 5 * n) (g .constraints) (omega (arith, fits))
+
+      pub interactions-named : NamedInteractions ws s₂ from ints × (next + length (renamedAll ws s₂ from ints) ≤ length out₁)
+      interactions-named =
+          let k : length (renamedAll ws s₂ from ints) ≡ length (flatMap interactionWords (g .interactions)) = ap length renamed-now in (
+            subst (λ (x : List ℕ). NamedInteractions ws x from ints) (sym plain)
+                (subst (λ (a : ℕ). NamedInteractions ws scratch a ints) from-is
+                (subst (NamedInteractions ws scratch (interactionsAt ws)) (sym ei)
+                (named-are (interactions-stand ws (f .checked) .0) ws (interactionsAt ws) (s .interactions) stands scratch marks-small (λ c m. root-named c (interaction-root c m))))),
+            omega (arith, fits, next-is, out₁-length),
+          )
+
+      -- The output with its head.
+      module _ (out₂ : List ℕ) (o₂ : out₂ ≡ put out₁ next (renamedAll ws s₂ from ints)) where
+        pub out₂-length : length out₂ ≡ length out
+        out₂-length =
+            let k = interactions-named .1 in
+            ap length o₂ ∙ put-length out₁ next (renamedAll ws s₂ from ints) k ∙ out₁-length
+
+        pub end-is : (end : ℕ) → end ≡ next + length (renamedAll ws s₂ from ints) → end ≡ graphLength ws
+        end-is end e =
+            let k : length (renamedAll ws s₂ from ints) ≡ length (flatMap interactionWords (g .interactions)) = ap length renamed-now in
+            let kn : n ≡ length (g .records) = nodes-count ∙ ap length (sym records-are) in
+            omega (arith, next-is, encode-long g)
+
+        pub list-small : next - (4 + 5 * n) < 4294967296
+        list-small = omega (arith, next-is, sorted-few)
+          where
+            sorted-few : length (g .constraints) ≤ 1024
+            sorted-few =
+                let k : length nums ≡ length (s .constraints) = length-map (s .constraints) (B .num) in
+                omega (arith, ap length sorted-are, sorted-length nums, lists-small .0)
+
+        pub graph-written : set (set (set (set out₂ 0 1) 1 n) 2 (next - (4 + 5 * n))) 3 ints ≡ graphOut (length out) ws
+        graph-written =
+            let N : ℕ = length (g .records) in
+            let kn : n ≡ N = nodes-count ∙ ap length (sym records-are) in
+            let kc : next - (4 + 5 * n) ≡ length (g .constraints) = omega (arith, next-is) in
+            let ki : ints ≡ length (g .interactions) = ei ∙ sym (length-map (s .interactions) (renamed (B .num))) ∙ ap length (sym interactions-are) in
+            let kx : next ≡ 4 + 5 * N + length (g .constraints) = next-is ∙ ap (λ (m : ℕ). 4 + 5 * m + length (g .constraints)) kn in
+            let ko : out ≡ nodesOut (length out) (g .records) = f .holds .out-is ∙ ap (nodesOut (length out)) (sym records-are) in
+            let w : out₂ ≡ put (put (nodesOut (length out) (g .records)) (4 + 5 * N) (g .constraints)) (4 + 5 * N + length (g .constraints)) (flatMap interactionWords (g .interactions)) =
+            o₂ ∙ (λ i. put (out₁-is i) (kx i) (renamed-now i)) ∙ (λ i. put (put (ko i) (4 + 5 * kn i) (g .constraints)) (4 + 5 * N + length (g .constraints)) (flatMap interactionWords (g .interactions))) in
+            (λ i. set (set (set (set (w i) 0 1) 1 (kn i)) 2 (kc i)) 3 (ki i))
+            ∙ graph-words (length out) g (unfold lengthOf in (omega (arith, graph-fits ws (f .checked), f .room)))

@@ -1,0 +1,160 @@
+-- Names turned into node numbers in the output.
+use mathlib.Core.Path.{_≡_, refl, sym, ap, subst, _∙_}
+use mathlib.Core.List.{List, [], _∷_, _++_, append-assoc, append-nil, map-append}
+use Prim.Native.Nat.{ℕ, suc, pred, _+_, _-_, _%_, _≤_, _<_}
+use native.Mathlib.Omega.{arith}
+use native.Mathlib.Nat.{mod-eq-of-lt}
+use lib.ListN.{length, getD, set, length-append, length-set, length-map}
+use Rattle.records.specs.Access.{part, messageLength, eachWords}
+use Rattle.records.proofs.Parts.{part-more, part-length}
+use Rattle.graph_lists.specs.Lists.{put, nodeNumbers, marksOf, Named, NamedInteraction, NamedInteractions, renamedWords, renamedAll}
+use Rattle.graph_lists.proofs.Sweeps.{put-none, put-length, put-put, put-one, put-next, set-next}
+
+numbers-length : (ws : List ℕ) (at j : ℕ) (f : ℕ → ℕ) → at + j ≤ length ws → length (nodeNumbers f (part at j ws)) ≡ j
+numbers-length ws at j f h = length-map (part at j ws) (λ (x : ℕ). pred (f x)) ∙ part-length ws at j h
+
+module _ (ws : List ℕ) (at count : ℕ) (s : List ℕ) (h : Named ws at count s) where
+  module _ (j : ℕ) (l : j < count) where
+    -- The next name's mark has no flag.
+    pub plain-mark : getD s (getD ws (at + j) 0) 0 % 65536 ≡ marksOf s (getD ws (at + j) 0)
+    plain-mark = mod-eq-of-lt (h .small (getD ws (at + j) 0) (h .named j l .0))
+
+    pub node-small : pred (marksOf s (getD ws (at + j) 0)) < 4294967296
+    node-small = omega (arith, h .small (getD ws (at + j) 0) (h .named j l .0))
+
+    pub naming-more : (out₀ out : List ℕ) (to node : ℕ) → to + count ≤ length out₀ → out ≡ put out₀ to (nodeNumbers (marksOf s) (part at j ws))
+        → node ≡ pred (marksOf s (getD ws (at + j) 0))
+        → set out (to + j) node ≡ put out₀ to (nodeNumbers (marksOf s) (part at (j + 1) ws))
+    naming-more out₀ out to node r e q =
+        let f : ℕ → ℕ = marksOf s in
+        let xs : List ℕ = nodeNumbers f (part at j ws) in
+        let n : length xs ≡ j = numbers-length ws at j f (omega (arith, h .inside)) in
+        let p : to + length xs + 1 ≤ length out₀ = omega arith in
+        ap (λ (u : List ℕ). set u (to + j) node) e
+        ∙ ap (λ (k : ℕ). set (put out₀ to xs) (to + k) node) (sym n)
+        ∙ put-one (put out₀ to xs) (to + length xs) node (omega (arith, put-length out₀ to xs (omega arith)))
+        ∙ put-put out₀ to xs (node ∷ []) p
+        ∙ ap (λ (x : ℕ). put out₀ to (xs ++ (x ∷ []))) q
+        ∙ ap (put out₀ to) (sym (map-append (λ (x : ℕ). pred (f x)) (part at j ws) (getD ws (at + j) 0 ∷ [])))
+        ∙ ap (λ (y : List ℕ). put out₀ to (nodeNumbers f y)) (sym (part-more ws at j (omega (arith, h .inside))))
+
+-- The words of an interaction, one after the other.
+module _ (ws : List ℕ) (at : ℕ) (s : List ℕ) (h : NamedInteraction ws at s) where
+  abbrev count-nodes : List ℕ
+  count-nodes = nodeNumbers (marksOf s) (part (at + 2) 1 ws)
+
+  abbrev message-nodes : List ℕ
+  message-nodes = nodeNumbers (marksOf s) (part (at + 4) (messageLength ws at) ws)
+
+  one-count : length count-nodes ≡ 1
+  one-count = numbers-length ws (at + 2) 1 (marksOf s) (h .count .inside)
+
+  all-message : length message-nodes ≡ messageLength ws at
+  all-message = numbers-length ws (at + 4) (messageLength ws at) (marksOf s) (h .message .inside)
+
+  pub renamed-length : length (renamedWords ws s at) ≡ 4 + messageLength ws at
+  unfolding renamedWords
+  renamed-length = simp length-append (omega (arith, one-count, all-message))
+
+  module _ (out : List ℕ) (to : ℕ) (room : to + (4 + messageLength ws at) ≤ length out) where
+    module _ (o₁ o₂ o₃ o₄ o₅ : List ℕ) (e₁ : o₁ ≡ set out to (getD ws at 0)) (e₂ : o₂ ≡ set o₁ (to + 1) (getD ws (at + 1) 0)) (e₃ : o₃ ≡ put o₂ (to + 2) count-nodes)
+        (e₄ : o₄ ≡ set o₃ (to + 3) (messageLength ws at)) (e₅ : o₅ ≡ put o₄ (to + 4) message-nodes) where
+      pub interaction-put : o₅ ≡ put out to (renamedWords ws s at)
+      unfolding renamedWords
+      interaction-put =
+          let w : List ℕ = getD ws at 0 ∷ [] in
+          let f₁ : o₁ ≡ put out to w = e₁ ∙ put-one out to (getD ws at 0) (omega arith) in
+          let f₂ : o₂ ≡ put out to (w ++ (getD ws (at + 1) 0 ∷ [])) = e₂ ∙ set-next out o₁ to w f₁ (to + 1) refl (getD ws (at + 1) 0) (omega arith) in
+          let f₃ : o₃ ≡ put out to (w ++ (getD ws (at + 1) 0 ∷ []) ++ count-nodes) =
+          e₃ ∙ put-next out o₂ to (w ++ (getD ws (at + 1) 0 ∷ [])) f₂ (to + 2) refl count-nodes (omega (arith, one-count)) in
+          let x : List ℕ = w ++ (getD ws (at + 1) 0 ∷ []) ++ count-nodes in
+          let lx : length x ≡ 3 = omega (arith, one-count) in
+          let f₄ : o₄ ≡ put out to (x ++ (messageLength ws at ∷ [])) = e₄ ∙ set-next out o₃ to x f₃ (to + 3) (omega arith) (messageLength ws at) (omega arith) in
+          let y : List ℕ = x ++ (messageLength ws at ∷ []) in
+          let ly : length y ≡ 4 = length-append x (messageLength ws at ∷ []) ∙ omega arith in
+          let f₅ : o₅ ≡ put out to (y ++ message-nodes) = e₅ ∙ put-next out o₄ to y f₄ (to + 4) (omega arith) message-nodes (omega (arith, all-message)) in
+          f₅ ∙ ap (put out to) (append-assoc x (messageLength ws at ∷ []) message-nodes ∙ append-assoc (w ++ (getD ws (at + 1) 0 ∷ [])) count-nodes ((messageLength ws at ∷ []) ++ message-nodes))
+
+    -- The output keeps its length all along.
+    pub length-two : length (set (set out to (getD ws at 0)) (to + 1) (getD ws (at + 1) 0)) ≡ length out
+    length-two = length-set (set out to (getD ws at 0)) (to + 1) (getD ws (at + 1) 0) ∙ length-set out to (getD ws at 0)
+
+    pub length-three : (o₃ : List ℕ) → o₃ ≡ put (set (set out to (getD ws at 0)) (to + 1) (getD ws (at + 1) 0)) (to + 2) count-nodes → length o₃ ≡ length out
+    length-three o₃ e =
+        ap length e ∙ put-length (set (set out to (getD ws at 0)) (to + 1) (getD ws (at + 1) 0)) (to + 2) count-nodes (omega (arith, one-count, length-two)) ∙ length-two
+
+-- The loop over the interactions: what is written and what is left make the whole.
+pub record Written (ws s : List ℕ) (at count : ℕ) (out₀ : List ℕ) (to : ℕ) (out : List ℕ) (from next i : ℕ) : Type 0 where
+  pub words : List ℕ
+  pub i-le : i ≤ count
+  pub out-is : out ≡ put out₀ to words
+  pub next-is : next ≡ to + length words
+  pub whole : words ++ renamedAll ws s from (count - i) ≡ renamedAll ws s at count
+  pub left : NamedInteractions ws s from (count - i)
+
+module _ (ws s : List ℕ) (at count : ℕ) (out₀ : List ℕ) (to : ℕ) (named : NamedInteractions ws s at count)
+    (room : to + length (renamedAll ws s at count) ≤ length out₀) where
+  pub written-none : Written ws s at count out₀ to out₀ at to 0
+  written-none = record {
+    words = [];
+    i-le = omega arith;
+    out-is = sym (put-none out₀ to);
+    next-is = omega arith;
+    whole = ap (renamedAll ws s at) (omega arith);
+    left = subst (NamedInteractions ws s at) (z count) named;
+  }
+    where
+      z : (n : ℕ) → n ≡ n - 0
+      z n = omega arith
+
+  module _ (out : List ℕ) (from next i : ℕ) (h : Written ws s at count out₀ to out from next i) where
+    pub written-length : length (h .words) + length (renamedAll ws s from (count - i)) ≡ length (renamedAll ws s at count)
+    written-length = sym (length-append (h .words) (renamedAll ws s from (count - i))) ∙ ap length (h .whole)
+
+    pub out-length : length out ≡ length out₀
+    out-length = ap length (h .out-is) ∙ put-length out₀ to (h .words) (omega (arith, written-length))
+
+    module _ (l : i < count) where
+      less : count - i ≡ suc (count - (i + 1))
+      less = omega arith
+
+      next-left : NamedInteractions ws s from (suc (count - (i + 1)))
+      next-left = subst (NamedInteractions ws s from) less (h .left)
+
+      pub next-interaction : NamedInteraction ws from s
+      next-interaction = next-left .0
+
+      next-whole : h .words ++ (renamedWords ws s from ++ renamedAll ws s (from + (4 + messageLength ws from)) (count - (i + 1))) ≡ renamedAll ws s at count
+      unfolding eachWords
+      next-whole = ap (λ (n : ℕ). h .words ++ renamedAll ws s from n) (sym less) ∙ h .whole
+
+      words-length : length (renamedWords ws s from) ≡ 4 + messageLength ws from
+      words-length = renamed-length ws from s next-interaction
+
+      split-length : length (h .words) + (length (renamedWords ws s from) + length (renamedAll ws s (from + (4 + messageLength ws from)) (count - (i + 1)))) ≡ length (renamedAll ws s at count)
+      split-length =
+          let a = ap length next-whole in
+          let rest : List ℕ = renamedAll ws s (from + (4 + messageLength ws from)) (count - (i + 1)) in
+          omega (arith, length-append (h .words) (renamedWords ws s from ++ rest), length-append (renamedWords ws s from) rest)
+
+      pub next-room : next + (4 + messageLength ws from) ≤ length out
+      next-room = omega (arith, split-length, words-length, out-length, h .next-is)
+
+      pub written-more : (out′ : List ℕ) (from′ next′ : ℕ) → out′ ≡ put out next (renamedWords ws s from) → next′ ≡ next + (4 + messageLength ws from)
+          → from′ ≡ from + (4 + messageLength ws from) → Written ws s at count out₀ to out′ from′ next′ (i + 1)
+      written-more out′ from′ next′ o n f = record {
+        words = h .words ++ renamedWords ws s from;
+        i-le = omega arith;
+        out-is = o ∙ put-next out₀ out to (h .words) (h .out-is) next (h .next-is) (renamedWords ws s from) (omega (arith, split-length));
+        next-is = n ∙ omega (arith, h .next-is, words-length, length-append (h .words) (renamedWords ws s from));
+        whole = ap (λ (k : ℕ). h .words ++ renamedWords ws s from ++ renamedAll ws s k (count - (i + 1))) f
+            ∙ append-assoc (h .words) (renamedWords ws s from) (renamedAll ws s (from + (4 + messageLength ws from)) (count - (i + 1))) ∙ next-whole;
+        left = subst (λ (k : ℕ). NamedInteractions ws s k (count - (i + 1))) (sym f) (next-left .1);
+      }
+
+pub written-done : (ws s : List ℕ) (at count : ℕ) (out₀ : List ℕ) (to : ℕ) (out : List ℕ) (from next i : ℕ) (h : Written ws s at count out₀ to out from next i) → count ≤ i
+    → h .words ≡ renamedAll ws s at count
+unfolding eachWords
+written-done ws s at count out₀ to out from next i h l =
+    let z : count - i ≡ 0 = omega arith in
+    sym (append-nil (h .words)) ∙ ap (λ (n : ℕ). h .words ++ renamedAll ws s from n) (sym z) ∙ h .whole

@@ -1,0 +1,162 @@
+// The lists of the finished graph, behind its nodes.
+ghost use mathlib.Core.Path.{_≡_};
+ghost use Prim.Native.Nat.{pred, _+_, _*_, _%_, _≤_, _<_};
+ghost use lib.Dec.{leb};
+ghost use lib.ListN.{length, getD, set};
+ghost use Rattle.semantics.specs.Check.{readSheet};
+ghost use Rattle.records.specs.Access.{constraintsAt, part, messageLength};
+ghost use Rattle.nodes.specs.Memory.{tabulate};
+ghost use Rattle.graph_lists.specs.Lists.{flagWord, plainWord, plainBelow, flagged, flaggedAmong, chosen, Wanted, put, nodeNumbers, marksOf, Named, NamedInteraction, NamedInteractions, renamedWords, renamedAll, Finishing, graphOut, graphLength};
+
+// Above every mark: a mark is a node's number counted from 1.
+const FLAG: u32 = 65536;
+
+// The node of a record, flagged or not.
+fn node_number(scratch: &[u32], r: usize) -> usize
+    requires { ⌜ (r < length (now scratch)) × (0 < getD (now scratch) r 0 % 65536) ⌝ }
+    ensures { λ n. ⌜ n ≡ pred (getD (now (scratch .entry)) r 0 % 65536) ⌝ }
+{
+    records::wide(scratch[r] % FLAG - 1)
+}
+
+// Flags a node that has no flag.
+fn flag_node(scratch: &mut [u32], node: usize)
+    requires { ⌜ node < length (now scratch) ⌝ }
+    ensures { λ _. ⌜ now (scratch .exit) ≡ set (now (scratch .entry)) node (flagWord (getD (now (scratch .entry)) node 0)) ⌝ }
+{
+    let word = scratch[node];
+    if FLAG <= word {
+        return;
+    }
+    scratch[node] = word + FLAG;
+}
+
+// Flags the nodes that the records named from `at` on have.
+fn flag_nodes(sheet: &[u32], at: usize, count: usize, scratch: &mut [u32])
+    requires { ⌜ Named (now sheet) at count (now scratch) ⌝ }
+    ensures { λ _. ⌜ now (scratch .exit) ≡ tabulate 0 (length (now (scratch .entry))) (flagged (marksOf (now (scratch .entry))) (nodeNumbers (marksOf (now (scratch .entry))) (part at count (now (sheet .entry))))) ⌝ }
+{
+    let mut j = 0;
+    while j < count {
+        let node = node_number(scratch, records::wide(sheet[at + j]));
+        flag_node(scratch, node);
+        j += 1;
+    }
+}
+
+// Takes the flag off a node, and says whether it had one.
+fn unflag_node(scratch: &mut [u32], node: usize) -> bool
+    requires { ⌜ node < length (now scratch) ⌝ }
+    ensures { λ r. ⌜ (r ≡ leb 65536 (getD (now (scratch .entry)) node 0)) × (now (scratch .exit) ≡ set (now (scratch .entry)) node (plainWord (getD (now (scratch .entry)) node 0))) ⌝ }
+{
+    let word = scratch[node];
+    if word < FLAG {
+        return false;
+    }
+    scratch[node] = word - FLAG;
+    true
+}
+
+// Writes a node's number at `at` where it is wanted, and hands back where the output goes on.
+fn put_node(out: &mut [u32], at: usize, node: usize, wanted: bool) -> usize
+    requires { ⌜ (node < 4294967296) × Wanted wanted at (now out) ⌝ }
+    ensures { λ r. ⌜ (now (out .exit) ≡ put (now (out .entry)) at (chosen wanted node)) × (r ≡ at + length (chosen wanted node)) ⌝ }
+{
+    if !wanted {
+        return at;
+    }
+    out[at] = node as u32;
+    at + 1
+}
+
+// Writes the flagged nodes in ascending order from `at` on, takes their flags off, and hands back where the output goes on.
+fn write_flagged(scratch: &mut [u32], nodes: usize, out: &mut [u32], at: usize) -> usize
+    requires { ⌜ (nodes ≤ length (now scratch)) × (nodes < 4294967296) × (at + length (flaggedAmong 0 nodes (now scratch)) ≤ length (now out)) ⌝ }
+    ensures { λ r. ⌜ (now (scratch .exit) ≡ tabulate 0 (length (now (scratch .entry))) (plainBelow nodes (now (scratch .entry)))) × (now (out .exit) ≡ put (now (out .entry)) at (flaggedAmong 0 nodes (now (scratch .entry)))) × (r ≡ at + length (flaggedAmong 0 nodes (now (scratch .entry)))) ⌝ }
+{
+    let mut next = at;
+    let mut node = 0;
+    while node < nodes {
+        let had = unflag_node(scratch, node);
+        let after = put_node(out, next, node, had);
+        next = after;
+        node += 1;
+    }
+    next
+}
+
+// Writes the nodes of the records named from `at` on.
+fn write_names(sheet: &[u32], at: usize, count: usize, scratch: &[u32], out: &mut [u32], to: usize)
+    requires { ⌜ Named (now sheet) at count (now scratch) × (to + count ≤ length (now out)) ⌝ }
+    ensures { λ _. ⌜ now (out .exit) ≡ put (now (out .entry)) to (nodeNumbers (marksOf (now (scratch .entry))) (part at count (now (sheet .entry)))) ⌝ }
+{
+    let mut j = 0;
+    while j < count {
+        let node = node_number(scratch, records::wide(sheet[at + j]));
+        out[to + j] = node as u32;
+        j += 1;
+    }
+}
+
+// Writes an interaction with its names turned into nodes, and hands back where the output goes on.
+fn write_interaction(sheet: &[u32], at: usize, scratch: &[u32], out: &mut [u32], to: usize) -> usize
+    requires { ⌜ NamedInteraction (now sheet) at (now scratch) × (to + (4 + messageLength (now sheet) at) ≤ length (now out)) ⌝ }
+    ensures { λ r. ⌜ (now (out .exit) ≡ put (now (out .entry)) to (renamedWords (now (sheet .entry)) (now (scratch .entry)) at)) × (r ≡ to + (4 + messageLength (now (sheet .entry)) at)) ⌝ }
+{
+    let count = records::wide(sheet[at + 3]);
+    out[to] = sheet[at];
+    out[to + 1] = sheet[at + 1];
+    write_names(sheet, at + 2, 1, scratch, out, to + 2);
+    out[to + 3] = sheet[at + 3];
+    write_names(sheet, at + 4, count, scratch, out, to + 4);
+    to + 4 + count
+}
+
+// Writes the interactions that stand from `at` on, and hands back where the output goes on.
+fn write_interactions(
+    sheet: &[u32],
+    at: usize,
+    count: usize,
+    scratch: &[u32],
+    out: &mut [u32],
+    to: usize,
+) -> usize
+    requires { ⌜ NamedInteractions (now sheet) (now scratch) at count × (to + length (renamedAll (now sheet) (now scratch) at count) ≤ length (now out)) ⌝ }
+    ensures { λ r. ⌜ (now (out .exit) ≡ put (now (out .entry)) to (renamedAll (now (sheet .entry)) (now (scratch .entry)) at count)) × (r ≡ to + length (renamedAll (now (sheet .entry)) (now (scratch .entry)) at count)) ⌝ }
+{
+    let mut from = at;
+    let mut next = to;
+    let mut i = 0;
+    while i < count {
+        let message = records::wide(sheet[from + 3]);
+        let after = write_interaction(sheet, from, scratch, out, next);
+        next = after;
+        from = from + 4 + message;
+        i += 1;
+    }
+    next
+}
+
+// Writes the constraints and interactions behind the nodes, and the head; hands back how many words the graph has.
+pub fn write_graph(
+    sheet: &[u32],
+    at: usize,
+    constraints: usize,
+    interactions: usize,
+    scratch: &mut [u32],
+    out: &mut [u32],
+    n: usize,
+) -> usize
+    requires { ⌜ Finishing (now sheet) (now scratch) (now out) n × (at ≡ constraintsAt (now sheet)) × (constraints ≡ length (readSheet (now sheet) .constraints)) × (interactions ≡ length (readSheet (now sheet) .interactions)) ⌝ }
+    ensures { λ r. ⌜ (now (out .exit) ≡ graphOut (length (now (out .entry))) (now (sheet .entry))) × (r ≡ graphLength (now (sheet .entry))) ⌝ }
+{
+    flag_nodes(sheet, at, constraints, scratch);
+    let to = 4 + 5 * n;
+    let next = write_flagged(scratch, n, out, to);
+    let end = write_interactions(sheet, at + constraints, interactions, scratch, out, next);
+    out[0] = 1;
+    out[1] = n as u32;
+    out[2] = (next - to) as u32;
+    out[3] = interactions as u32;
+    end
+}

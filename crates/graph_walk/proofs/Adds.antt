@@ -1,0 +1,110 @@
+-- Adding a record, and a visit of one.
+use mathlib.Core.Path.{_≡_, refl, sym, ap, subst, _∙_}
+use mathlib.Core.Bool.{false}
+use mathlib.Core.List.{List, _∷_}
+use Prim.Native.Nat.{ℕ, suc, _+_, _*_, _≤_, _<_}
+use native.Mathlib.Omega.{arith}
+use lib.Dec.{eqb}
+use lib.ListN.{length}
+use borrow.Author.Tests.{eq-eqb}
+use Rattle.semantics.specs.Arithmetic.{prime}
+use Rattle.semantics.specs.Answer.{good}
+use Rattle.semantics.specs.Sheet.{Record, Each, GoodRecord}
+use Rattle.semantics.specs.Check.{readSheet, check}
+use Rattle.semantics.specs.Value.{nodeOf}
+use Rattle.semantics.specs.Walk.{children, childrenAt, member, visit}
+use Rattle.semantics.specs.Graph as graph
+use Rattle.semantics.specs.Graph.{Built, setNum, takeIn, addRecord, build, find, intern}
+use Rattle.semantics.proofs.Basics.{cond-true}
+use Rattle.semantics.proofs.Members.{Mem, mem-here}
+use Rattle.semantics.proofs.Records.{LowRecord, each-low}
+use Rattle.records.specs.Access.{recordsOf}
+use Rattle.records.specs.Orders.{Order, There}
+use Rattle.records.proofs.Steps.{order-more, child-inside, order-next}
+use Rattle.nodes.specs.Nodes.{NoneBefore, aboveAll}
+use Rattle.nodes.specs.Memory.{builtOf, Holds}
+use Rattle.nodes.proofs.States as states
+use Rattle.nodes.proofs.Searches.{from-inside, from-none}
+use Rattle.graph_walk.specs.Walking.{Ready, Adding, pickOfRecord}
+
+-- The number that a record gets.
+module _ (b : Built) (r : ℕ) where
+  num-present : (k : ℕ) → takeIn b r (graph.present k) .num r ≡ k
+  unfolding takeIn setNum
+  num-present k = cond-true (eqb r r) k (b .num r) (eq-eqb r r refl)
+
+  num-made : (q : Record) → takeIn b r (graph.make q) .num r ≡ find q (b .nodes)
+  unfolding takeIn setNum
+  num-made q = cond-true (eqb r r) (find q (b .nodes)) (b .num r) (eq-eqb r r refl)
+
+module _ (ws : List ℕ) (checked : check prime ws ≡ good (readSheet ws)) where
+  abbrev E : ℕ
+  E = length (recordsOf ws)
+
+  abbrev ch : ℕ → List ℕ
+  ch = childrenAt (recordsOf ws)
+
+  module _ (r : ℕ) (l : r < E) where
+    -- A record whose children are there.
+    module _ (done : List ℕ) (o : Order ws done) (new : member r done ≡ false) (there : There ws r done) where
+      num-next : builtOf ws (r ∷ done) .num r < E
+      num-next = states.num-small ws checked (r ∷ done) (order-more ws checked done r o l new there) r (mem-here r done)
+
+      pub present-small : (k : ℕ) → graph.present k ≡ pickOfRecord ws r done → k < E
+      unfolding builtOf build addRecord
+      present-small k e = subst (λ (j : ℕ). j < E) (ap (λ (q : graph.Pick). takeIn (builtOf ws done) r q .num r) (sym e) ∙ num-present (builtOf ws done) r k) num-next
+
+      pub made-small : (q : Record) → graph.make q ≡ pickOfRecord ws r done → find q (builtOf ws done .nodes) < E
+      unfolding builtOf build addRecord
+      made-small q e = subst (λ (j : ℕ). j < E) (ap (λ (q : graph.Pick). takeIn (builtOf ws done) r q .num r) (sym e) ∙ num-made (builtOf ws done) r q) num-next
+
+      -- Where the search for its node begins.
+      module _ (q : Record) (e : graph.make q ≡ pickOfRecord ws r done) (from : ℕ) (f : from ≡ aboveAll (children (nodeOf q))) where
+        ns : List Record
+        ns = builtOf ws done .nodes
+
+        lows : Each LowRecord 0 (intern q ns)
+        unfolding ns builtOf build addRecord takeIn
+        lows =
+            each-low prime 0 (intern q ns)
+            (subst (λ (x : graph.Pick). Each (GoodRecord prime) 0 (takeIn (builtOf ws done) r x .nodes)) (sym e)
+            (states.kept ws checked (r ∷ done) (order-more ws checked done r o l new there) .good))
+
+        pub search-inside : (n : ℕ) → n ≡ length (builtOf ws done .nodes) → from ≤ n
+        unfolding ns
+        search-inside n z = omega (arith, from-inside q ns lows from f)
+
+        pub search-none : NoneBefore from q (builtOf ws done .nodes)
+        unfolding ns
+        search-none = from-none q ns lows from f
+
+      -- Room for its node.
+      pub room-more : (scratch out : List ℕ) (n : ℕ) → Holds ws done scratch out n → 4 + 5 * E ≤ length out → 4 + 5 * (n + 1) ≤ length out
+      room-more scratch out n h room = omega (arith, h .count-is, states.few-nodes ws checked done r o l new)
+
+    -- What the calls ask: for a child, and for the record again when a child is visited.
+    pub ready-child : (scratch out : List ℕ) (n x : ℕ) → Mem x (ch r) → Ready ws r scratch out n → Ready ws x scratch out n
+    ready-child scratch out n x m p = record {
+      checked = p .checked;
+      inside = child-inside ws checked r l x m;
+      room = p .room;
+      done = p .done;
+      order = p .order;
+      holds = p .holds;
+    }
+
+    abbrev pub ready-after : (scratch out : List ℕ) (n x : ℕ) → Mem x (ch r) → Ready ws r scratch out n → (scratch′ out′ : List ℕ) (u : ℕ)
+        → length out′ ≡ length out
+        → ((done : List ℕ) → Order ws done → Holds ws done scratch out n → Holds ws (visit ch (suc x) done x) scratch′ out′ u)
+        → Ready ws r scratch′ out′ u
+    ready-after scratch out n x m p scratch′ out′ u k f = record {
+      checked = p .checked;
+      inside = p .inside;
+      room = subst (λ (j : ℕ). 4 + 5 * E ≤ j) (sym k) (p .room);
+      done = visit ch (suc x) (p .done) x;
+      order = order-next ws checked r l (p .done) x m (p .order);
+      holds = f (p .done) (p .order) (p .holds);
+    }
+
+    pub adding : (scratch out : List ℕ) (n : ℕ) (p : Ready ws r scratch out n) → member r (p .done) ≡ false → There ws r (p .done) → Adding ws r scratch out n
+    adding scratch out n p new there = record { ready = p; new = new; there = there }

@@ -1,0 +1,141 @@
+-- The rule for a record, from the words of the sheet, scratch and output.
+use mathlib.Core.Path.{_≡_, refl, sym, ap, _∙_}
+use mathlib.Core.Bool.{cond}
+use mathlib.Core.List.{List}
+use Prim.Native.Nat.{ℕ, suc, _+_, _*_, _-_, _≤_, _<_}
+use native.Mathlib.Omega.{arith}
+use lib.Dec.{eqb}
+use lib.ListN.{length, getD}
+use borrow.Author.Tests.{eqb-true, eqb-false}
+use Rattle.semantics.specs.Arithmetic.{prime}
+use Rattle.semantics.specs.Answer.{good}
+use Rattle.semantics.specs.Sheet.{Record}
+use Rattle.semantics.specs.Check.{readSheet, check}
+use Rattle.semantics.specs.Value.{Node, nodeOf, recordAt}
+use Rattle.semantics.specs.Walk.{childrenAt}
+use Rattle.semantics.specs.Graph as graph
+use Rattle.semantics.specs.Graph.{Built, nodeFor, pick, addRule, subRule, negRule, mulRule}
+use Rattle.semantics.proofs.Basics.{by-test}
+use Rattle.semantics.proofs.Members.{Mem}
+use Rattle.semantics.proofs.Orders.{distinct-length}
+use Rattle.records.specs.declared.Record as declared
+use Rattle.records.specs.Access.{fiveWords, nodeIn, recordsOf}
+use Rattle.records.specs.Orders.{Order, There}
+use Rattle.records.proofs.Steps.{child-low}
+use Rattle.records.proofs.Visits.{kind-limits, is, kind-is, a-is, b-is, c-is, has-a, has-b}
+use Rattle.nodes.specs.declared.rules.Child.{Child}
+use Rattle.nodes.specs.Picks.{viewOf}
+use Rattle.nodes.specs.Memory.{builtOf, Holds}
+use Rattle.nodes.proofs.RuleLaws.{seen, view-add, view-sub, view-mul, view-neg}
+use Rattle.nodes.proofs.NodeLaws.{child-sees}
+use Rattle.nodes.proofs.States as states
+use Rattle.graph_walk.specs.Walking.{pickOfRecord}
+
+-- What a rule gives, by the kind of the record.
+module _ (p : ℕ) (b : Built) (r : Record) where
+  flat-pick : r .kind < 6 → pick p b r (nodeOf r) ≡ graph.make r
+  unfolding nodeOf pick
+  flat-pick h =
+      let P : Node → Type 0 = λ k. pick p b r k ≡ graph.make r in
+      by-test P (eqb (r .kind) 5) (λ e. refl)
+      (λ _. by-test P (eqb (r .kind) 6) (λ e. absurd (omega (arith, eqb-true (r .kind) 6 e)))
+      (λ _. by-test P (eqb (r .kind) 7) (λ e. absurd (omega (arith, eqb-true (r .kind) 7 e)))
+      (λ _. by-test P (eqb (r .kind) 8) (λ e. absurd (omega (arith, eqb-true (r .kind) 8 e)))
+      (λ _. by-test P (eqb (r .kind) 9) (λ e. absurd (omega (arith, eqb-true (r .kind) 9 e))) (λ _. refl)))))
+
+  neg-pick : r .kind ≡ 8 → pick p b r (nodeOf r) ≡ negRule p (b .num (r .a)) (nodeFor b (r .a)) (r .c)
+  unfolding nodeOf pick
+  neg-pick e = rw e
+
+  abbrev twoRule : (k x y : ℕ) (m n : Node) (g : ℕ) → graph.Pick
+  twoRule k x y m n g = cond (eqb k 6) (addRule p x y m n g) (cond (eqb k 7) (subRule p x y m n g) (mulRule p x y m n g))
+
+  two-pick : 6 ≤ r .kind → r .kind ≤ 9 → (r .kind ≡ 8 → ⊥)
+      → pick p b r (nodeOf r) ≡ twoRule (r .kind) (b .num (r .a)) (b .num (r .b)) (nodeFor b (r .a)) (nodeFor b (r .b)) (r .c)
+  unfolding nodeOf pick
+  two-pick l h n =
+      let R : graph.Pick = twoRule (r .kind) (b .num (r .a)) (b .num (r .b)) (nodeFor b (r .a)) (nodeFor b (r .b)) (r .c) in
+      let P : Node → Type 0 = λ k. pick p b r k ≡ R in
+      by-test P (eqb (r .kind) 5) (λ e. absurd (omega (arith, eqb-true (r .kind) 5 e)))
+      (λ _. by-test P (eqb (r .kind) 6) (λ e. rw e)
+      (λ e₆. by-test P (eqb (r .kind) 7) (λ e. rw (e₆, e))
+      (λ e₇. by-test P (eqb (r .kind) 8) (λ e. absurd (n (eqb-true (r .kind) 8 e)))
+      (λ _. by-test P (eqb (r .kind) 9) (λ e. rw (e₆, e₇))
+      (λ e₉. absurd (omega (arith, eqb-false (r .kind) 6 e₆, eqb-false (r .kind) 7 e₇, n, eqb-false (r .kind) 9 e₉)))))))
+
+-- The rules over what the code reads of the children.
+module _ (p : ℕ) {k k′ x x′ y y′ g g′ : ℕ} {m n : Node} (u v : Record) (b : Built) (r : Record) where
+  views : k ≡ k′ → x ≡ x′ → y ≡ y′ → g ≡ g′ → m ≡ seen u → n ≡ seen v → twoRule p b r k x y m n g ≡ twoRule p b r k′ x′ y′ (nodeOf u) (nodeOf v) g′
+  views ek ex ey eg em en =
+      (λ i. twoRule p b r (ek i) (ex i) (ey i) (em i) (en i) (eg i))
+      ∙ rw (view-add p x′ y′ u v g′, view-sub p x′ y′ u v g′, view-mul p x′ y′ u v g′)
+
+-- What the code reads of a built child.
+abbrev pub Reads : (scratch out : List ℕ) (c : ℕ) → Child → Type 0
+Reads scratch out c x =
+    (x .number ≡ getD scratch c 0 - 1) × (x .kind ≡ nodeIn out (getD scratch c 0 - 1) .kind) × (x .a ≡ nodeIn out (getD scratch c 0 - 1) .a)
+
+module _ (ws : List ℕ) (checked : check prime ws ≡ good (readSheet ws)) (r : ℕ) (l : r < length (recordsOf ws)) where
+  abbrev R : Record
+  R = recordAt (recordsOf ws) r
+
+  module _ (q : declared.Record) (e : fiveWords q ≡ nodeIn ws r) where
+    module _ (done : List ℕ) (o : Order ws done) (there : There ws r done) (scratch out : List ℕ) (n : ℕ) (h : Holds ws done scratch out n) where
+      abbrev B : Built
+      B = builtOf ws done
+
+      module _ (c : ℕ) (m : Mem c (childrenAt (recordsOf ws) r)) where
+        below : c < length (recordsOf ws)
+        below = omega (arith, child-low ws checked r c m)
+
+        -- Where a child's node stands.
+        num-is : getD scratch c 0 ≡ suc (B .num c)
+        num-is = states.scratch-num ws done scratch out n h c below (there c m)
+
+        pub child-there : 4 + 5 * length (recordsOf ws) ≤ length out
+            → (c < length scratch) × (0 < getD scratch c 0) × (4 + 5 * (getD scratch c 0 - 1) + 5 ≤ length out)
+        child-there room =
+            let few = states.kept ws checked done o .few in
+            let d = distinct-length (length (recordsOf ws)) done (o .distinct) (o .below) in (
+              omega (arith, below, states.scratch-length ws done scratch out n h),
+              omega (arith, num-is),
+              omega (arith, num-is, states.num-below ws checked done o c (there c m)),
+            )
+
+        module _ (x : Child) (f : Reads scratch out c x) where
+          at-num : getD scratch c 0 - 1 ≡ B .num c
+          at-num = omega (arith, num-is)
+
+          child-number : x .number ≡ B .num c
+          child-number = f .0 ∙ at-num
+
+          child-view : viewOf x ≡ seen (recordAt (B .nodes) (B .num c))
+          child-view =
+              child-sees out (length out) (B .nodes) (h .out-is) (B .num c) (states.num-below ws checked done o c (there c m)) x
+              (f .1 ∙ ap (λ (k : ℕ). nodeIn out k .kind) at-num) (f .2 ∙ ap (λ (k : ℕ). nodeIn out k .a) at-num)
+
+      pub picks-flat : q .kind < 6 → graph.make (fiveWords q) ≡ pickOfRecord ws r done
+      picks-flat k = ap graph.make (is ws checked r l q e) ∙ sym (flat-pick prime B R (omega (arith, kind-is ws checked r l q e)))
+
+      pub picks-neg : (k : q .kind ≡ 8) (x : Child)
+          → Reads scratch out (q .a) x
+          → negRule prime (x .number) (viewOf x) (q .c) ≡ pickOfRecord ws r done
+      unfolding nodeFor
+      picks-neg k x f =
+          let m = has-a ws checked r l q e (omega arith) in
+          (λ i. negRule prime (child-number (q .a) m x f i) (child-view (q .a) m x f i) (c-is ws checked r l q e i))
+          ∙ view-neg prime (B .num (q .a)) (recordAt (B .nodes) (B .num (q .a))) (R .c)
+          ∙ ap (λ (a : ℕ). negRule prime (B .num a) (nodeFor B a) (R .c)) (a-is ws checked r l q e)
+          ∙ sym (neg-pick prime B R (sym (kind-is ws checked r l q e) ∙ k))
+
+      pub picks-two : (k : 6 ≤ q .kind) (k₈ : q .kind ≡ 8 → ⊥) (x y : Child)
+          → Reads scratch out (q .a) x
+          → Reads scratch out (q .b) y
+          → twoRule prime B R (q .kind) (x .number) (y .number) (viewOf x) (viewOf y) (q .c) ≡ pickOfRecord ws r done
+      unfolding nodeFor
+      picks-two k k₈ x y f g =
+          let m = has-a ws checked r l q e k in
+          let t = has-b ws checked r l q e k k₈ in
+          views prime (recordAt (B .nodes) (B .num (q .a))) (recordAt (B .nodes) (B .num (q .b))) B R (kind-is ws checked r l q e) (child-number (q .a) m x f) (child-number (q .b) t y g) (c-is ws checked r l q e) (child-view (q .a) m x f) (child-view (q .b) t y g)
+          ∙ (λ i. twoRule prime B R (R .kind) (B .num (a-is ws checked r l q e i)) (B .num (b-is ws checked r l q e i)) (nodeFor B (a-is ws checked r l q e i)) (nodeFor B (b-is ws checked r l q e i)) (R .c))
+          ∙ sym (two-pick prime B R (omega (arith, kind-is ws checked r l q e)) (kind-limits ws checked r l .1) (λ z. k₈ (kind-is ws checked r l q e ∙ z)))

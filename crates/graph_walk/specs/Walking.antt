@@ -1,0 +1,45 @@
+-- What adding records asks and changes.
+use mathlib.Core.Path.{_≡_}
+use mathlib.Core.Bool.{false}
+use mathlib.Core.List.{List}
+use Prim.Native.Nat.{ℕ, _+_, _*_, _≤_, _<_}
+use lib.ListN.{length}
+use Rattle.semantics.specs.Arithmetic.{prime}
+use Rattle.semantics.specs.Answer.{good}
+use Rattle.semantics.specs.Check.{readSheet, check}
+use Rattle.semantics.specs.Walk.{member}
+use Rattle.semantics.specs.Value.{nodeOf, recordAt}
+use Rattle.semantics.specs.Graph.{Pick, pick}
+use Rattle.records.specs.Access.{recordsOf}
+use Rattle.records.specs.Orders.{Order, There, Visiting}
+use Rattle.nodes.specs.Memory.{builtOf, Holds}
+
+-- What adding a record asks: a checked sheet, a record of it, room for as many nodes as records.
+pub record Ready (ws : List ℕ) (r : ℕ) (scratch out : List ℕ) (n : ℕ) : Type 0 where
+  pub checked : check prime ws ≡ good (readSheet ws)
+  pub inside : r < length (recordsOf ws)
+  pub room : 4 + 5 * length (recordsOf ws) ≤ length out
+  pub done : List ℕ
+  pub order : Order ws done
+  pub holds : Holds ws done scratch out n
+
+-- What adding a record whose children are added asks.
+pub record Adding (ws : List ℕ) (r : ℕ) (scratch out : List ℕ) (n : ℕ) : Type 0 where
+  pub ready : Ready ws r scratch out n
+  pub new : member r (ready .done) ≡ false
+  pub there : There ws r (ready .done)
+
+abbrev pub pickOfRecord : (ws : List ℕ) (r : ℕ) (done : List ℕ) → Pick
+pickOfRecord ws r done = pick prime (builtOf ws done) (recordAt (recordsOf ws) r) (nodeOf (recordAt (recordsOf ws) r))
+
+-- What adding records asks when none is said: a checked sheet, and room for as many nodes as records.
+pub record Walking (ws scratch out : List ℕ) (n : ℕ) : Type 0 where
+  pub checked : check prime ws ≡ good (readSheet ws)
+  pub room : 4 + 5 * length (recordsOf ws) ≤ length out
+  pub done : List ℕ
+  pub order : Order ws done
+  pub holds : Holds ws done scratch out n
+
+-- Scratch and output go from the one to the other as these records are added.
+abbrev pub Walks : (ws roots : List ℕ) (scratch out : List ℕ) (n : ℕ) (scratch′ out′ : List ℕ) (n′ : ℕ) → Type 0
+Walks ws roots scratch out n scratch′ out′ n′ = Visiting ws roots (λ done. Holds ws done scratch out n) (λ done. Holds ws done scratch′ out′ n′)

@@ -1,0 +1,163 @@
+// The walk: each reached record is added once, after its children.
+ghost use mathlib.Core.Path.{_≡_};
+ghost use mathlib.Core.Bool.{false, cond};
+ghost use mathlib.Core.List.{List, _∷_, _++_};
+ghost use Prim.Native.Nat.{ℕ, suc, _+_, _-_, _*_, _≤_, _<_};
+ghost use lib.Dec.{eqb};
+ghost use lib.ListN.{length, getD};
+ghost use Rattle.semantics.specs.Arithmetic.{prime};
+ghost use Rattle.semantics.specs.Graph.{addRule, subRule, mulRule};
+ghost use Rattle.semantics.specs.Walk.{member, visit, childrenAt};
+ghost use Rattle.records.specs.Access.{nodeIn, recordsOf, part, fieldsAt, countAt, rootWords, NamesInside, RootsInside, AllRootsInside};
+ghost use Rattle.records.specs.Orders.{Order, There};
+ghost use Rattle.nodes.specs.Picks.{pickOf, viewOf};
+ghost use Rattle.nodes.specs.Memory.{Holds};
+ghost use Rattle.graph_walk.specs.Walking.{Ready, Adding, pickOfRecord, Walking, Walks};
+use nodes::rules;
+use nodes::rules::Child;
+use nodes::rules::Pick;
+
+// What the rules look at in the node of a record that is added.
+fn built_child(scratch: &[u32], out: &[u32], c: usize) -> Child
+    requires { ⌜ (c < length (now scratch)) × (0 < getD (now scratch) c 0) × (4 + 5 * (getD (now scratch) c 0 - 1) + 5 ≤ length (now out)) ⌝ }
+    ensures { λ x. ⌜ (x .number ≡ getD (now (scratch .entry)) c 0 - 1) × (x .kind ≡ nodeIn (now (out .entry)) (getD (now (scratch .entry)) c 0 - 1) .kind) × (x .a ≡ nodeIn (now (out .entry)) (getD (now (scratch .entry)) c 0 - 1) .a) ⌝ }
+{
+    nodes::child(out, scratch[c] - 1)
+}
+
+// The rule for a record with two children.
+fn two_rule(kind: u32, l: Child, r: Child, g: u32) -> Pick
+    ensures { λ x. ⌜ pickOf x ≡ cond (eqb kind 6) (addRule prime (l .number) (r .number) (viewOf l) (viewOf r) g) (cond (eqb kind 7) (subRule prime (l .number) (r .number) (viewOf l) (viewOf r) g) (mulRule prime (l .number) (r .number) (viewOf l) (viewOf r) g)) ⌝ }
+{
+    if kind == 6 {
+        return rules::add_rule(l, r, g);
+    }
+    if kind == 7 {
+        return rules::sub_rule(l, r, g);
+    }
+    rules::mul_rule(l, r, g)
+}
+
+// The node of a record whose children are added.
+fn pick_node(sheet: &[u32], scratch: &[u32], out: &[u32], r: usize) -> Pick
+    requires { ⌜ ((n : ℕ) × Adding (now sheet) r (now scratch) (now out) n) ⌝ }
+    ensures { λ x. ⌜ ((done : List ℕ) → Order (now (sheet .entry)) done → There (now (sheet .entry)) r done → (n : ℕ) → Holds (now (sheet .entry)) done (now (scratch .entry)) (now (out .entry)) n → pickOf x ≡ pickOfRecord (now (sheet .entry)) r done) ⌝ }
+{
+    let q = records::record_at(sheet, r);
+    if q.kind < 6 {
+        return Pick::Make(q);
+    }
+    let l = built_child(scratch, out, records::wide(q.a));
+    if q.kind == 8 {
+        return rules::neg_rule(l, q.c);
+    }
+    two_rule(
+        q.kind,
+        l,
+        built_child(scratch, out, records::wide(q.b)),
+        q.c,
+    )
+}
+
+// Adds a record whose children are added, and hands back the number of nodes.
+fn add_record(sheet: &[u32], scratch: &mut [u32], out: &mut [u32], r: usize, n: usize) -> usize
+    requires { ⌜ Adding (now sheet) r (now scratch) (now out) n ⌝ }
+    ensures { λ u. ⌜ ((done : List ℕ) → Order (now (sheet .entry)) done → member r done ≡ false → There (now (sheet .entry)) r done → Holds (now (sheet .entry)) done (now (scratch .entry)) (now (out .entry)) n → Holds (now (sheet .entry)) (r ∷ done) (now (scratch .exit)) (now (out .exit)) u) ⌝ }
+{
+    match pick_node(sheet, scratch, out, r) {
+        Pick::Present(k) => {
+            scratch[r] = k + 1;
+            n
+        }
+        Pick::Make(q) => {
+            let from = nodes::search_from(q);
+            let node = nodes::intern_node(out, n, from, q);
+            scratch[r] = node.index as u32 + 1;
+            node.count
+        }
+    }
+}
+
+// Adds record r with all that it reaches, children first, left before right; hands back the number of nodes.
+fn add_expr(sheet: &[u32], scratch: &mut [u32], out: &mut [u32], r: usize, n: usize) -> usize
+    requires { ⌜ Ready (now sheet) r (now scratch) (now out) n ⌝ }
+    ensures { λ u. ⌜ ((done : List ℕ) → Order (now (sheet .entry)) done → Holds (now (sheet .entry)) done (now (scratch .entry)) (now (out .entry)) n → Holds (now (sheet .entry)) (visit (childrenAt (recordsOf (now (sheet .entry)))) (suc r) done r) (now (scratch .exit)) (now (out .exit)) u) ⌝ }
+{
+    if scratch[r] != 0 {
+        return n;
+    }
+    let q = records::record_at(sheet, r);
+    if q.kind < 6 {
+        return add_record(sheet, scratch, out, r, n);
+    }
+    let left = records::wide(q.a);
+    let one = add_expr(sheet, scratch, out, left, n);
+    if q.kind == 8 {
+        return add_record(sheet, scratch, out, r, one);
+    }
+    let right = records::wide(q.b);
+    let two = add_expr(sheet, scratch, out, right, one);
+    add_record(sheet, scratch, out, r, two)
+}
+
+// Adds the records that the words from `at` on name.
+pub fn add_names(
+    sheet: &[u32],
+    at: usize,
+    count: usize,
+    scratch: &mut [u32],
+    out: &mut [u32],
+    n: usize,
+) -> usize
+    requires { ⌜ Walking (now sheet) (now scratch) (now out) n × NamesInside (now sheet) at count ⌝ }
+    ensures { λ u. ⌜ Walks (now (sheet .entry)) (part at count (now (sheet .entry))) (now (scratch .entry)) (now (out .entry)) n (now (scratch .exit)) (now (out .exit)) u ⌝ }
+{
+    let mut used = n;
+    let mut j: usize = 0;
+    while j < count {
+        let r = records::wide(sheet[at + j]);
+        used = add_expr(sheet, scratch, out, r, used);
+        j += 1;
+    }
+    used
+}
+
+// Adds the fields of an interaction, then its count.
+fn add_interaction(
+    sheet: &[u32],
+    at: usize,
+    scratch: &mut [u32],
+    out: &mut [u32],
+    n: usize,
+) -> usize
+    requires { ⌜ Walking (now sheet) (now scratch) (now out) n × RootsInside (length (recordsOf (now sheet))) (now sheet) at ⌝ }
+    ensures { λ u. ⌜ Walks (now (sheet .entry)) (fieldsAt (now (sheet .entry)) at ++ countAt (now (sheet .entry)) at) (now (scratch .entry)) (now (out .entry)) n (now (scratch .exit)) (now (out .exit)) u ⌝ }
+{
+    let message = records::wide(sheet[at + 3]);
+    let fields = add_names(sheet, at + 4, message, scratch, out, n);
+    add_names(sheet, at + 2, 1, scratch, out, fields)
+}
+
+// Adds what the interactions from `at` on name.
+pub fn add_interactions(
+    sheet: &[u32],
+    at: usize,
+    count: usize,
+    scratch: &mut [u32],
+    out: &mut [u32],
+    n: usize,
+) -> usize
+    requires { ⌜ Walking (now sheet) (now scratch) (now out) n × AllRootsInside (length (recordsOf (now sheet))) (now sheet) at count ⌝ }
+    ensures { λ u. ⌜ Walks (now (sheet .entry)) (rootWords (now (sheet .entry)) at count) (now (scratch .entry)) (now (out .entry)) n (now (scratch .exit)) (now (out .exit)) u ⌝ }
+{
+    let mut used = n;
+    let mut from = at;
+    let mut i: usize = 0;
+    while i < count {
+        let message = records::wide(sheet[from + 3]);
+        used = add_interaction(sheet, from, scratch, out, used);
+        from = from + 4 + message;
+        i += 1;
+    }
+    used
+}

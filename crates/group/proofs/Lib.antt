@@ -1,0 +1,10 @@
+pub mod Gathering
+pub mod Tallies
+pub mod Labels
+pub mod Places
+pub mod Headers
+pub mod Counting
+pub mod PoolLists
+pub mod RowTotals
+pub mod Placements
+pub mod RowVariables

@@ -1,0 +1,241 @@
+-- The lists of the pool, monomial by monomial: where they stand, and what is counted of them.
+use mathlib.Core.Path.{_≡_, refl, sym, _∙_, ap, subst}
+use mathlib.Core.Bool.{Bool, true, false, cond}
+use mathlib.Core.List.{List, [], _∷_, _++_, map, flatMap, append-assoc, append-nil}
+use Prim.Native.Nat.{ℕ, zero, suc, _+_, _*_, _-_, _≤_, _<_}
+use native.Mathlib.Numerals.{add-one}
+use native.Mathlib.Omega.{arith}
+use lib.Dec.{eqb}
+use lib.ListN.{length, getD, take, drop, length-append, length-take, length-drop}
+use lib.Seq.{getD-drop, getD-take, drop-drop, take-at, drop-at, take-add, length-take-le}
+use borrow.Author.Tests.{eq-eqb, ne-eqb}
+use Rattle.semantics.specs.Monomial.{Monomial}
+use Rattle.semantics.specs.Expand.{listSize}
+use Rattle.semantics.specs.Group.{Root, Item, itemsOf}
+use Rattle.semantics.proofs.Basics.{by-test, cond-true, cond-false}
+use Rattle.semantics.proofs.Sorting.{All}
+use Rattle.group.specs.declared.Tallied.the-variants.{Headers, Full}
+use Rattle.monomial.specs.Words.{monomialWords, listWords, readMonomial, readList, listIn, Fits, Stored}
+use Rattle.group.specs.Grouped.{Tally, tally, tallyAll, total, tallied, Rows, Counted, nonZero, Standing, listOf, InPool, itemAt, itemsAt}
+use Rattle.group.proofs.Tallies.{varsOf, tallyAll-append, tallyAll-grows, total-all}
+
+pub read-coef : (P : List ℕ) (at : ℕ) → readMonomial (drop at P) .coef ≡ getD P (at + 1) 0
+unfolding readMonomial
+read-coef P at = getD-drop at P 1 0
+
+-- A monomial is counted unless its coefficient is 0.
+module _ (m : Monomial) (gs : List Tally) where
+  pub counted-none : m .coef ≡ 0 → tallyAll (nonZero (m ∷ [])) gs ≡ gs
+  unfolding nonZero tallyAll
+  counted-none e = ap (λ (l : List (List ℕ)). tallyAll l gs) (cond-true (eqb (m .coef) 0) [] (m .vars ∷ []) (eq-eqb (m .coef) 0 e))
+
+  pub counted-one : (m .coef ≡ 0 → ⊥) → tallyAll (nonZero (m ∷ [])) gs ≡ tally (m .vars) gs
+  unfolding nonZero tallyAll
+  counted-one e = ap (λ (l : List (List ℕ)). tallyAll l gs) (cond-false (eqb (m .coef) 0) [] (m .vars ∷ []) (ne-eqb (m .coef) 0 e))
+
+pub nonZero-cons : (m : Monomial) (ms : List Monomial) → nonZero (m ∷ ms) ≡ nonZero (m ∷ []) ++ nonZero ms
+unfolding nonZero
+nonZero-cons m ms = go (eqb (m .coef) 0)
+  where
+    go : (b : Bool) → cond b (nonZero ms) (m .vars ∷ nonZero ms) ≡ cond b [] (m .vars ∷ []) ++ nonZero ms
+    go true = refl
+    go false = refl
+
+pub nonZero-one : (m : Monomial) → length (nonZero (m ∷ [])) ≤ 1
+unfolding nonZero
+nonZero-one m = by-test (λ (l : List (List ℕ)). length l ≤ 1) (eqb (m .coef) 0) (λ e. omega arith) (λ e. omega arith)
+
+pub nonZero-length : (ms : List Monomial) → length (nonZero ms) ≤ length ms
+unfolding nonZero
+nonZero-length [] = omega arith
+nonZero-length (m ∷ ms) =
+    let ih = nonZero-length ms in
+    by-test (λ (l : List (List ℕ)). length l ≤ suc (length ms)) (eqb (m .coef) 0) (λ e. omega arith) (λ e. omega arith)
+
+pub items-vars : (r : Root) (ms : List Monomial) → varsOf (itemsOf r ms) ≡ nonZero ms
+unfolding itemsOf nonZero
+items-vars r [] = refl
+items-vars r (m ∷ ms) = go (eqb (m .coef) 0) (items-vars r ms)
+  where
+    go : (b : Bool) → varsOf (itemsOf r ms) ≡ nonZero ms
+        → varsOf (cond b (itemsOf r ms) (record { vars = m .vars; index = r .index; field = r .field; coef = m .coef } ∷ itemsOf r ms))
+        ≡ cond b (nonZero ms) (m .vars ∷ nonZero ms)
+    go true ih = ih
+    go false ih = ap (λ (l : List (List ℕ)). m .vars ∷ l) ih
+
+-- The next monomial of a list.
+pub list-next : (P : List ℕ) (place r : ℕ) → listIn P place (suc r) ≡ readMonomial (drop place P) ∷ listIn P (place + 2 + getD P place 0) r
+unfolding readList
+list-next P place r =
+    let z : place + 0 ≡ place = omega arith in
+    let e : getD (drop place P) 0 0 ≡ getD P place 0 = getD-drop place P 0 0 ∙ ap (λ (i : ℕ). getD P i 0) z in
+    let f : place + (2 + getD P place 0) ≡ place + 2 + getD P place 0 = omega arith in
+    ap (λ (l : List ℕ). readMonomial (drop place P) ∷ readList r l)
+    (drop-drop (2 + getD (drop place P) 0 0) place P ∙ ap (λ (i : ℕ). drop (place + (2 + i)) P) e ∙ ap (λ (i : ℕ). drop i P) f)
+
+pub left-suc : (count i : ℕ) → i < count → count - i ≡ suc (count - (i + 1))
+left-suc count i h = omega arith
+
+pub standing-next : (count i place : ℕ) (P : List ℕ) → i < count → Standing (count - i) P place
+    → (getD P place 0 ≤ 14) × (place + 2 + getD P place 0 ≤ length P) × (place ≤ 4294967295) × Standing (count - (i + 1)) P (place + 2 + getD P place 0)
+standing-next count i place P h s = subst (λ (m : ℕ). Standing m P place) (left-suc count i h) s
+
+-- While a list is counted: what is left of it, counted from here, gives the whole.
+pub record Tallying (H₀ : List ℕ) (n : ℕ) (P : List ℕ) (at count : ℕ) (H : List ℕ) (rows place i : ℕ) : Type 0 where
+  pub upto : i ≤ count
+  pub rows-are : Rows rows H P
+  pub standing : Standing (count - i) P place
+  pub small : total (tallied rows H P) + (count - i) ≤ 4294967295
+  pub long : length H ≡ length H₀
+  pub left : tallyAll (nonZero (listIn P place (count - i))) (tallied rows H P) ≡ tallyAll (nonZero (listIn P at count)) (tallied n H₀ P)
+
+pub tallying-start : (H : List ℕ) (n : ℕ) (P : List ℕ) (at count : ℕ) → Rows n H P → Standing count P at
+    → total (tallied n H P) + count ≤ 4294967295 → Tallying H n P at count H n at 0
+tallying-start H n P at count r s t =
+    let e : count - 0 ≡ count = omega arith in
+    record {
+      upto = omega arith;
+      rows-are = r;
+      standing = subst (λ (m : ℕ). Standing m P at) (sym e) s;
+      small = omega arith;
+      long = refl;
+      left = ap (λ (m : ℕ). tallyAll (nonZero (listIn P at m)) (tallied n H P)) e;
+    }
+
+module _ (H₀ : List ℕ) (n : ℕ) (P : List ℕ) (at count : ℕ) (H : List ℕ) (rows place i : ℕ) (g : Tallying H₀ n P at count H rows place i) where
+  left-is : i < count
+      → tallyAll (nonZero (listIn P (place + 2 + getD P place 0) (count - (i + 1)))) (tallyAll (nonZero (readMonomial (drop place P) ∷ [])) (tallied rows H P))
+      ≡ tallyAll (nonZero (listIn P at count)) (tallied n H₀ P)
+  left-is h =
+      let r : ℕ = count - (i + 1) in
+      let m : Monomial = readMonomial (drop place P) in
+      let l : List Monomial = listIn P (place + 2 + getD P place 0) r in
+      let e : nonZero (listIn P place (count - i)) ≡ nonZero (m ∷ []) ++ nonZero l =
+      ap (λ (x : ℕ). nonZero (listIn P place x)) (left-suc count i h) ∙ ap nonZero (list-next P place r) ∙ nonZero-cons m l in
+      sym (tallyAll-append (nonZero (m ∷ [])) (nonZero l) (tallied rows H P))
+      ∙ ap (λ (x : List (List ℕ)). tallyAll x (tallied rows H P)) (sym e) ∙ g .left
+
+  pub tallying-step : i < count → (H′ : List ℕ) (k : ℕ) → length H′ ≡ length H
+      → Counted H′ P (tallyAll (nonZero (readMonomial (drop place P) ∷ [])) (tallied rows H P)) (Headers k)
+      → Tallying H₀ n P at count H′ k (place + 2 + getD P place 0) (i + 1)
+  tallying-step h H′ k z c =
+      let m : Monomial = readMonomial (drop place P) in
+      let s = standing-next count i place P h (g .standing) in
+      let t = ap total (c .1) ∙ total-all (nonZero (m ∷ [])) (tallied rows H P) in
+      let o = nonZero-one m in
+      let q = g .small in
+      record {
+        upto = omega arith;
+        rows-are = c .0;
+        standing = s .3;
+        small = omega arith;
+        long = z ∙ g .long;
+        left = ap (tallyAll (nonZero (listIn P (place + 2 + getD P place 0) (count - (i + 1))))) (c .1) ∙ left-is h;
+      }
+
+  pub tallying-full : i < count → (H′ : List ℕ)
+      → Counted H′ P (tallyAll (nonZero (readMonomial (drop place P) ∷ [])) (tallied rows H P)) Full
+      → Counted H′ P (tallyAll (nonZero (listIn P at count)) (tallied n H₀ P)) Full
+  tallying-full h H′ c =
+      let l : List (List ℕ) = nonZero (listIn P (place + 2 + getD P place 0) (count - (i + 1))) in
+      let w = tallyAll-grows l (tallyAll (nonZero (readMonomial (drop place P) ∷ [])) (tallied rows H P)) in
+      let e = ap length (left-is h) in
+      omega arith
+
+  pub tallying-done : count ≤ i → Counted H P (tallyAll (nonZero (listIn P at count)) (tallied n H₀ P)) (Headers rows)
+  unfolding nonZero tallyAll readList
+  tallying-done h =
+      let z : count - i ≡ 0 = omega arith in
+      (g .rows-are, sym (ap (λ (x : ℕ). tallyAll (nonZero (listIn P place x)) (tallied rows H P)) z) ∙ g .left)
+
+-- The words of a monomial.
+words-length : (m : Monomial) → length (monomialWords m) ≡ 2 + length (m .vars)
+unfolding monomialWords
+words-length m = omega arith
+
+words-first : (m : Monomial) (r : List ℕ) → getD (monomialWords m ++ r) 0 0 ≡ length (m .vars)
+unfolding monomialWords
+words-first m r = refl
+
+read-one : (m : Monomial) (D : List ℕ) → take (2 + length (m .vars)) D ≡ monomialWords m → readMonomial D ≡ m
+unfolding readMonomial monomialWords
+read-one m D f =
+    let n : ℕ = length (m .vars) in
+    let l = sym (length-take (2 + n) D) ∙ ap length f in
+    let a : length (take 2 D) ≡ 2 = length-take-le 2 D (omega arith) in
+    let x : getD D 0 0 ≡ n = sym (getD-take (2 + n) D 0 0 (omega arith)) ∙ ap (λ (w : List ℕ). getD w 0 0) f in
+    let y : getD D 1 0 ≡ m .coef = sym (getD-take (2 + n) D 1 0 (omega arith)) ∙ ap (λ (w : List ℕ). getD w 1 0) f in
+    let z : take n (drop 2 D) ≡ m .vars = sym (drop-at (take 2 D) (take n (drop 2 D)) 2 a) ∙ ap (drop 2) (sym (take-add 2 n D) ∙ f) in
+    ap (λ (k : ℕ). record { vars = take k (drop 2 D); coef = getD D 1 0 }) x ∙ (λ j. record { vars = z j; coef = y j })
+
+-- A stored list, taken apart: its first monomial, and the rest.
+module _ (m : Monomial) (ms : List Monomial) (P : List ℕ) (at : ℕ)
+    (w : take (listSize (m ∷ ms)) (drop at P) ≡ listWords (m ∷ ms)) (i : at + listSize (m ∷ ms) ≤ length P) where
+  size-is : listSize (m ∷ ms) ≡ 2 + length (m .vars) + listSize ms
+  unfolding listSize
+  size-is = refl
+
+  both : take (2 + length (m .vars)) (drop at P) ++ take (listSize ms) (drop (2 + length (m .vars)) (drop at P)) ≡ monomialWords m ++ listWords ms
+  unfolding listWords flatMap
+  both = sym (take-add (2 + length (m .vars)) (listSize ms) (drop at P)) ∙ ap (λ (k : ℕ). take k (drop at P)) (sym size-is) ∙ w
+
+  long : length (take (2 + length (m .vars)) (drop at P)) ≡ 2 + length (m .vars)
+  long = let d = length-drop at P in let s = size-is in length-take-le (2 + length (m .vars)) (drop at P) (omega arith)
+
+  front-is : take (2 + length (m .vars)) (drop at P) ≡ monomialWords m
+  front-is =
+      sym (take-at (take (2 + length (m .vars)) (drop at P)) (take (listSize ms) (drop (2 + length (m .vars)) (drop at P))) (2 + length (m .vars)) long)
+      ∙ ap (take (2 + length (m .vars))) both ∙ take-at (monomialWords m) (listWords ms) (2 + length (m .vars)) (words-length m)
+
+  first-is : getD P at 0 ≡ length (m .vars)
+  first-is =
+      let z : at + 0 ≡ at = omega arith in
+      ap (λ (x : ℕ). getD P x 0) (sym z) ∙ sym (getD-drop at P 0 0) ∙ sym (getD-take (2 + length (m .vars)) (drop at P) 0 0 (omega arith))
+      ∙ ap (λ (x : List ℕ). getD x 0 0) (front-is ∙ sym (append-nil (monomialWords m))) ∙ words-first m []
+
+  next-is : at + (2 + length (m .vars)) ≡ at + 2 + getD P at 0
+  next-is = let e = first-is in omega arith
+
+  rest-is : take (listSize ms) (drop (at + 2 + getD P at 0) P) ≡ listWords ms
+  rest-is =
+      ap (λ (k : ℕ). take (listSize ms) (drop k P)) (sym next-is)
+      ∙ ap (take (listSize ms)) (sym (drop-drop (2 + length (m .vars)) at P))
+      ∙ sym (drop-at (take (2 + length (m .vars)) (drop at P)) (take (listSize ms) (drop (2 + length (m .vars)) (drop at P))) (2 + length (m .vars)) long)
+      ∙ ap (drop (2 + length (m .vars))) both ∙ drop-at (monomialWords m) (listWords ms) (2 + length (m .vars)) (words-length m)
+
+  inside-is : at + 2 + getD P at 0 + listSize ms ≤ length P
+  inside-is = let e = first-is in let s = size-is in omega arith
+
+-- A stored list stands in the pool, and reading gives it back.
+list-standing : (l : List Monomial) (P : List ℕ) (at : ℕ) → All Fits l → take (listSize l) (drop at P) ≡ listWords l → at + listSize l ≤ length P
+    → at + listSize l ≤ 4294967295 → Standing (length l) P at
+list-standing [] P at f w i b = tt
+list-standing (m ∷ ms) P at f w i b =
+    let e = first-is m ms P at w i in
+    let s = size-is m ms P at w i in
+    let few = f .0 .few in
+    let j = inside-is m ms P at w i in
+    (omega arith, omega arith, omega arith, list-standing ms P (at + 2 + getD P at 0) (f .1) (rest-is m ms P at w i) j (omega arith))
+
+read-back : (l : List Monomial) (P : List ℕ) (at : ℕ) → take (listSize l) (drop at P) ≡ listWords l → at + listSize l ≤ length P → listIn P at (length l) ≡ l
+unfolding readList
+read-back [] P at w i = refl
+read-back (m ∷ ms) P at w i =
+    list-next P at (length ms)
+    ∙ ap (λ (x : List Monomial). readMonomial (drop at P) ∷ x) (read-back ms P (at + 2 + getD P at 0) (rest-is m ms P at w i) (inside-is m ms P at w i))
+    ∙ ap (λ (x : Monomial). x ∷ ms) (read-one m (drop at P) (front-is m ms P at w i))
+
+pub stands : (P : List ℕ) (i : ℕ) → InPool P i → Standing (getD P (2 * i + 1) 0) P (getD P (2 * i) 0)
+stands P i s =
+    let r = s .stored in
+    subst (λ (m : ℕ). Standing m P (getD P (2 * i) 0)) (sym (r .count-is))
+    (list-standing (listOf P i) P (getD P (2 * i) 0) (r .fit) (r .words-are) (r .inside) (s .low))
+
+pub stored-list : (P : List ℕ) (i : ℕ) (l : List Monomial) → Stored P i l → listOf P i ≡ l
+stored-list P i l r =
+    ap (λ (m : ℕ). listIn P (getD P (2 * i) 0) m) (r .count-is) ∙ read-back l P (getD P (2 * i) 0) (r .words-are) (r .inside)
+
+pub stored-in : (P : List ℕ) (i : ℕ) (l : List Monomial) → Stored P i l → getD P (2 * i) 0 + listSize l ≤ 4294967295 → InPool P i
+stored-in P i l r b =
+    let e = stored-list P i l r in
+    record { stored = subst (Stored P i) (sym e) r; low = subst (λ (x : List Monomial). getD P (2 * i) 0 + listSize x ≤ 4294967295) (sym e) b }

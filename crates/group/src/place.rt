@@ -1,0 +1,178 @@
+// Placing the terms of monomials into their groups, and writing the groups' variables.
+ghost use mathlib.Core.Path.{_≡_};
+ghost use mathlib.Core.Bool.{Bool};
+ghost use mathlib.Core.List.{List, [], _∷_, _++_};
+ghost use Prim.Native.Nat.{ℕ, _+_, _*_, _≤_, _<_};
+ghost use lib.ListN.{length, getD, take, drop};
+ghost use lib.Seq.{sets};
+ghost use Rattle.semantics.specs.Group.{Item};
+ghost use Rattle.monomial.specs.Words.{readMonomial, listIn};
+ghost use Rattle.group.specs.Grouped.{Rows, tallied, Standing, listOf, InPool, termOf, widthOf, itemAt, itemsAt, ToPlace, Places, varsIn};
+use crate::Found;
+use monomial::Monomial;
+
+fn wide(w: u32) -> usize
+    ensures { λ r. ⌜ r ≡ w ⌝ }
+{
+    w as usize
+}
+
+// A term of a constraint, two words; `at` counts terms.
+fn put_constraint_term(terms: &mut [u32], at: usize, index: u32, coef: u32)
+    requires { ⌜ 2 * at + 2 ≤ length (now terms) ⌝ }
+    ensures { λ _. ⌜ now (terms .exit) ≡ sets (now (terms .entry)) (2 * at) (index ∷ coef ∷ []) ⌝ }
+{
+    let i = 2 * at;
+    terms[i] = index;
+    terms[i + 1] = coef;
+}
+
+// A term of an interaction, three words.
+fn put_interaction_term(terms: &mut [u32], at: usize, coef: u32, index: u32, field: u32)
+    requires { ⌜ 3 * at + 3 ≤ length (now terms) ⌝ }
+    ensures { λ _. ⌜ now (terms .exit) ≡ sets (now (terms .entry)) (3 * at) (coef ∷ index ∷ field ∷ []) ⌝ }
+{
+    let i = 3 * at;
+    terms[i] = coef;
+    terms[i + 1] = index;
+    terms[i + 2] = field;
+}
+
+// A term of one of the two families.
+fn put_term(terms: &mut [u32], at: usize, interaction: bool, index: u32, field: u32, coef: u32)
+    requires { ⌜ widthOf interaction * at + widthOf interaction ≤ length (now terms) ⌝ }
+    ensures { λ _. ⌜ ((t : Item) → (t .index ≡ index) → (t .field ≡ field) → (t .coef ≡ coef) → now (terms .exit) ≡ sets (now (terms .entry)) (widthOf interaction * at) (termOf interaction t)) ⌝ }
+{
+    if interaction {
+        put_interaction_term(terms, at, coef, index, field);
+        return;
+    }
+    put_constraint_term(terms, at, index, coef)
+}
+
+// Places the term of a monomial that stands at `at`.
+pub fn place_monomial(
+    headers: &mut [u32],
+    n: usize,
+    pool: &[u32],
+    at: usize,
+    interaction: bool,
+    index: u32,
+    field: u32,
+    terms: &mut [u32],
+)
+    requires { ⌜ ToPlace interaction n (now headers) (now pool) (now terms) (itemAt index field (readMonomial (drop at (now pool))) ∷ []) × (getD (now pool) at 0 ≤ 14) × (at + 2 + getD (now pool) at 0 ≤ length (now pool)) ⌝ }
+    ensures { λ _. ⌜ Places interaction n (now (pool .entry)) (now (headers .entry)) (now (terms .entry)) (now (headers .exit)) (now (terms .exit)) (itemAt index field (readMonomial (drop at (now (pool .entry)))) ∷ []) ⌝ }
+{
+    let m = monomial::monomial_at(pool, at);
+    let count = m.count;
+    let coef = m.coef;
+    let vars = m.vars;
+    let found = crate::find_header(headers, n, pool, vars, count);
+    let Found::There(k) = found else {
+        return;
+    };
+    let row = 4 * k;
+    let cursor = headers[row + 1];
+    put_term(terms, wide(cursor), interaction, index, field, coef);
+    headers[row + 1] = cursor + 1;
+}
+
+// The same, unless its coefficient is 0.
+fn place_kept(
+    headers: &mut [u32],
+    n: usize,
+    pool: &[u32],
+    at: usize,
+    interaction: bool,
+    index: u32,
+    field: u32,
+    terms: &mut [u32],
+)
+    requires { ⌜ ToPlace interaction n (now headers) (now pool) (now terms) (itemsAt index field (readMonomial (drop at (now pool)) ∷ [])) × (getD (now pool) at 0 ≤ 14) × (at + 2 + getD (now pool) at 0 ≤ length (now pool)) ⌝ }
+    ensures { λ _. ⌜ Places interaction n (now (pool .entry)) (now (headers .entry)) (now (terms .entry)) (now (headers .exit)) (now (terms .exit)) (itemsAt index field (readMonomial (drop at (now (pool .entry))) ∷ [])) ⌝ }
+{
+    if pool[at + 1] == 0 {
+        return;
+    }
+    place_monomial(headers, n, pool, at, interaction, index, field, terms)
+}
+
+// Places the terms of a list that stands at `at`.
+pub fn place_list(
+    headers: &mut [u32],
+    n: usize,
+    pool: &[u32],
+    at: usize,
+    count: usize,
+    interaction: bool,
+    index: u32,
+    field: u32,
+    terms: &mut [u32],
+)
+    requires { ⌜ ToPlace interaction n (now headers) (now pool) (now terms) (itemsAt index field (listIn (now pool) at count)) × Standing count (now pool) at ⌝ }
+    ensures { λ _. ⌜ Places interaction n (now (pool .entry)) (now (headers .entry)) (now (terms .entry)) (now (headers .exit)) (now (terms .exit)) (itemsAt index field (listIn (now (pool .entry)) at count)) ⌝ }
+{
+    let mut place = at;
+    let mut i: usize = 0;
+    while i < count {
+        place_kept(headers, n, pool, place, interaction, index, field, terms);
+        place = place + 2 + wide(pool[place]);
+        i += 1;
+    }
+}
+
+// Places the terms of a record's list.
+pub fn place_root(
+    headers: &mut [u32],
+    n: usize,
+    pool: &[u32],
+    node: usize,
+    interaction: bool,
+    index: u32,
+    field: u32,
+    terms: &mut [u32],
+)
+    requires { ⌜ ToPlace interaction n (now headers) (now pool) (now terms) (itemsAt index field (listOf (now pool) node)) × InPool (now pool) node ⌝ }
+    ensures { λ _. ⌜ Places interaction n (now (pool .entry)) (now (headers .entry)) (now (terms .entry)) (now (headers .exit)) (now (terms .exit)) (itemsAt index field (listOf (now (pool .entry)) node)) ⌝ }
+{
+    let at = wide(pool[2 * node]);
+    let count = wide(pool[2 * node + 1]);
+    place_list(
+        headers,
+        n,
+        pool,
+        at,
+        count,
+        interaction,
+        index,
+        field,
+        terms,
+    )
+}
+
+// The variables of row i go to `at`; hands back where the next go.
+fn write_row(headers: &[u32], i: usize, pool: &[u32], variables: &mut [u32], at: usize) -> usize
+    requires { ⌜ (4 * i + 4 ≤ length (now headers)) × (getD (now headers) (4 * i) 0 + 2 + getD (now headers) (4 * i + 2) 0 ≤ length (now pool)) × (at + getD (now headers) (4 * i + 2) 0 ≤ length (now variables)) ⌝ }
+    ensures { λ r. ⌜ (r ≡ at + getD (now (headers .entry)) (4 * i + 2) 0) × (now (variables .exit) ≡ take at (now (variables .entry)) ++ (take (getD (now (headers .entry)) (4 * i + 2) 0) (drop (getD (now (headers .entry)) (4 * i) 0 + 2) (now (pool .entry))) ++ drop (at + getD (now (headers .entry)) (4 * i + 2) 0) (now (variables .entry)))) ⌝ }
+{
+    let row = 4 * i;
+    let from = wide(headers[row]) + 2;
+    let count = wide(headers[row + 2]);
+    let end = from + count;
+    slices::copy_words(&pool[from..end], &mut variables[at..]);
+    at + count
+}
+
+// The variables of the rows, one after another.
+pub fn write_variables(headers: &[u32], n: usize, pool: &[u32], variables: &mut [u32])
+    requires { ⌜ Rows n (now headers) (now pool) × (length (varsIn (tallied n (now headers) (now pool))) ≤ length (now variables)) ⌝ }
+    ensures { λ _. ⌜ now (variables .exit) ≡ varsIn (tallied n (now (headers .entry)) (now (pool .entry))) ++ drop (length (varsIn (tallied n (now (headers .entry)) (now (pool .entry))))) (now (variables .entry)) ⌝ }
+{
+    let mut at: usize = 0;
+    let mut i: usize = 0;
+    while i < n {
+        at = write_row(headers, i, pool, variables, at);
+        i += 1;
+    }
+}

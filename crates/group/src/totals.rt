@@ -1,0 +1,75 @@
+// Totals over the rows of the headers.
+ghost use mathlib.Core.Path.{_≡_};
+ghost use Prim.Native.Nat.{_+_, _*_, _≤_, _<_};
+ghost use lib.ListN.{length, drop};
+ghost use Rattle.semantics.specs.Group.{rows};
+ghost use Rattle.group.specs.Grouped.{column, sum, totalled};
+
+fn wide(w: u32) -> usize
+    ensures { λ r. ⌜ (r ≡ w) × (r ≤ 4294967295) ⌝ }
+{
+    w as usize
+}
+
+// The total of one word over the n rows.
+fn column_total(headers: &[u32], n: usize, word: usize) -> usize
+    requires { ⌜ (word < 4) × (4 * n ≤ length (now headers)) × (n ≤ 4294967295) ⌝ }
+    ensures { λ r. ⌜ r ≡ sum (column word n (now (headers .entry))) ⌝ }
+{
+    let mut total: usize = 0;
+    let mut i: usize = 0;
+    while i < n {
+        total += wide(headers[4 * i + word]);
+        i += 1;
+    }
+    total
+}
+
+// How many variables the rows have in all.
+pub fn total_variables(headers: &[u32], n: usize) -> usize
+    requires { ⌜ (4 * n ≤ length (now headers)) × (n ≤ 4294967295) ⌝ }
+    ensures { λ r. ⌜ r ≡ sum (column 2 n (now (headers .entry))) ⌝ }
+{
+    column_total(headers, n, 2)
+}
+
+// How many terms the rows have in all.
+pub fn total_terms(headers: &[u32], n: usize) -> usize
+    requires { ⌜ (4 * n ≤ length (now headers)) × (n ≤ 4294967295) ⌝ }
+    ensures { λ r. ⌜ r ≡ sum (column 3 n (now (headers .entry))) ⌝ }
+{
+    column_total(headers, n, 3)
+}
+
+// Word `to` of each row becomes the total of word `from` over the rows before it.
+fn run_totals(headers: &mut [u32], n: usize, to: usize, from: usize)
+    requires { ⌜ (to < from) × (from < 4) × (4 * n ≤ length (now headers)) × (sum (column from n (now headers)) ≤ 4294967295) ⌝ }
+    ensures { λ _. ⌜ (rows 4 n (now (headers .exit)) ≡ totalled to from 0 (rows 4 n (now (headers .entry)))) × (drop (4 * n) (now (headers .exit)) ≡ drop (4 * n) (now (headers .entry))) ⌝ }
+{
+    let mut total: u32 = 0;
+    let mut i: usize = 0;
+    while i < n {
+        let row = 4 * i;
+        let word = headers[row + from];
+        headers[row + to] = total;
+        total += word;
+        i += 1;
+    }
+}
+
+// The cursor of each row is set to where its first term goes.
+pub fn start_terms(headers: &mut [u32], n: usize)
+    requires { ⌜ (4 * n ≤ length (now headers)) × (sum (column 3 n (now headers)) ≤ 4294967295) ⌝ }
+    ensures { λ _. ⌜ (rows 4 n (now (headers .exit)) ≡ totalled 1 3 0 (rows 4 n (now (headers .entry)))) × (drop (4 * n) (now (headers .exit)) ≡ drop (4 * n) (now (headers .entry))) ⌝ }
+{
+    run_totals(headers, n, 1, 3)
+}
+
+// Both offsets of each row are set to the totals over the rows before it.
+pub fn fill_offsets(headers: &mut [u32], n: usize)
+    requires { ⌜ (4 * n ≤ length (now headers)) × (sum (column 2 n (now headers)) ≤ 4294967295) × (sum (column 3 n (now headers)) ≤ 4294967295) ⌝ }
+    ensures { λ _. ⌜ (rows 4 n (now (headers .exit)) ≡ totalled 1 3 0 (totalled 0 2 0 (rows 4 n (now (headers .entry))))) × (drop (4 * n) (now (headers .exit)) ≡ drop (4 * n) (now (headers .entry))) ⌝ }
+{
+    run_totals(headers, n, 0, 2);
+    run_totals(headers, n, 1, 3);
+}

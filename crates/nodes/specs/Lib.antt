@@ -1,0 +1,3 @@
+pub mod Picks
+pub mod Memory
+pub mod Nodes

@@ -1,0 +1,125 @@
+// The nodes in the output: five words each, behind the four words of the head.
+ghost use mathlib.Core.Path.{_≡_};
+ghost use mathlib.Core.List.{List};
+ghost use Prim.Native.Nat.{_+_, _*_, _≤_};
+ghost use lib.ListN.{length};
+ghost use lib.Seq.{sets};
+ghost use Rattle.semantics.specs.Sheet as semantics;
+ghost use Rattle.semantics.specs.Sheet.{recordWords};
+ghost use Rattle.semantics.specs.Value.{nodeOf};
+ghost use Rattle.semantics.specs.Walk.{children};
+ghost use Rattle.semantics.specs.Graph.{equalRecords, find, intern};
+ghost use Rattle.records.specs.Access.{fiveWords, nodeIn};
+ghost use Rattle.nodes.specs.Memory.{nodesOut};
+ghost use Rattle.nodes.specs.Nodes.{NoneBefore, FirstEqual, aboveAll};
+
+pub mod rules;
+
+use crate::rules::Child;
+use records::Record;
+
+// Where a node is, and how many nodes there are then.
+pub struct Interned {
+    pub index: usize,
+    pub count: usize,
+}
+
+// What the rules look at in a node.
+pub fn child(out: &[u32], number: u32) -> Child
+    requires { ⌜ 4 + 5 * number + 5 ≤ length (now out) ⌝ }
+    ensures { λ x. ⌜ (x .number ≡ number) × (x .kind ≡ nodeIn (now (out .entry)) number .kind) × (x .a ≡ nodeIn (now (out .entry)) number .a) ⌝ }
+{
+    let at = 4 + 5 * records::wide(number);
+    Child {
+        number: number,
+        kind: out[at],
+        a: out[at + 1],
+    }
+}
+
+// Whether node i is equal in all five words.
+pub fn same_node(out: &[u32], i: usize, r: Record) -> bool
+    requires { ⌜ 4 + 5 * i + 5 ≤ length (now out) ⌝ }
+    ensures { λ x. ⌜ x ≡ equalRecords (fiveWords r) (nodeIn (now (out .entry)) i) ⌝ }
+{
+    let at = 4 + 5 * i;
+    if r.kind != out[at] {
+        return false;
+    }
+    if r.a != out[at + 1] {
+        return false;
+    }
+    if r.b != out[at + 2] {
+        return false;
+    }
+    if r.c != out[at + 3] {
+        return false;
+    }
+    r.d == out[at + 4]
+}
+
+// Where the search for a node begins: above its children.
+pub fn search_from(r: Record) -> usize
+    ensures { λ x. ⌜ x ≡ aboveAll (children (nodeOf (fiveWords r))) ⌝ }
+{
+    if r.kind < 6 {
+        return 0;
+    }
+    if 9 < r.kind {
+        return 0;
+    }
+    if r.kind == 8 {
+        return records::wide(r.a) + 1;
+    }
+    if r.a < r.b {
+        return records::wide(r.b) + 1;
+    }
+    records::wide(r.a) + 1
+}
+
+// The first node from `from` on that is equal, or the number of nodes.
+fn find_node(out: &[u32], n: usize, from: usize, r: Record) -> usize
+    requires { ⌜ (from ≤ n) × (4 + 5 * n ≤ length (now out)) ⌝ }
+    ensures { λ x. ⌜ FirstEqual (now (out .entry)) n from (fiveWords r) x ⌝ }
+{
+    let mut i = from;
+    while i < n {
+        if same_node(out, i, r) {
+            return i;
+        }
+        i += 1;
+    }
+    i
+}
+
+// Writes node i.
+fn put_node(out: &mut [u32], i: usize, r: Record)
+    requires { ⌜ 4 + 5 * i + 5 ≤ length (now out) ⌝ }
+    ensures { λ _. ⌜ now (out .exit) ≡ sets (now (out .entry)) (4 + 5 * i) (recordWords (fiveWords r)) ⌝ }
+{
+    let at = 4 + 5 * i;
+    out[at] = r.kind;
+    out[at + 1] = r.a;
+    out[at + 2] = r.b;
+    out[at + 3] = r.c;
+    out[at + 4] = r.d;
+}
+
+// The node equal to r, which no node below `from` is; appended where there is none.
+pub fn intern_node(out: &mut [u32], n: usize, from: usize, r: Record) -> Interned
+    requires { ⌜ (from ≤ n) × (4 + 5 * (n + 1) ≤ length (now out)) ⌝ }
+    ensures { λ x. ⌜ ((ns : List semantics.Record) → now (out .entry) ≡ nodesOut (length (now (out .entry))) ns → n ≡ length ns → NoneBefore from (fiveWords r) ns → (x .index ≡ find (fiveWords r) ns) × (now (out .exit) ≡ nodesOut (length (now (out .entry))) (intern (fiveWords r) ns)) × (x .count ≡ length (intern (fiveWords r) ns))) ⌝ }
+{
+    let at = find_node(out, n, from, r);
+    if at < n {
+        return Interned {
+            index: at,
+            count: n,
+        };
+    }
+    put_node(out, n, r);
+    Interned {
+        index: n,
+        count: n + 1,
+    }
+}
