@@ -68,14 +68,20 @@ pub fn put_w_line(out: &mut [u8], at: usize, terms: &[u32], k: usize) -> usize
 }
 
 // The graph's numbers of nodes and constraints, and its largest offset.
-pub fn put_dag_line(out: &mut [u8], at: usize, nodes: u32, constraints: u32, rotation: u32) -> usize
+pub fn put_dag_line(
+    out: &mut [u8],
+    at: usize,
+    nodes: u32,
+    constraints: u32,
+    rotation: usize,
+) -> usize
     requires { ⌜ Room (now out) at (line (dagText ∷ decimal nodes ∷ decimal constraints ∷ decimal rotation ∷ [])) ⌝ }
     ensures { λ r. ⌜ Puts (now (out .entry)) at (line (dagText ∷ decimal nodes ∷ decimal constraints ∷ decimal rotation ∷ [])) (now (out .exit)) r ⌝ }
 {
     let a = put_text(out, at, b"dag");
     let b = put_number(out, a, wide(nodes));
     let c = put_number(out, b, wide(constraints));
-    let d = put_number(out, c, wide(rotation));
+    let d = put_number(out, c, rotation);
     put_byte(out, d, b'\n')
 }
 

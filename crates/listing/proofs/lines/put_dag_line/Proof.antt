@@ -33,36 +33,33 @@ put-number-requires-2 c κs =
     let e = dag-pieces (c .before .before .before .before .before .wide .result) (c .wide2 .result) (a .rotation) (a .nodes) (a .constraints) (a .rotation) (c .before .before .before .before .before .wide .ensures) (c .wide2 .ensures) refl in
     room-then (c .before .before .before .before .put-number .ensures) (number (c .wide2 .result)) _ refl (room-next (c .before .before .before .before .before .before .before .before .before .put-text .ensures) _ e (c .before .before .before .before .before .before .before .before .before .before .before .before .before .pre))
 
-wide-requires-3 : tie.Need-wide-requires-3
-wide-requires-3 c κs = search needs
-
 put-number-requires-3 : tie.Need-put-number-requires-3
 put-number-requires-3 c κs =
-    let a = c .before .before .before .before .before .before .before .before .before .before .before .before .before .before .before .before .before .before .args in
-    let e = dag-pieces (c .before .before .before .before .before .before .before .before .before .before .wide .result) (c .before .before .before .before .before .wide2 .result) (c .wide3 .result) (a .nodes) (a .constraints) (a .rotation) (c .before .before .before .before .before .before .before .before .before .before .wide .ensures) (c .before .before .before .before .before .wide2 .ensures) (c .wide3 .ensures) in
-    room-then (c .before .before .before .before .put-number2 .ensures) (number (c .wide3 .result)) _ refl
-    (room-next (c .before .before .before .before .before .before .before .before .before .put-number .ensures) _ refl (room-next (c .before .before .before .before .before .before .before .before .before .before .before .before .before .before .put-text .ensures) _ e (c .before .before .before .before .before .before .before .before .before .before .before .before .before .before .before .before .before .before .pre)))
+    let a = c .before .before .before .before .before .before .before .before .before .before .before .before .before .before .before .before .before .args in
+    let e = dag-pieces (c .before .before .before .before .before .before .before .before .before .wide .result) (c .before .before .before .before .wide2 .result) (a .rotation) (a .nodes) (a .constraints) (a .rotation) (c .before .before .before .before .before .before .before .before .before .wide .ensures) (c .before .before .before .before .wide2 .ensures) refl in
+    room-then (c .before .before .before .put-number2 .ensures) (number (a .rotation)) _ refl
+    (room-next (c .before .before .before .before .before .before .before .before .put-number .ensures) _ refl (room-next (c .before .before .before .before .before .before .before .before .before .before .before .before .before .put-text .ensures) _ e (c .before .before .before .before .before .before .before .before .before .before .before .before .before .before .before .before .before .pre)))
 
 put-byte-requires : tie.Need-put-byte-requires
 put-byte-requires c κs =
-    let a = c .before .before .before .before .before .before .before .before .before .before .before .before .before .before .before .before .before .before .before .before .before .before .args in
-    let e = dag-pieces (c .before .before .before .before .before .before .before .before .before .before .before .before .before .before .wide .result) (c .before .before .before .before .before .before .before .before .before .wide2 .result) (c .before .before .before .before .wide3 .result) (a .nodes) (a .constraints) (a .rotation) (c .before .before .before .before .before .before .before .before .before .before .before .before .before .before .wide .ensures) (c .before .before .before .before .before .before .before .before .before .wide2 .ensures) (c .before .before .before .before .wide3 .ensures) in
+    let a = c .before .before .before .before .before .before .before .before .before .before .before .before .before .before .before .before .before .before .before .before .before .args in
+    let e = dag-pieces (c .before .before .before .before .before .before .before .before .before .before .before .before .before .wide .result) (c .before .before .before .before .before .before .before .before .wide2 .result) (a .rotation) (a .nodes) (a .constraints) (a .rotation) (c .before .before .before .before .before .before .before .before .before .before .before .before .before .wide .ensures) (c .before .before .before .before .before .before .before .before .wide2 .ensures) refl in
     room-next (c .before .before .before .put-number3 .ensures) _ refl
-    (room-next (c .before .before .before .before .before .before .before .before .put-number2 .ensures) _ refl (room-next (c .before .before .before .before .before .before .before .before .before .before .before .before .before .put-number .ensures) _ refl (room-next (c .before .before .before .before .before .before .before .before .before .before .before .before .before .before .before .before .before .before .put-text .ensures) _ e (c .before .before .before .before .before .before .before .before .before .before .before .before .before .before .before .before .before .before .before .before .before .before .pre))))
+    (room-next (c .before .before .before .before .before .before .before .put-number2 .ensures) _ refl (room-next (c .before .before .before .before .before .before .before .before .before .before .before .before .put-number .ensures) _ refl (room-next (c .before .before .before .before .before .before .before .before .before .before .before .before .before .before .before .before .before .put-text .ensures) _ e (c .before .before .before .before .before .before .before .before .before .before .before .before .before .before .before .before .before .before .before .before .before .pre))))
 
 same-length : tie.Need-same-length
 same-length c = search needs
 
 returns : tie.Need-returns
 returns c =
-    let a = c .before .before .before .before .before .before .before .before .before .before .before .before .before .before .before .before .before .before .before .before .before .before .before .before .before .args in
-    let e = dag-pieces (c .before .before .before .before .before .before .before .before .before .before .before .before .before .before .before .before .before .wide .result) (c .before .before .before .before .before .before .before .before .before .before .before .before .wide2 .result) (c .before .before .before .before .before .before .before .wide3 .result) (a .nodes) (a .constraints) (a .rotation) (c .before .before .before .before .before .before .before .before .before .before .before .before .before .before .before .before .before .wide .ensures) (c .before .before .before .before .before .before .before .before .before .before .before .before .wide2 .ensures) (c .before .before .before .before .before .before .before .wide3 .ensures) in
-    let r = room-next (c .before .before .before .before .before .before .before .before .before .before .before .before .before .before .before .before .before .before .before .before .before .put-text .ensures) _ e (c .before .before .before .before .before .before .before .before .before .before .before .before .before .before .before .before .before .before .before .before .before .before .before .before .before .pre) in
-    let s = room-next (c .before .before .before .before .before .before .before .before .before .before .before .before .before .before .before .before .put-number .ensures) _ refl r in
-    let t = room-next (c .before .before .before .before .before .before .before .before .before .before .before .put-number2 .ensures) _ refl s in
-    puts-next (c .before .before .before .before .before .before .before .before .before .before .before .before .before .before .before .before .before .before .before .before .before .put-text .ensures) _ e (c .before .before .before .before .before .before .before .before .before .before .before .before .before .before .before .before .before .before .before .before .before .before .before .before .before .pre)
-    (puts-next (c .before .before .before .before .before .before .before .before .before .before .before .before .before .before .before .before .put-number .ensures) _ refl r
-    (puts-next (c .before .before .before .before .before .before .before .before .before .before .before .put-number2 .ensures) _ refl s (puts-next (c .before .before .before .before .before .before .put-number3 .ensures) _ refl t (c .before .before .put-byte .ensures))))
+    let a = c .before .before .before .before .before .before .before .before .before .before .before .before .before .before .before .before .before .before .before .before .before .before .before .before .args in
+    let e = dag-pieces (c .before .before .before .before .before .before .before .before .before .before .before .before .before .before .before .before .wide .result) (c .before .before .before .before .before .before .before .before .before .before .before .wide2 .result) (a .rotation) (a .nodes) (a .constraints) (a .rotation) (c .before .before .before .before .before .before .before .before .before .before .before .before .before .before .before .before .wide .ensures) (c .before .before .before .before .before .before .before .before .before .before .before .wide2 .ensures) refl in
+    let r = room-next (c .before .before .before .before .before .before .before .before .before .before .before .before .before .before .before .before .before .before .before .before .put-text .ensures) _ e (c .before .before .before .before .before .before .before .before .before .before .before .before .before .before .before .before .before .before .before .before .before .before .before .before .pre) in
+    let s = room-next (c .before .before .before .before .before .before .before .before .before .before .before .before .before .before .before .put-number .ensures) _ refl r in
+    let t = room-next (c .before .before .before .before .before .before .before .before .before .before .put-number2 .ensures) _ refl s in
+    puts-next (c .before .before .before .before .before .before .before .before .before .before .before .before .before .before .before .before .before .before .before .before .put-text .ensures) _ e (c .before .before .before .before .before .before .before .before .before .before .before .before .before .before .before .before .before .before .before .before .before .before .before .before .pre)
+    (puts-next (c .before .before .before .before .before .before .before .before .before .before .before .before .before .before .before .put-number .ensures) _ refl r
+    (puts-next (c .before .before .before .before .before .before .before .before .before .before .put-number2 .ensures) _ refl s (puts-next (c .before .before .before .before .before .before .put-number3 .ensures) _ refl t (c .before .before .put-byte .ensures))))
 
 pub put-dag-line-spec : {M : Type 1} → statement M
 put-dag-line-spec =
@@ -74,7 +71,6 @@ put-dag-line-spec =
     put-number-requires
     wide-requires-2
     put-number-requires-2
-    wide-requires-3
     put-number-requires-3
     put-byte-requires
     same-length

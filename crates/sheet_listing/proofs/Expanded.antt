@@ -1,0 +1,154 @@
+-- What the answers of the expansions print.
+use mathlib.Core.Path.{_≡_, sym, ap, subst, _∙_}
+use mathlib.Core.List.{List, [], _∷_, _++_}
+use Prim.Native.Nat.{ℕ, _+_, _<_}
+use native.Mathlib.Omega.{arith}
+use lib.ListN.{length, getD, take}
+use Rattle.semantics.specs.Arithmetic.{prime}
+use Rattle.semantics.specs.Call.{Outcome, Accepted, handedBack}
+use Rattle.semantics.specs.Sheetlist.{decimal, line, refusedText, consText, interText, endText, step, constraintLines, interactionLines}
+use Rattle.sheet.specs.declared.Refusal.{Refusal}
+use Rattle.listing.specs.declared.headers.Family.{Family}
+use Rattle.listing.specs.declared.headers.Family.the-variants.{Constraints, Numerators, Denominators}
+use Rattle.listing.specs.Families.{widthOf, familyLines, HeadersInside}
+use Rattle.listing.proofs.Steps.{constraintsOf, interactionsOf, step-on, constraint-prints, interaction-prints}
+use Rattle.listing.proofs.Handing.{constraints-handed, numerators-handed, denominators-handed}
+use Rattle.sheet_listing.specs.declared.expansion.Lengths.{Lengths}
+use Rattle.sheet_listing.specs.declared.expansion.ConstraintLists.{ConstraintLists}
+use Rattle.sheet_listing.specs.declared.expansion.ConstraintLists.the-variants as constraint
+use Rattle.sheet_listing.specs.declared.expansion.InteractionLengths.{InteractionLengths}
+use Rattle.sheet_listing.specs.declared.expansion.InteractionLists.{InteractionLists}
+use Rattle.sheet_listing.specs.declared.expansion.InteractionLists.the-variants as interaction
+use Rattle.sheet_listing.specs.Answers.{constraintOutcome, interactionOutcome}
+use Rattle.sheet_listing.specs.Fronts.{frontLines, Fronts}
+use Rattle.sheet_listing.proofs.Sounds.{Sound, constraint-sound, interaction-sound, refused-line}
+
+-- Lists handed back from k on, by a call whose scratch is work and pool.
+module _ (family : Family) (o : Outcome) (s : Sound 2 o) (k : ℕ) (n : Lengths) (hs vs ts : List ℕ) (all : 2 + (2 + k) < length (o .slices))
+    (h : getD (o .reply .counts) k 0 ≡ n .headers) (v : getD (o .reply .counts) (1 + k) 0 ≡ n .variables) (t : getD (o .reply .counts) (2 + k) 0 ≡ n .terms)
+    (hs-are : getD (o .slices) (2 + k) [] ≡ hs) (vs-are : getD (o .slices) (2 + (1 + k)) [] ≡ vs) (ts-are : getD (o .slices) (2 + (2 + k)) [] ≡ ts) where
+  headers-back : handedBack 2 o k ≡ take (n .headers) hs
+  unfolding handedBack
+  headers-back = λ i. take (h i) (hs-are i)
+
+  variables-back : handedBack 2 o (1 + k) ≡ take (n .variables) vs
+  unfolding handedBack
+  variables-back = λ i. take (v i) (vs-are i)
+
+  terms-back : handedBack 2 o (2 + k) ≡ take (n .terms) ts
+  unfolding handedBack
+  terms-back = λ i. take (t i) (ts-are i)
+
+  pub lines-back : familyLines family (handedBack 2 o k) (handedBack 2 o (1 + k)) (handedBack 2 o (2 + k)) ≡ frontLines family n hs vs ts
+  lines-back = λ i. familyLines family (headers-back i) (variables-back i) (terms-back i)
+
+  pub fronts : HeadersInside (widthOf family) (handedBack 2 o k) (handedBack 2 o (1 + k)) (handedBack 2 o (2 + k)) → Fronts family n hs vs ts
+  fronts inside = record {
+    headers-fit = omega (arith, s .inside k (omega arith), h, ap length hs-are);
+    variables-fit = omega (arith, s .inside (1 + k) (omega arith), v, ap length vs-are);
+    terms-fit = omega (arith, s .inside (2 + k) (omega arith), t, ap length ts-are);
+    inside = rw (← headers-back, ← variables-back, ← terms-back) inside;
+  }
+
+-- What comes after the constraints, and what the interactions print from the front of their slices.
+abbrev pub afterConstraints : (graph : List ℕ) → List ℕ
+afterConstraints graph = step interText (interactionsOf graph) (interactionLines prime (interactionsOf graph))
+
+abbrev pub bothLines : InteractionLengths → (hs vs ts hs′ vs′ ts′ : List ℕ) → List ℕ
+bothLines n hs vs ts hs′ vs′ ts′ = frontLines Numerators (n .numerators) hs vs ts ++ (frontLines Denominators (n .denominators) hs′ vs′ ts′ ++ line (endText ∷ []))
+
+-- Constraints.
+module _ (graph : List ℕ) (r : ConstraintLists) (work pool hs vs ts : List ℕ) (e : constraintOutcome r work pool hs vs ts ≡ constraintsOf graph) where
+  abbrev pub rest : List ℕ
+  rest = constraintLines prime graph (constraintsOf graph)
+
+  pub constraints-refused : (x : Refusal) (m : ℕ) → r ≡ constraint.Refused x → m ≡ x .number
+      → line (refusedText ∷ consText ∷ decimal m ∷ decimal (x .place) ∷ []) ≡ step consText (constraintsOf graph) rest
+  constraints-refused x m q number =
+      let o : constraintOutcome (constraint.Refused x) work pool hs vs ts ≡ constraintsOf graph = ap (λ a. constraintOutcome a work pool hs vs ts) (sym q) ∙ e in
+      refused-line consText 2 (constraintsOf graph) rest x m (constraint-sound prime graph 4096 4096 1024 1024 1024)
+      (ap (λ (u : Outcome). u .reply) o) (subst (λ (u : Outcome). 2 < length (u .slices)) o (omega arith)) number
+
+  module _ (n : Lengths) (q : r ≡ constraint.Written n) where
+    written : constraintsOf graph ≡ constraintOutcome (constraint.Written n) work pool hs vs ts
+    written = sym e ∙ ap (λ a. constraintOutcome a work pool hs vs ts) q
+
+    accepted : Accepted (constraintsOf graph)
+    accepted = ap (λ (u : Outcome). u .reply .number) written
+
+    many : 4 < length (constraintsOf graph .slices)
+    many = omega (arith, ap (λ (u : Outcome). length (u .slices)) written)
+
+    count : (k : ℕ) → getD (constraintsOf graph .reply .counts) k 0 ≡ getD (n .headers ∷ n .variables ∷ n .terms ∷ []) k 0
+    count k = ap (λ (u : Outcome). getD (u .reply .counts) k 0) written
+
+    slice : (k : ℕ) → getD (constraintsOf graph .slices) k [] ≡ getD (work ∷ pool ∷ hs ∷ vs ∷ ts ∷ []) k []
+    slice k = ap (λ (u : Outcome). getD (u .slices) k []) written
+
+    sound : Sound 2 (constraintsOf graph)
+    sound = constraint-sound prime graph 4096 4096 1024 1024 1024
+
+    pub constraint-fronts : Fronts Constraints n hs vs ts
+    constraint-fronts =
+        fronts Constraints (constraintsOf graph) sound 0 n hs vs ts many (count 0) (count 1) (count 2) (slice 2) (slice 3) (slice 4)
+        (constraints-handed prime graph 4096 4096 1024 1024 1024 256 512 (omega arith) (omega arith) accepted .inside)
+
+    pub constraint-joins : frontLines Constraints n hs vs ts ++ afterConstraints graph
+        ≡ step consText (constraintsOf graph) rest
+    constraint-joins =
+        ap (λ (l : List ℕ). l ++ afterConstraints graph)
+        (sym (lines-back Constraints (constraintsOf graph) sound 0 n hs vs ts many (count 0) (count 1) (count 2) (slice 2) (slice 3) (slice 4)))
+        ∙ constraint-prints graph (constraintsOf graph)
+        ∙ step-on consText (constraintsOf graph) rest accepted
+
+-- Interactions.
+module _ (graph : List ℕ) (r : InteractionLists) (work pool hs vs ts hs′ vs′ ts′ : List ℕ)
+    (e : interactionOutcome r work pool hs vs ts hs′ vs′ ts′ ≡ interactionsOf graph) where
+  abbrev pub all : List ℕ
+  all = interactionLines prime (interactionsOf graph)
+
+  both-sound : Sound 2 (interactionsOf graph)
+  both-sound = interaction-sound prime graph 4096 4096 512 512 512 512 512 512
+
+  pub interactions-refused : (x : Refusal) (m : ℕ) → r ≡ interaction.Refused x → m ≡ x .number
+      → line (refusedText ∷ interText ∷ decimal m ∷ decimal (x .place) ∷ []) ≡ step interText (interactionsOf graph) all
+  interactions-refused x m q number =
+      let o : interactionOutcome (interaction.Refused x) work pool hs vs ts hs′ vs′ ts′ ≡ interactionsOf graph =
+      ap (λ a. interactionOutcome a work pool hs vs ts hs′ vs′ ts′) (sym q) ∙ e in
+      refused-line interText 2 (interactionsOf graph) all x m both-sound
+      (ap (λ (u : Outcome). u .reply) o) (subst (λ (u : Outcome). 2 < length (u .slices)) o (omega arith)) number
+
+  module _ (n : InteractionLengths) (q : r ≡ interaction.Written n) where
+    both-written : interactionsOf graph ≡ interactionOutcome (interaction.Written n) work pool hs vs ts hs′ vs′ ts′
+    both-written = sym e ∙ ap (λ a. interactionOutcome a work pool hs vs ts hs′ vs′ ts′) q
+
+    both-accepted : Accepted (interactionsOf graph)
+    both-accepted = ap (λ (u : Outcome). u .reply .number) both-written
+
+    eight : length (interactionsOf graph .slices) ≡ 8
+    eight = ap (λ (u : Outcome). length (u .slices)) both-written
+
+    count-at : (k : ℕ) → getD (interactionsOf graph .reply .counts) k 0
+        ≡ getD (interactionOutcome (interaction.Written n) work pool hs vs ts hs′ vs′ ts′ .reply .counts) k 0
+    count-at k = ap (λ (u : Outcome). getD (u .reply .counts) k 0) both-written
+
+    slice-at : (k : ℕ) → getD (interactionsOf graph .slices) k [] ≡ getD (work ∷ pool ∷ hs ∷ vs ∷ ts ∷ hs′ ∷ vs′ ∷ ts′ ∷ []) k []
+    slice-at k = ap (λ (u : Outcome). getD (u .slices) k []) both-written
+
+    pub numerator-fronts : Fronts Numerators (n .numerators) hs vs ts
+    numerator-fronts =
+        fronts Numerators (interactionsOf graph) both-sound 0 (n .numerators) hs vs ts (omega (arith, eight)) (count-at 0) (count-at 1) (count-at 2) (slice-at 2) (slice-at 3) (slice-at 4)
+        (numerators-handed prime graph 4096 4096 512 512 512 128 171 (omega arith) (omega arith) both-accepted .inside)
+
+    pub denominator-fronts : Fronts Denominators (n .denominators) hs′ vs′ ts′
+    denominator-fronts =
+        fronts Denominators (interactionsOf graph) both-sound 3 (n .denominators) hs′ vs′ ts′ (omega (arith, eight)) (count-at 3) (count-at 4) (count-at 5) (slice-at 5) (slice-at 6) (slice-at 7)
+        (denominators-handed prime graph 4096 4096 512 512 512 128 171 (omega arith) (omega arith) both-accepted .inside)
+
+    pub interaction-joins : bothLines n hs vs ts hs′ vs′ ts′
+        ≡ step interText (interactionsOf graph) all
+    interaction-joins =
+        (λ i. sym (lines-back Numerators (interactionsOf graph) both-sound 0 (n .numerators) hs vs ts (omega (arith, eight)) (count-at 0) (count-at 1) (count-at 2) (slice-at 2) (slice-at 3) (slice-at 4)) i
+        ++ (sym (lines-back Denominators (interactionsOf graph) both-sound 3 (n .denominators) hs′ vs′ ts′ (omega (arith, eight)) (count-at 3) (count-at 4) (count-at 5) (slice-at 5) (slice-at 6) (slice-at 7)) i ++ line (endText ∷ [])))
+        ∙ interaction-prints (interactionsOf graph)
+        ∙ step-on interText (interactionsOf graph) all both-accepted

@@ -1,0 +1,100 @@
+-- What the outcome of a call tells: its counts are inside its slices, and its refusals have a number.
+use mathlib.Core.Path.{_≡_, refl, sym, ap, subst, _∙_}
+use mathlib.Core.List.{List, [], _∷_, _++_, map}
+use Prim.Native.Nat.{ℕ, zero, suc, _+_, _*_, _-_, _/_, _≤_, _<_}
+use native.Mathlib.Omega.{arith}
+use lib.ListN.{length, getD, drop, length-append, length-map}
+use lib.Seq.{getD-append-add}
+use Rattle.semantics.specs.Answer.{Answer, good, refused}
+use Rattle.semantics.specs.Sheet.{Sheet, lengthOf}
+use Rattle.semantics.specs.Check.{check}
+use Rattle.semantics.specs.Block.{blockGood, badLength, readBlocks}
+use Rattle.semantics.specs.Call.{Outcome, Result, Accepted, zeros, padded, paddedAll, outcome, result, onSheet, expansion, readerCall, builderCall, constraintCall, interactionCall}
+use Rattle.semantics.specs.Sheetlist.{decimal, line, refusedText, step}
+use Rattle.semantics.proofs.Basics.{by-test}
+use Rattle.semantics.proofs.Acceptance.{Real, check-real, then-real, needs-real, walk-real, fitted-real}
+use Rattle.sheet.specs.declared.Refusal.{Refusal}
+use Rattle.sheet.specs.Replies.{refusedReply}
+use Rattle.listing.proofs.Steps.{step-refused}
+
+pub record Sound (scratch : ℕ) (o : Outcome) : Type 0 where
+  pub inside : (k : ℕ) → scratch + k < length (o .slices) → getD (o .reply .counts) k 0 ≤ length (getD (o .slices) (scratch + k) [])
+  pub real : o .reply .counts ≡ [] → scratch < length (o .slices) → Accepted o → ⊥
+
+pad-inside : (ws : List (List ℕ)) (lent : List ℕ) (k : ℕ) → k < length (paddedAll ws lent) → getD (map length ws) k 0 ≤ length (getD (paddedAll ws lent) k [])
+unfolding paddedAll padded
+pad-inside [] lent k h = absurd (omega arith)
+pad-inside (w ∷ ws) [] k h = absurd (omega arith)
+pad-inside (w ∷ ws) (n ∷ ns) zero h = omega (arith, length-append w (zeros (n - length w)))
+pad-inside (w ∷ ws) (n ∷ ns) (suc k) h = pad-inside ws ns k (omega arith)
+
+none-padded : (ws : List (List ℕ)) (lent : List ℕ) → map length ws ≡ [] → length (paddedAll ws lent) ≡ 0
+unfolding paddedAll
+none-padded [] lent e = refl
+none-padded (w ∷ ws) lent e = absurd (let z : suc (length (map length ws)) ≡ 0 = ap length e in omega arith)
+
+module _ (scratch lent : List ℕ) where
+  module _ (r : Result) where
+    all-length : length (map zeros scratch ++ paddedAll (r .outputs) lent) ≡ length scratch + length (paddedAll (r .outputs) lent)
+    all-length = length-append (map zeros scratch) (paddedAll (r .outputs) lent) ∙ omega (arith, length-map scratch zeros)
+
+    output-at : (k : ℕ) → getD (map zeros scratch ++ paddedAll (r .outputs) lent) (length scratch + k) [] ≡ getD (paddedAll (r .outputs) lent) k []
+    output-at k =
+        ap (λ (n : ℕ). getD (map zeros scratch ++ paddedAll (r .outputs) lent) (n + k) []) (sym (length-map scratch zeros))
+        ∙ getD-append-add (map zeros scratch) (paddedAll (r .outputs) lent) k []
+
+  pub outcome-sound : (a : Answer Result) → Real a → Sound (length scratch) (outcome scratch lent a)
+  unfolding outcome
+  outcome-sound (good r) h = record {
+    inside = λ k l. subst (λ (s : List ℕ). getD (map length (r .outputs)) k 0 ≤ length s) (sym (output-at r k))
+        (pad-inside (r .outputs) lent k (omega (arith, all-length r)));
+    real = λ e l a. omega (arith, all-length r, none-padded (r .outputs) lent e);
+  }
+  outcome-sound (refused n k) h = record { inside = λ k l. omega arith; real = λ e l a. h a }
+
+-- The calls.
+read-real : (n number : ℕ) (bs : List ℕ) → Real (readBlocks n number bs)
+unfolding readBlocks
+read-real zero number bs = tt
+read-real (suc n) number bs =
+    let ih = read-real n (suc number) (drop 512 bs) in
+    by-test Real (blockGood (suc number) bs) (λ e. then-real (readBlocks n (suc number) (drop 512 bs)) _ ih (λ ws. tt)) (λ e. omega arith)
+
+pub reader-sound : (bytes : List ℕ) (out : ℕ) → Sound 0 (readerCall bytes out)
+unfolding readerCall result
+reader-sound bytes out =
+    outcome-sound [] (out ∷ []) _
+    (by-test Real (badLength (length bytes)) (λ e. omega arith)
+    (λ e. needs-real 15 (127 * (length bytes / 512)) out _ (omega arith) (then-real (readBlocks (length bytes / 512) 0 bytes) _ (read-real (length bytes / 512) 0 bytes) (λ ws. tt))))
+
+module _ (p : ℕ) (ws : List ℕ) where
+  pub builder-sound : (scratch out : ℕ) → Sound 1 (builderCall p ws scratch out)
+  unfolding builderCall onSheet result
+  builder-sound scratch out =
+      outcome-sound (scratch ∷ []) (out ∷ []) _
+      (then-real (check p ws) _ (check-real p ws) (λ s. needs-real 14 _ scratch _ (omega arith) (needs-real 15 (lengthOf s) out _ (omega arith) tt)))
+
+  expansion-sound : (work pool : ℕ) (lent : List ℕ) (roots : _) (outputs : Sheet → List (List ℕ)) (numbers : Sheet → List ℕ)
+      → Sound 2 (expansion p ws work pool lent roots outputs numbers)
+  unfolding expansion onSheet
+  expansion-sound work pool lent roots outputs numbers =
+      outcome-sound (work ∷ pool ∷ []) lent _
+      (then-real (check p ws) _ (check-real p ws)
+      (λ s. needs-real 14 4096 work _ (omega arith)
+      (needs-real 14 (2 * length (s .records)) pool _ (omega arith)
+      (then-real _ _ (walk-real p (s .records) pool _) (λ used. fitted-real (outputs s) lent (numbers s))))))
+
+  pub constraint-sound : (work pool h v t : ℕ) → Sound 2 (constraintCall p ws work pool h v t)
+  unfolding constraintCall
+  constraint-sound work pool h v t = expansion-sound work pool _ _ _ _
+
+  pub interaction-sound : (work pool h v t h′ v′ t′ : ℕ) → Sound 2 (interactionCall p ws work pool h v t h′ v′ t′)
+  unfolding interactionCall
+  interaction-sound work pool h v t h′ v′ t′ = expansion-sound work pool _ _ _ _
+
+-- A refusal ends the output with its line.
+pub refused-line : (name : List ℕ) (scratch : ℕ) (o : Outcome) (rest : List ℕ) (x : Refusal) (n : ℕ) → Sound scratch o → refusedReply x ≡ o .reply → scratch < length (o .slices) → n ≡ x .number
+    → line (refusedText ∷ name ∷ decimal n ∷ decimal (x .place) ∷ []) ≡ step name o rest
+refused-line name scratch o rest x n s e l q =
+    (λ i. line (refusedText ∷ name ∷ decimal ((q ∙ ap (λ y. y .number) e) i) ∷ decimal (e i .place) ∷ []))
+    ∙ step-refused name o rest (s .real (ap (λ y. y .counts) (sym e)) l)

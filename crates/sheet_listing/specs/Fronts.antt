@@ -1,0 +1,25 @@
+-- Lists that stand in front of their slices, as an expansion writes them.
+use mathlib.Core.List.{List}
+use Prim.Native.Nat.{ℕ, _≤_}
+use lib.ListN.{length, take}
+use Rattle.listing.specs.declared.headers.Family.{Family}
+use Rattle.listing.specs.Families.{widthOf, familyLines, HeadersInside}
+use Rattle.sheet_calls.specs.declared.Counted.{Counted}
+use Rattle.sheet_calls.specs.declared.Counted.the-variants.{Number, Refused}
+use Rattle.sheet_listing.specs.declared.expansion.Lengths.{Lengths}
+
+-- What a family prints from the front of its three slices.
+abbrev pub frontLines : Family → Lengths → (hs vs ts : List ℕ) → List ℕ
+frontLines family n hs vs ts = familyLines family (take (n .headers) hs) (take (n .variables) vs) (take (n .terms) ts)
+
+-- The lists stand inside their slices, and each header's variables and terms inside the lists.
+pub record Fronts (family : Family) (n : Lengths) (hs vs ts : List ℕ) : Type 0 where
+  pub headers-fit : n .headers ≤ length hs
+  pub variables-fit : n .variables ≤ length vs
+  pub terms-fit : n .terms ≤ length ts
+  pub inside : HeadersInside (widthOf family) (take (n .headers) hs) (take (n .variables) vs) (take (n .terms) ts)
+
+-- The number that a call has handed back, 0 after a refusal.
+abbrev pub numberOf : Counted → ℕ
+numberOf (Number n) = n
+numberOf (Refused r) = 0

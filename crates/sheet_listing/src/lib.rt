@@ -1,0 +1,220 @@
+// What `sheetlist` prints for the bytes that it has read, step by step; a refusal ends the output.
+ghost use mathlib.Core.Path.{_≡_};
+ghost use mathlib.Core.List.{[], _∷_, _++_};
+ghost use Prim.Native.Nat.{_<_, _≤_};
+ghost use lib.ListN.{length, take};
+ghost use Rattle.semantics.specs.Arithmetic.{prime};
+ghost use Rattle.semantics.specs.Call.{constraintCall, interactionCall};
+ghost use Rattle.semantics.specs.Sheetlist.{line, endText, consText, interText, step, interactionLines, constraintLines, graphLines, sheetLines, sheetlist};
+ghost use Rattle.listing.specs.declared.headers.Family.the-variants.{Numerators, Denominators};
+ghost use Rattle.listing.specs.Putting.{Room, Puts};
+ghost use Rattle.sheet_listing.specs.Fronts.{frontLines, Fronts, numberOf};
+
+mod expansion;
+
+use expansion::ConstraintLists;
+use expansion::InteractionLengths;
+use expansion::InteractionLists;
+use expansion::Lengths;
+use libc::STDOUT_FILENO;
+use listing::headers;
+use listing::headers::Family;
+use listing::lines;
+use sheet::Written;
+use sheet_calls::Counted;
+
+// The headers of a family, from the front of three slices.
+fn put_lists(
+    out: &mut [u8],
+    at: usize,
+    family: Family,
+    n: Lengths,
+    headers: &[u32],
+    variables: &[u32],
+    terms: &[u32],
+) -> usize
+    requires { ⌜ Fronts family n (now headers) (now variables) (now terms) × Room (now out) at (frontLines family n (now headers) (now variables) (now terms)) ⌝ }
+    ensures { λ r. ⌜ Puts (now (out .entry)) at (frontLines family n (now (headers .entry)) (now (variables .entry)) (now (terms .entry))) (now (out .exit)) r ⌝ }
+{
+    let h = n.headers;
+    let v = n.variables;
+    let t = n.terms;
+    headers::put_headers(out, at, family, &headers[..h], &variables[..v], &terms[..t])
+}
+
+// Numerators, denominators and the last line.
+fn put_both_lists(
+    out: &mut [u8],
+    at: usize,
+    n: InteractionLengths,
+    headers: &[u32],
+    variables: &[u32],
+    terms: &[u32],
+    denom_headers: &[u32],
+    denom_variables: &[u32],
+    denom_terms: &[u32],
+) -> usize
+    requires { ⌜ Fronts Numerators (n .numerators) (now headers) (now variables) (now terms) × Fronts Denominators (n .denominators) (now «denom_headers») (now «denom_variables») (now «denom_terms») × Room (now out) at (frontLines Numerators (n .numerators) (now headers) (now variables) (now terms) ++ (frontLines Denominators (n .denominators) (now «denom_headers») (now «denom_variables») (now «denom_terms») ++ line (endText ∷ []))) ⌝ }
+    ensures { λ r. ⌜ Puts (now (out .entry)) at (frontLines Numerators (n .numerators) (now (headers .entry)) (now (variables .entry)) (now (terms .entry)) ++ (frontLines Denominators (n .denominators) (now («denom_headers» .entry)) (now («denom_variables» .entry)) (now («denom_terms» .entry)) ++ line (endText ∷ []))) (now (out .exit)) r ⌝ }
+{
+    let numerators = n.numerators;
+    let denominators = n.denominators;
+    let next = put_lists(
+        out,
+        at,
+        Family::Numerators,
+        numerators,
+        headers,
+        variables,
+        terms,
+    );
+    let end = put_lists(
+        out,
+        next,
+        Family::Denominators,
+        denominators,
+        denom_headers,
+        denom_variables,
+        denom_terms,
+    );
+    lines::put_end(out, end)
+}
+
+// What the graph's interactions print.
+fn put_interactions(out: &mut [u8], at: usize, graph: &[u32]) -> usize
+    requires { ⌜ Room (now out) at (step interText (interactionCall prime (now graph) 4096 4096 512 512 512 512 512 512) (interactionLines prime (interactionCall prime (now graph) 4096 4096 512 512 512 512 512 512))) ⌝ }
+    ensures { λ r. ⌜ Puts (now (out .entry)) at (step interText (interactionCall prime (now (graph .entry)) 4096 4096 512 512 512 512 512 512) (interactionLines prime (interactionCall prime (now (graph .entry)) 4096 4096 512 512 512 512 512 512))) (now (out .exit)) r ⌝ }
+{
+    let mut work = [0u32; 4096];
+    let mut pool = [0u32; 4096];
+    let mut headers = [0u32; 512];
+    let mut variables = [0u32; 512];
+    let mut terms = [0u32; 512];
+    let mut denom_headers = [0u32; 512];
+    let mut denom_variables = [0u32; 512];
+    let mut denom_terms = [0u32; 512];
+    let lists = expansion::expand_interactions(
+        graph,
+        &mut work,
+        &mut pool,
+        &mut headers,
+        &mut variables,
+        &mut terms,
+        &mut denom_headers,
+        &mut denom_variables,
+        &mut denom_terms,
+    );
+    match lists {
+        InteractionLists::Written(n) => put_both_lists(
+            out,
+            at,
+            n,
+            &headers,
+            &variables,
+            &terms,
+            &denom_headers,
+            &denom_variables,
+            &denom_terms,
+        ),
+        InteractionLists::Refused(r) => {
+            lines::put_refused(out, at, b"inter", lines::wide(r.number), r.place)
+        }
+    }
+}
+
+// What the graph's constraints print, and what comes after them.
+fn put_constraints(out: &mut [u8], at: usize, graph: &[u32]) -> usize
+    requires { ⌜ Room (now out) at (step consText (constraintCall prime (now graph) 4096 4096 1024 1024 1024) (constraintLines prime (now graph) (constraintCall prime (now graph) 4096 4096 1024 1024 1024))) ⌝ }
+    ensures { λ r. ⌜ Puts (now (out .entry)) at (step consText (constraintCall prime (now (graph .entry)) 4096 4096 1024 1024 1024) (constraintLines prime (now (graph .entry)) (constraintCall prime (now (graph .entry)) 4096 4096 1024 1024 1024))) (now (out .exit)) r ⌝ }
+{
+    let mut work = [0u32; 4096];
+    let mut pool = [0u32; 4096];
+    let mut headers = [0u32; 1024];
+    let mut variables = [0u32; 1024];
+    let mut terms = [0u32; 1024];
+    let lists = expansion::expand_constraints(
+        graph,
+        &mut work,
+        &mut pool,
+        &mut headers,
+        &mut variables,
+        &mut terms,
+    );
+    match lists {
+        ConstraintLists::Written(n) => {
+            let next = put_lists(
+                out,
+                at,
+                Family::Constraints,
+                n,
+                &headers,
+                &variables,
+                &terms,
+            );
+            put_interactions(out, next, graph)
+        }
+        ConstraintLists::Refused(r) => {
+            lines::put_refused(out, at, b"cons", lines::wide(r.number), r.place)
+        }
+    }
+}
+
+// The number that a call has handed back, 0 after a refusal.
+fn number_of(counted: Counted) -> usize
+    ensures { λ r. ⌜ r ≡ numberOf counted ⌝ }
+{
+    match counted {
+        Counted::Number(n) => n,
+        Counted::Refused(_) => 0,
+    }
+}
+
+// What a graph prints: its numbers, then its lists.
+fn put_graph(out: &mut [u8], at: usize, graph: &[u32]) -> usize
+    requires { ⌜ (2 < length (now graph)) × Room (now out) at (graphLines prime (now graph)) ⌝ }
+    ensures { λ r. ⌜ Puts (now (out .entry)) at (graphLines prime (now (graph .entry))) (now (out .exit)) r ⌝ }
+{
+    let rotation = number_of(sheet_calls::max_rotation(graph));
+    let next = lines::put_dag_line(out, at, graph[1], graph[2], rotation);
+    put_constraints(out, next, graph)
+}
+
+// What a sheet prints: its graph.
+fn put_sheet(out: &mut [u8], at: usize, sheet: &[u32]) -> usize
+    requires { ⌜ Room (now out) at (sheetLines prime (now sheet)) ⌝ }
+    ensures { λ r. ⌜ Puts (now (out .entry)) at (sheetLines prime (now (sheet .entry))) (now (out .exit)) r ⌝ }
+{
+    let mut scratch = [0u32; 1016];
+    let mut graph = [0u32; 1016];
+    let built = dag::build(sheet, &mut scratch, &mut graph);
+    match built {
+        Written::Words(n) => put_graph(out, at, &graph[..n]),
+        Written::Refused(r) => {
+            lines::put_refused(out, at, b"dag", lines::wide(r.number), r.place)
+        }
+    }
+}
+
+// The bytes that `sheetlist` prints go to the front of `out`; their number is handed back.
+pub fn list_sheet(bytes: &[u8], out: &mut [u8; 65536]) -> usize
+    ensures { λ r. ⌜ (r ≤ length (now (out .exit))) × (take r (now (out .exit)) ≡ sheetlist prime (now (bytes .entry))) ⌝ }
+{
+    if 4096 < bytes.len() {
+        return lines::put_refused(out, 0, b"read", 1, 0);
+    }
+    let mut sheet = [0u32; 1016];
+    let read = block_reader::read_blocks(bytes, &mut sheet);
+    match read {
+        Written::Words(n) => put_sheet(out, 0, &sheet[..n]),
+        Written::Refused(r) => {
+            lines::put_refused(out, 0, b"read", lines::wide(r.number), r.place)
+        }
+    }
+}
+
+// Writes them to standard output.
+pub fn print_sheet(bytes: &[u8]) {
+    let mut out = [0u8; 65536];
+    let length = list_sheet(bytes, &mut out);
+    io::write_all(STDOUT_FILENO, &out[..length]);
+}
