@@ -13,13 +13,13 @@ use Rattle.listing.specs.declared.headers.Family.the-variants.{Constraints, Num
 use Rattle.listing.specs.Families.{widthOf, familyLines, HeadersInside}
 use Rattle.listing.proofs.Steps.{constraintsOf, interactionsOf, step-on, constraint-prints, interaction-prints}
 use Rattle.listing.proofs.Handing.{constraints-handed, numerators-handed, denominators-handed}
-use Rattle.sheet_listing.specs.declared.expansion.Lengths.{Lengths}
-use Rattle.sheet_listing.specs.declared.expansion.ConstraintLists.{ConstraintLists}
-use Rattle.sheet_listing.specs.declared.expansion.ConstraintLists.the-variants as constraint
-use Rattle.sheet_listing.specs.declared.expansion.InteractionLengths.{InteractionLengths}
-use Rattle.sheet_listing.specs.declared.expansion.InteractionLists.{InteractionLists}
-use Rattle.sheet_listing.specs.declared.expansion.InteractionLists.the-variants as interaction
-use Rattle.sheet_listing.specs.Answers.{constraintOutcome, interactionOutcome}
+use Rattle.grouping.specs.declared.Lengths.{Lengths}
+use Rattle.expansion.specs.declared.ConstraintLists.{ConstraintLists}
+use Rattle.expansion.specs.declared.ConstraintLists.the-variants as constraint
+use Rattle.expansion.specs.declared.InteractionLengths.{InteractionLengths}
+use Rattle.expansion.specs.declared.InteractionLists.{InteractionLists}
+use Rattle.expansion.specs.declared.InteractionLists.the-variants as interaction
+use Rattle.expansion.specs.Answers.{constraintOutcome, interactionOutcome}
 use Rattle.sheet_listing.specs.Fronts.{frontLines, Fronts}
 use Rattle.sheet_listing.proofs.Sounds.{Sound, constraint-sound, interaction-sound, refused-line}
 

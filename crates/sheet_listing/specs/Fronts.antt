@@ -6,7 +6,7 @@ use Rattle.listing.specs.declared.headers.Family.{Family}
 use Rattle.listing.specs.Families.{widthOf, familyLines, HeadersInside}
 use Rattle.sheet_calls.specs.declared.Counted.{Counted}
 use Rattle.sheet_calls.specs.declared.Counted.the-variants.{Number, Refused}
-use Rattle.sheet_listing.specs.declared.expansion.Lengths.{Lengths}
+use Rattle.grouping.specs.declared.Lengths.{Lengths}
 
 -- What a family prints from the front of its three slices.
 abbrev pub frontLines : Family → Lengths → (hs vs ts : List ℕ) → List ℕ

@@ -9,13 +9,10 @@ ghost use Rattle.semantics.specs.Sheetlist.{line, endText, consText, interText,
 ghost use Rattle.listing.specs.declared.headers.Family.the-variants.{Numerators, Denominators};
 ghost use Rattle.listing.specs.Putting.{Room, Puts};
 ghost use Rattle.sheet_listing.specs.Fronts.{frontLines, Fronts, numberOf};
-
-mod expansion;
-
 use expansion::ConstraintLists;
 use expansion::InteractionLengths;
 use expansion::InteractionLists;
-use expansion::Lengths;
+use grouping::Lengths;
 use libc::STDOUT_FILENO;
 use listing::headers;
 use listing::headers::Family;
