@@ -6,6 +6,7 @@ use Rattle.semantics.specs.Sheet as semantics
 use Rattle.semantics.specs.Sheet.{recordOf}
 use Rattle.semantics.specs.Check.{readSheet}
 use Rattle.records.specs.declared.Record.{Record}
+use Rattle.records.specs.declared.Interaction as places
 
 -- Five words as a record.
 abbrev pub fiveWords : Record → semantics.Record
@@ -33,6 +34,10 @@ part at count ws = take count (drop at ws)
 -- The message length of the interaction that stands at `at`.
 abbrev pub messageLength : List ℕ → ℕ → ℕ
 messageLength ws at = getD ws (at + 3) 0
+
+-- Where the words of the interaction at `at` stand whose message has that length.
+abbrev pub interactionFrom : (at message : ℕ) → places.Interaction
+interactionFrom at message = record { count = at + 2; length = at + 3; fields = at + 4; message = message; next = at + (4 + message) }
 
 -- The names that n interactions from `at` on have, one interaction after the other; `one` is what is taken of each.
 unfoldable pub eachWords : (one : ℕ → List ℕ) (ws : List ℕ) (at n : ℕ) → List ℕ
