@@ -7,7 +7,6 @@ use std::time::Duration;
 use openvm_stark_backend::air_builders::symbolic::SymbolicConstraintsDag;
 use plain::Sheet;
 
-use crate::rattle::builds;
 use crate::rng::Rng;
 use crate::rust;
 use crate::sheets::SIZED;
@@ -75,8 +74,8 @@ fn ratio(sheet: &Sheet) -> f64 {
     let mut ours = |runs: usize| {
         let start = thread_time();
         for _ in 0..runs {
-            let built = builds(black_box(&words), &mut scratch, &mut out);
-            assert!(black_box(built), "a graph");
+            let built = suhkelva::build(black_box(&words), &mut scratch, &mut out);
+            assert!(black_box(built).is_ok(), "a graph");
         }
         thread_time() - start
     };

@@ -8,8 +8,6 @@ use std::thread;
 use plain::sheet::{ADD, MAIN, NEG, VARIABLE};
 use plain::{Record, Sheet};
 
-use crate::rattle::builds;
-
 /// Stack is lent in pages of so many KiB; the least that a thread has, and the most that is tried.
 const PAGE: usize = 4;
 const LEAST: usize = 16;
@@ -36,7 +34,7 @@ fn chain(kind: usize, records: u32) -> Sheet {
 pub fn attempt(kind: usize, records: u32, kib: usize) -> bool {
     let words = chain(kind, records).encode();
     let (mut scratch, mut out) = (vec![1; records as usize], vec![1; words.len()]);
-    let run = move || builds(&words, &mut scratch, &mut out);
+    let run = move || suhkelva::build(&words, &mut scratch, &mut out).is_ok();
     let thread = thread::Builder::new().stack_size(kib << 10).spawn(run);
     thread.expect("a thread").join().expect("no panic")
 }
