@@ -6,6 +6,9 @@ pub mod compare;
 pub mod edges;
 pub mod examples;
 pub mod implementation;
+pub mod lists;
+pub mod needs;
+pub mod parts;
 #[cfg(feature = "rattle")]
 pub mod rattle;
 pub mod rng;

@@ -4,12 +4,13 @@ use std::io::{self, Read};
 use std::process::ExitCode;
 use std::thread;
 
-use driver::compare::{compare_packing, compare_sheet, COMPARED, KNOWN, LEFT_OUT};
+use driver::compare::{compare_sheet, COMPARED, KNOWN, LEFT_OUT};
 use driver::examples::{examples, Example};
 use driver::implementation::{Implementation, Plain};
 use driver::runs::{Run, STACK};
+use driver::sheets::SHAPES;
 use driver::table::Table;
-use driver::{rust, sample, sheets};
+use driver::{parts, rust, sample};
 use plain::calls::WORK;
 
 const USAGE: &str = "usage:
@@ -46,27 +47,12 @@ fn main() -> ExitCode {
     }
 }
 
-/// Random sheets through an implementation and the Rust; whether no difference is left unexplained. Sheet k of a run is the
-/// first of a run whose seed is k larger.
+/// Random sheets through an implementation and the Rust; whether no difference is left unexplained.
 fn random_sheets(under_test: &dyn Implementation, sheets: u64, first_seed: u64) -> bool {
     let name = under_test.name();
     println!("{name} against the Rust: {sheets} sheets, seeds from {first_seed}");
-    let mut run = Run::new(under_test, compare_sheet);
-    for k in 0..sheets {
-        let seed = first_seed.wrapping_add(k);
-        let mut rng = run.random_sheet(seed);
-        for _ in 0..4 {
-            let leaf = sheets::wild_variable(&mut rng);
-            for case in compare_packing(under_test, &leaf) {
-                if let Some(difference) = &case.difference {
-                    println!("\nseed {seed}, {}, {leaf:?}: {difference}", case.kind);
-                }
-                let table = &mut run.table;
-                table.add(case.kind, case.difference.is_some(), case.size);
-            }
-        }
-    }
-    let shapes = sheets::SHAPES.map(|s| s.0);
+    let run = parts::against_rust(under_test, (sheets, first_seed));
+    let shapes = SHAPES.map(|shape| shape.0);
     run.shapes.print("sheets, largest in records", &shapes);
     print_cases(&run.table)
 }
