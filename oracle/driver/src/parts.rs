@@ -2,9 +2,12 @@
 
 use std::fmt::Debug;
 
+use plain::Sheet;
+
 use crate::compare::{
     compare_graph, compare_packing, compare_sheet, front, Case, COMPARED, GRAPHS, KNOWN, LEFT_OUT,
 };
+use crate::edges::lists::{compare_list_edge, compare_list_lengths, list_edges, short_sheet};
 use crate::edges::{
     self, compare_edge, compare_lent, compare_round_trip, edge_sheets, edges, lengths,
 };
@@ -26,6 +29,9 @@ pub type Seeds = (u64, u64);
 
 /// So many differences are shown.
 const SHOWN: u64 = 10;
+
+/// So many random sheets have their expansions lent every length around what is needed.
+const SHORT_SHEETS: u64 = 3_000;
 
 /// So many random records and numbers for each seed.
 const RECORDS: usize = 10;
@@ -117,6 +123,19 @@ pub fn at_edges(under_test: &dyn Implementation) -> Part {
         let case = compare_round_trip(under_test, &sheet);
         add(&mut table, &sheet, vec![case]);
     }
+    let made = list_edges();
+    for edge in &made {
+        add(&mut table, &edge.sheet, compare_list_edge(under_test, edge));
+    }
+    let mut sheets: Vec<Sheet> = made.into_iter().map(|edge| edge.sheet).collect();
+    sheets.extend(edge_sheets().into_iter().map(|(_, sheet)| sheet));
+    sheets.extend((0..SHORT_SHEETS).map(|seed| short_sheet(&mut Rng::new(seed))));
+    let lengths = |table: &mut Table, k| {
+        let sheet = &sheets[k as usize];
+        add(table, sheet, compare_list_lengths(under_test, sheet));
+    };
+    let lengths = over_seeds(sheets.len() as u64, 0, Table::default, lengths);
+    lengths.into_iter().for_each(|part| table.join(part));
     Part {
         title: "edges",
         kinds: edges::kinds(),
