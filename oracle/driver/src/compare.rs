@@ -358,7 +358,7 @@ impl<'a> Comparison<'a> {
 }
 
 /// Lists and further numbers of an expansion.
-type Lists = (Vec<Vec<u32>>, Vec<u32>);
+pub type Lists = (Vec<Vec<u32>>, Vec<u32>);
 
 /// Why there are none: a refusal, or the Rust's panic.
 #[derive(Debug, PartialEq)]
@@ -376,7 +376,8 @@ fn told(outcome: &Outcome) -> Result<Lists, Told> {
     Ok((lists, outcome.reply.numbers.clone()))
 }
 
-fn rust_lists(family: Family, sheet: &Sheet) -> Caught<Lists> {
+/// What the Rust's expansion gives, interaction headers in the order of constraint headers.
+pub fn rust_lists(family: Family, sheet: &Sheet) -> Caught<Lists> {
     match family {
         Family::Constraints => {
             let lists = rust::expand_constraints(sheet)?;

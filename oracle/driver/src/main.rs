@@ -17,7 +17,8 @@ const USAGE: &str = "usage:
   driver plain-vs-rust [SHEETS] [SEED]   random sheets: the plain Rust written from document 01 against the Rust
   driver examples                        the examples of document 01 and of the known differences, likewise
   driver sheetlist                       what sheetlist prints for standard input, by the plain Rust
-  driver sample                          sheets of all shapes with the Rust's graphs and numbers, and refused ones";
+  driver sample graphs                   sheets of all shapes with the Rust's graphs and numbers, and refused ones
+  driver sample lists                    sheets of all shapes with the Rust's lists, and refused ones";
 
 fn main() -> ExitCode {
     let arguments: Vec<String> = std::env::args().skip(1).collect();
@@ -25,14 +26,16 @@ fn main() -> ExitCode {
         Some(text) => text.parse().ok(),
         None => Some(usual),
     };
-    let command = arguments.first().map(String::as_str);
-    let run: Box<dyn FnOnce() -> bool + Send> = match (command, number(1, 20_000), number(2, 1)) {
-        (Some("plain-vs-rust"), Some(sheets), Some(seed)) => {
+    let texts: Vec<&str> = arguments.iter().map(String::as_str).collect();
+    let run: Box<dyn FnOnce() -> bool + Send> = match (&texts[..], number(1, 20_000), number(2, 1))
+    {
+        (["plain-vs-rust", ..], Some(sheets), Some(seed)) => {
             Box::new(move || random_sheets(&Plain, sheets, seed))
         }
-        (Some("examples"), ..) => Box::new(|| all_examples(&Plain)),
-        (Some("sheetlist"), ..) => Box::new(list_input),
-        (Some("sample"), ..) => Box::new(print_sample),
+        (["examples"], ..) => Box::new(|| all_examples(&Plain)),
+        (["sheetlist"], ..) => Box::new(list_input),
+        (["sample", "graphs"], ..) => Box::new(|| print_sample(sample::graphs())),
+        (["sample", "lists"], ..) => Box::new(|| print_sample(sample::lists())),
         _ => {
             eprintln!("{USAGE}");
             return ExitCode::from(2);
@@ -99,8 +102,8 @@ fn found(under_test: &dyn Implementation, example: &Example) -> (usize, usize, R
     (graph[1] as usize, graph[2] as usize, headers)
 }
 
-fn print_sample() -> bool {
-    print!("{}", sample::sample());
+fn print_sample(text: String) -> bool {
+    print!("{text}");
     true
 }
 

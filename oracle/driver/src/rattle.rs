@@ -1,9 +1,13 @@
 //! The rewrite, called through the crate `suhkelva`: its answers and what it wrote, as outcomes.
 
-use plain::{Outcome, Record, Reply};
+use std::hint::black_box;
+
+use plain::calls::{Family, WORK};
+use plain::{Outcome, Record, Reply, Sheet};
 use suhkelva::{Answer, Lengths, Lists, PackedVar, Refusal};
 
 use crate::implementation::Implementation;
+use crate::needs::needs;
 
 /// An answer as an outcome, with the slices lent for writing as they are after the call: counts of what was written, and further
 /// numbers.
@@ -111,6 +115,67 @@ fn lists(lent: &mut [Lent<u32>]) -> Lists<'_> {
 
 fn counts(lengths: &Lengths) -> Vec<usize> {
     vec![lengths.headers, lengths.variables, lengths.terms]
+}
+
+/// A sheet and what one call on it is lent, made ready once and called again and again: for measuring.
+pub struct Ready {
+    words: Vec<u32>,
+    scratch: Vec<Vec<u32>>,
+    outputs: Vec<Vec<u32>>,
+}
+
+impl Ready {
+    fn new(sheet: &Sheet, scratch: &[usize], outputs: &[usize]) -> Self {
+        let lent = |lengths: &[usize]| lengths.iter().map(|&n| vec![1; n]).collect();
+        Ready {
+            words: sheet.encode(),
+            scratch: lent(scratch),
+            outputs: lent(outputs),
+        }
+    }
+
+    /// The builder, lent just what it needs.
+    pub fn build(sheet: &Sheet) -> Self {
+        Ready::new(sheet, &[sheet.records.len()], &[sheet.length()])
+    }
+
+    /// The expansion of a family, lent just what it needs; the sheet must be one that is accepted.
+    pub fn expand(family: Family, sheet: &Sheet) -> Self {
+        let needs = needs(family, sheet);
+        let outputs = needs.outputs.expect("a sheet that is accepted");
+        Ready::new(sheet, &[WORK, needs.pool], &outputs)
+    }
+
+    /// The call; whether it was accepted.
+    pub fn call(&mut self) -> bool {
+        let words = black_box(&self.words[..]);
+        let accepted = match (&mut self.scratch[..], &mut self.outputs[..]) {
+            ([scratch], [out]) => suhkelva::build(words, scratch, out).is_ok(),
+            ([work, pool], [headers, variables, terms]) => {
+                let lists = Lists {
+                    headers,
+                    variables,
+                    terms,
+                };
+                suhkelva::expand_constraints(words, work, pool, lists).is_ok()
+            }
+            ([work, pool], [headers, variables, terms, h, v, t]) => {
+                let numerators = Lists {
+                    headers,
+                    variables,
+                    terms,
+                };
+                let denominators = Lists {
+                    headers: h,
+                    variables: v,
+                    terms: t,
+                };
+                suhkelva::expand_interactions(words, work, pool, numerators, denominators).is_ok()
+            }
+            _ => unreachable!("made by one of the above"),
+        };
+        black_box(accepted)
+    }
 }
 
 /// The rewrite in Rattle.

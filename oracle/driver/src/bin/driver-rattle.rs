@@ -21,8 +21,8 @@ const USAGE: &str = "usage:
   driver-rattle edges                   the same calls at each bound
   driver-rattle graphs [SHEETS] [SEED]  the builder's graphs against the Rust's
   driver-rattle lists [SHEETS] [SEED]   both expansions of sheets and of their graphs, against the Rust and plain
-  driver-rattle stack                   the least stack in which the builder passes a chain of 4,096 records
-  driver-rattle bench                   the builder's time over the Rust's";
+  driver-rattle stack                   the least stack in which the builder and the expansions pass a chain of 4,096 records
+  driver-rattle bench                   the time of the builder and of the expansions over the Rust's, and of large expansions";
 
 fn main() -> ExitCode {
     let arguments: Vec<String> = std::env::args().skip(1).collect();
@@ -66,9 +66,10 @@ fn main() -> ExitCode {
             stack::measure();
             true
         }),
-        (Some("stack-attempt"), &[kind, records, kib]) => {
-            Box::new(move || stack::attempt(kind as usize, records as u32, kib as usize))
-        }
+        (Some("stack-attempt"), &[call, chain, records, kib]) => Box::new(move || {
+            let [call, chain, kib] = [call, chain, kib].map(|n| n as usize);
+            stack::attempt(call, chain, records as u32, kib)
+        }),
         (Some("bench"), []) => Box::new(|| {
             bench::bench();
             true

@@ -10,13 +10,14 @@ use super::Due;
 use crate::compare::Case;
 use crate::implementation::{Implementation, Plain};
 use crate::needs::{needs, outputs, Needs, FAMILIES};
+use crate::records::{Records, V};
 use crate::rng::Rng;
 use crate::sheet_calls::case;
 use crate::sheets::random_sheet;
 
 /// A sheet, what is due from each expansion by how it was made, and the row of the table it counts in.
 pub struct ListEdge {
-    row: &'static str,
+    pub row: &'static str,
     pub sheet: Sheet,
     due: [Due; 2],
 }
@@ -67,58 +68,10 @@ pub fn kinds() -> Vec<&'static str> {
     [&rows[..], &[UNREACHED], &LENT.concat()].concat()
 }
 
-const V: Record = [VARIABLE, MAIN, 0, 0, 0];
-
-/// Records so far, of which the first is v.
-struct Records(Vec<Record>);
-
-impl Records {
-    fn new() -> Self {
-        Records(vec![V])
-    }
-
-    fn push(&mut self, record: Record) -> u32 {
-        self.0.push(record);
-        self.0.len() as u32 - 1
-    }
-
-    fn join(&mut self, kind: u32, left: u32, right: u32) -> u32 {
-        self.push([kind, left, right, 0, 0])
-    }
-
-    /// So many variables from a column on, joined by one kind.
-    fn joined(&mut self, kind: u32, count: u32, column: u32) -> u32 {
-        let mut made = self.push([VARIABLE, MAIN, 0, 0, column]);
-        for k in 1..count {
-            let next = self.push([VARIABLE, MAIN, 0, 0, column + k]);
-            made = self.join(kind, made, next);
-        }
-        made
-    }
-
-    /// A list of so many distinct monomials: none, or a product of two sums and some variables more.
-    fn list(&mut self, monomials: u32, column: u32) -> u32 {
-        if monomials == 0 {
-            let v = self.joined(ADD, 1, column);
-            return self.join(SUB, v, v);
-        }
-        let width = monomials.isqrt();
-        let height = monomials / width;
-        let left = self.joined(ADD, width, column);
-        let right = self.joined(ADD, height, column + 100);
-        let mut made = self.join(MUL, left, right);
-        for k in width * height..monomials {
-            let further = self.push([VARIABLE, MAIN, 0, 0, column + 200 + k]);
-            made = self.join(ADD, made, further);
-        }
-        made
-    }
-}
-
 /// The last record named as a constraint, as a count and as a field: what is due from the call that reaches it. The other call
 /// is due to accept.
 fn named(row: &'static str, records: &Records, refusal: Option<u32>) -> [ListEdge; 3] {
-    let root = records.0.len() as u32 - 1;
+    let root = records.last();
     let due = || match refusal {
         None => Due::Accepted,
         Some(number) => Due::Refused(number, root as usize),
@@ -159,7 +112,7 @@ pub fn list_edges() -> Vec<ListEdge> {
         }
     };
     let mut leaf = |row, record: Record, refusal| {
-        let mut records = Records::new();
+        let mut records = Records(vec![V]);
         records.push(record);
         say(row, &records, refusal);
     };
@@ -214,7 +167,7 @@ pub fn list_edges() -> Vec<ListEdge> {
     ];
     for (left, right, row, refusal) in sums {
         for kind in [ADD, SUB] {
-            let mut records = Records::new();
+            let mut records = Records(vec![V]);
             let left = records.list(left, 0);
             let right = records.list(right, 1_000);
             records.join(kind, left, right);
@@ -223,7 +176,7 @@ pub fn list_edges() -> Vec<ListEdge> {
     }
     // the working list counts, not what is left of it
     for (monomials, refusal) in [(128, None), (129, Some(12))] {
-        let mut records = Records::new();
+        let mut records = Records(vec![V]);
         let list = records.list(monomials, 0);
         records.join(SUB, list, list);
         let row = match refusal {
@@ -254,7 +207,7 @@ pub fn list_edges() -> Vec<ListEdge> {
         ),
     ];
     for (left, right, row, refusal) in products {
-        let mut records = Records::new();
+        let mut records = Records(vec![V]);
         let left = records.list(left, 0);
         let right = records.list(right, 1_000);
         records.join(MUL, left, right);
@@ -274,7 +227,7 @@ pub fn list_edges() -> Vec<ListEdge> {
     for (left, right, row, refusal) in factors {
         // alone, and as the longest monomial of a sum
         for longer in [false, true] {
-            let mut records = Records::new();
+            let mut records = Records(vec![V]);
             let mut factor = |count, column| {
                 let product = match count {
                     0 => records.push([CONSTANT, 3, 0, 0, 0]),
@@ -294,13 +247,13 @@ pub fn list_edges() -> Vec<ListEdge> {
             say(row, &records, refusal);
         }
     }
-    let mut records = Records::new();
+    let mut records = Records(vec![V]);
     let nothing = records.list(0, 0);
     let product = records.joined(MUL, 14, 0);
     let product = records.join(MUL, product, nothing);
     records.join(MUL, product, product);
     say("14 variables times nothing", &records, None);
-    let mut records = Records::new();
+    let mut records = Records(vec![V]);
     let product = records.joined(MUL, 14, 0);
     let sum = records.list(129, 100);
     let mark = records.push([IS_FIRST_ROW, 0, 0, 0, 0]);
