@@ -8,7 +8,7 @@ use crate::implementation::{Implementation, Plain};
 use crate::needs::{needs, outputs, FAMILIES};
 use crate::sheet_calls::case;
 
-const NO_GRAPH: &str = "the graph to expand";
+const GRAPH: &str = "the graph to expand";
 
 /// An expansion against plain: lists lent exactly what they need, lists lent more, refused by 8 to 13.
 type Rows = [&'static str; 3];
@@ -45,7 +45,7 @@ const AGAINST_PLAIN: [[Rows; 2]; 2] = [
 pub fn kinds() -> Vec<&'static str> {
     let against_plain = AGAINST_PLAIN.concat().concat();
     let against_rust = [&EXPANSIONS[..], &KNOWN, &LEFT_OUT].concat();
-    [vec![NO_GRAPH], against_rust, against_plain].concat()
+    [vec![GRAPH], against_rust, against_plain].concat()
 }
 
 /// The sheet as it is and its graph as the implementation under test builds it.
@@ -54,7 +54,7 @@ pub fn compare_lists(under_test: &dyn Implementation, sheet: &Sheet, spare: usiz
     let built = under_test.builder(&words, sheet.records.len(), sheet.length());
     let graph = decoded(&built);
     let mut cases = vec![Case {
-        kind: NO_GRAPH,
+        kind: GRAPH,
         difference: graph.as_ref().err().map(|refusal| format!("{refusal:?}")),
         size: 1,
     }];

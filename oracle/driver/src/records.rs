@@ -1,6 +1,6 @@
 //! Records made one after another.
 
-use plain::sheet::{ADD, MAIN, MUL, SUB, VARIABLE};
+use plain::sheet::{ADD, MAIN, MUL, NEG, SUB, VARIABLE};
 use plain::Record;
 
 /// v and w: main, part 0, offset 0, columns 0 and 1.
@@ -11,6 +11,12 @@ pub const W: Record = [VARIABLE, MAIN, 0, 0, 1];
 pub struct Records(pub Vec<Record>);
 
 impl Records {
+    /// v and so many records less one, each the negative of the one before.
+    pub fn negatives(count: u32) -> Self {
+        let rest = (1..count).map(|k| [NEG, k - 1, 0, 1, 0]);
+        Records([V].into_iter().chain(rest).collect())
+    }
+
     /// The number of the record that was pushed last.
     pub fn last(&self) -> u32 {
         self.0.len() as u32 - 1

@@ -4,7 +4,6 @@
 use std::fmt::Write;
 
 use plain::calls::{Family, WORK};
-use plain::sheet::NEG;
 use plain::Sheet;
 
 use crate::compare::{rust_lists, with_spare, Lists};
@@ -13,7 +12,7 @@ use crate::edges::{edge_sheets, edges, Edge};
 use crate::examples::examples;
 use crate::implementation::{Implementation, Plain};
 use crate::needs::{needs, outputs, FAMILIES};
-use crate::records::V;
+use crate::records::Records;
 use crate::rng::Rng;
 use crate::rust;
 use crate::sheet_calls::Input;
@@ -210,11 +209,10 @@ const HEAD: &str = "\
 # Sheets with their graphs, and refused ones: written by `driver sample graphs`, described in oracle/README.md.
 ";
 
-/// A chain of negatives, as deep as a sheet can be.
+/// A chain of negatives.
 fn negatives(count: u32) -> Sheet {
-    let rest = (1..count).map(|k| [NEG, k - 1, 0, 1, 0]);
     Sheet {
-        records: [V].into_iter().chain(rest).collect(),
+        records: Records::negatives(count).0,
         constraints: vec![count - 1],
         interactions: vec![],
     }

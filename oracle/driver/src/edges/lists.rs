@@ -261,6 +261,8 @@ pub fn list_edges() -> Vec<ListEdge> {
     records.join(MUL, left, sum);
     say("12 and 13 at one record: 12", &records, Some(12));
 
+    say("a chain of 4,096 records", &Records::negatives(4_096), None);
+
     edges.extend(out_of_order());
     for records in unreached {
         edges.push(ListEdge {
