@@ -9,6 +9,16 @@ pub mod refusal;
 
 pub use refusal::Refusal;
 
+/// Bytes of a block, and the words of a sheet in it.
+pub const BLOCK_BYTES: usize = 512;
+pub const BLOCK_WORDS: usize = 127;
+
+/// Words of `work` that an expansion needs; words of a header, of a constraint's term and of an interaction's term.
+pub const WORK_WORDS: usize = 4_096;
+pub const HEADER_WORDS: usize = 4;
+pub const TERM_WORDS: usize = 2;
+pub const INTERACTION_TERM_WORDS: usize = 3;
+
 /// An accepted call's answer, or why it was refused.
 pub type Answer<T> = Result<T, Refusal>;
 

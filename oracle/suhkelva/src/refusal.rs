@@ -27,8 +27,8 @@ pub const LIST_TOO_LONG: u32 = 12;
 pub const PRODUCT_TOO_LONG: u32 = 13;
 pub const SCRATCH_TOO_SHORT: u32 = 14;
 pub const OUTPUT_TOO_SHORT: u32 = 15;
-pub const POOL_FULL: u32 = 16;
-pub const LISTS_TOO_LONG: u32 = 17;
+pub const POOL_TOO_SHORT: u32 = 16;
+pub const SLICE_TOO_SHORT: u32 = 17;
 
 impl fmt::Display for Refusal {
     fn fmt(&self, f: &mut fmt::Formatter) -> fmt::Result {
@@ -48,8 +48,8 @@ impl fmt::Display for Refusal {
             PRODUCT_TOO_LONG => "a product of more than 14 variables",
             SCRATCH_TOO_SHORT => "scratch is shorter than needed",
             OUTPUT_TOO_SHORT => "the output is shorter than needed",
-            POOL_FULL => "the pool cannot take a record's list",
-            LISTS_TOO_LONG => "a finished list is longer than its slice",
+            POOL_TOO_SHORT => "no room in the pool for a record's monomials",
+            SLICE_TOO_SHORT => "an output of an expansion is shorter than needed",
             _ => "a number that the header does not name",
         };
         write!(f, "refused by {}, place {}: {why}", self.number, self.place)

@@ -1,6 +1,6 @@
 //! The sheet of document 01 that sheetlist lists, through every call.
 
-use suhkelva::refusal::{LISTS_TOO_LONG, POOL_FULL, SCRATCH_TOO_SHORT};
+use suhkelva::refusal::{POOL_TOO_SHORT, SCRATCH_TOO_SHORT, SLICE_TOO_SHORT};
 use suhkelva::*;
 
 /// Records: main offset 1 column 0; v; Sub(0, 1); constant 1; Sub(2, 3); IsTransition; Mul(5, 4). Constraint 6. Interaction: bus 7,
@@ -22,14 +22,14 @@ const MINUS_ONE: u32 = 2_013_265_920;
 
 /// What is lent to an expansion: more than the sheet needs.
 struct Lent {
-    work: [u32; 4_096],
+    work: [u32; WORK_WORDS],
     pool: [u32; 200],
     lists: [[u32; 40]; 6],
 }
 
 fn lent() -> Lent {
     Lent {
-        work: [7; 4_096],
+        work: [7; WORK_WORDS],
         pool: [7; 200],
         lists: [[7; 40]; 6],
     }
@@ -68,12 +68,12 @@ fn sheet_and_blocks() {
     assert_eq!(copy[..46], SHEET);
     assert_eq!(copy[46..], [0; 4]);
 
-    let mut blocks = [7; 512];
-    assert_eq!(write_blocks(&SHEET, &mut blocks), Ok(512));
+    let mut blocks = [7; BLOCK_BYTES];
+    assert_eq!(write_blocks(&SHEET, &mut blocks), Ok(BLOCK_BYTES));
     assert_eq!(block_check(&blocks, 1), Ok(true));
     assert_eq!(block_check(&blocks, 2), Ok(false));
-    let mut words = [7; 127];
-    assert_eq!(read_blocks(&blocks, &mut words), Ok(127));
+    let mut words = [7; BLOCK_WORDS];
+    assert_eq!(read_blocks(&blocks, &mut words), Ok(BLOCK_WORDS));
     assert_eq!(words[..46], SHEET);
 }
 
@@ -90,7 +90,7 @@ fn graph_and_lists() {
     let lengths = expand_constraints(&graph, &mut l.work, &mut l.pool, lists).expect("lists");
     assert_eq!(
         (lengths.headers, lengths.variables, lengths.terms),
-        (12, 5, 6)
+        (3 * HEADER_WORDS, 5, 3 * TERM_WORDS)
     );
     assert_eq!(l.lists[1][..5], [0xa, 0x1, 0xa, 0xa, 0x1001]);
     assert_eq!(l.lists[2][..6], [0, MINUS_ONE, 0, MINUS_ONE, 0, 1]);
@@ -119,6 +119,6 @@ fn refused() {
     };
     assert_eq!(expand(4_095, 200, 40), (SCRATCH_TOO_SHORT, 4_096));
     assert_eq!(expand(4_096, 13, 40), (SCRATCH_TOO_SHORT, 14));
-    assert_eq!(expand(4_096, 14, 40), (POOL_FULL, 5));
-    assert_eq!(expand(4_096, 200, 11), (LISTS_TOO_LONG, 1));
+    assert_eq!(expand(4_096, 14, 40), (POOL_TOO_SHORT, 5));
+    assert_eq!(expand(4_096, 200, 11), (SLICE_TOO_SHORT, 1));
 }
