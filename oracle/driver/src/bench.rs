@@ -10,6 +10,7 @@ use plain::calls::Family;
 use plain::Sheet;
 
 use crate::measured::{as_fields, products_of_sums, realistic, EXPANDED};
+use crate::needs::{needs, FAMILIES};
 use crate::rattle::Ready;
 use crate::rng::Rng;
 use crate::rust;
@@ -179,12 +180,15 @@ fn enough(time: &mut Timed) -> usize {
     runs
 }
 
-/// Milliseconds of each call on realistic sheets, a common one and as large as sheets can be.
+/// Milliseconds of each call on realistic sheets, a common one and as large as sheets can be, and the headers of each expansion.
 fn realistic_sheets() {
     println!("\nrealistic sheets, milliseconds of each call\n");
     let heads = ["records", "constraints", "interactions", "build"];
     heads.iter().for_each(|head| print!("{head:>14}"));
-    println!("{:>20}{:>21}", "expand_constraints", "expand_interactions");
+    for head in ["expand_constraints", "expand_interactions"] {
+        print!("{head:>21}{:>10}", "headers");
+    }
+    println!();
     for (records, constraints, interactions) in REALISTIC {
         let sheet = realistic(&mut Rng::new(1), records, constraints, interactions);
         let counts = [
@@ -204,7 +208,13 @@ fn realistic_sheets() {
             let times = (0..TIMINGS.1).map(|_| call(runs).as_secs_f64() / runs as f64);
             1e3 * median(&mut times.collect::<Vec<f64>>())
         });
-        println!("{build:>14.3}{constraints:>20.3}{interactions:>21.3}");
+        print!("{build:>14.3}");
+        for (time, family) in [constraints, interactions].into_iter().zip(FAMILIES) {
+            let outputs = needs(family, &sheet).outputs.expect("lists");
+            let headers: usize = outputs.iter().step_by(3).map(|words| words / 4).sum();
+            print!("{time:>21.3}{headers:>10}");
+        }
+        println!();
     }
 }
 
