@@ -1,4 +1,5 @@
 // Totals over the rows of the headers.
+use header_offsets::words;
 ghost use mathlib.Core.Path.{_≡_};
 ghost use Prim.Native.Nat.{_+_, _*_, _≤_, _<_};
 ghost use lib.ListN.{length, drop};
@@ -65,11 +66,10 @@ pub fn start_terms(headers: &mut [u32], n: usize)
     run_totals(headers, n, 1, 3)
 }
 
-// Both offsets of each row are set to the totals over the rows before it.
+// Both offsets of each row are set to the totals over the rows before it, in one pass over headers.
 pub fn fill_offsets(headers: &mut [u32], n: usize)
     requires { ⌜ (4 * n ≤ length (now headers)) × (sum (column 2 n (now headers)) ≤ 4294967295) × (sum (column 3 n (now headers)) ≤ 4294967295) ⌝ }
     ensures { λ _. ⌜ (rows 4 n (now (headers .exit)) ≡ totalled 1 3 0 (totalled 0 2 0 (rows 4 n (now (headers .entry))))) × (drop (4 * n) (now (headers .exit)) ≡ drop (4 * n) (now (headers .entry))) ⌝ }
 {
-    run_totals(headers, n, 0, 2);
-    run_totals(headers, n, 1, 3);
+    words::fill_words(headers, n)
 }
