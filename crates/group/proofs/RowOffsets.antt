@@ -1,9 +1,9 @@
 -- Rows as headers: the totals of their numbers, and their offsets.
-use mathlib.Core.Path.{_≡_, refl, sym, _∙_, ap}
-use mathlib.Core.List.{List, [], _∷_, _++_, map}
+use mathlib.Core.Path.{_≡_, refl, _∙_, ap}
+use mathlib.Core.List.{List, [], _∷_, _++_}
 use Prim.Native.Nat.{ℕ, zero, suc, _+_, _*_, _≤_, _<_}
 use native.Mathlib.Omega.{arith}
-use lib.ListN.{length, getD, take, drop, set}
+use lib.ListN.{length, getD, drop}
 use lib.Seq.{getD-take}
 use Rattle.semantics.specs.Group.{rows}
 use Rattle.header_offsets.specs.declared.MonomialHeader.{MonomialHeader}

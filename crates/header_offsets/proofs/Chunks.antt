@@ -1,7 +1,7 @@
 -- The offsets of headers in words, filled sixteen headers at a time.
-use mathlib.Core.Path.{_≡_, refl, sym, ap, subst, _∙_}
-use mathlib.Core.List.{List, [], _∷_, _++_, append-assoc}
-use Prim.Native.Nat.{ℕ, suc, _+_, _*_, _-_, _≤_, _<_, _^_}
+use mathlib.Core.Path.{_≡_, refl, sym, ap, _∙_}
+use mathlib.Core.List.{List, _++_, append-assoc}
+use Prim.Native.Nat.{ℕ, _+_, _*_, _-_, _≤_, _<_, _^_, min}
 use native.Mathlib.Omega.{arith}
 use lib.ListN.{length, getD, take, drop, replicate, length-append, length-drop}
 use lib.Seq.{take-at, drop-at, drop-drop}
@@ -47,21 +47,24 @@ total-in : (number : MonomialHeader → ℕ) (i k : ℕ) (ws : List ℕ)
     → total number (headersIn (i + k) ws) ≡ total number (headersIn i ws) + total number (headersIn k (drop (4 * i) ws))
 total-in number i k ws = ap (total number) (in-append i k ws) ∙ total-append number (headersIn i ws) (headersIn k (drop (4 * i) ws))
 
-module _ {ws₀ : List ℕ} {n : ℕ} {ws : List ℕ} {vars terms i : ℕ} (g : Filled ws₀ n ws vars terms i) (k : ℕ) (few : k ≤ 16) (l : i + k ≤ n)
+module _ {ws₀ : List ℕ} {n : ℕ} {ws : List ℕ} {vars terms i : ℕ} (g : Filled ws₀ n ws vars terms i) {k : ℕ} (q : k ≡ min (n - i) 16)
     {taken : List MonomialHeader} (e : Taken (drop (4 * i) ws) k taken) where
-  -- The k headers at hand stand as they did.
-  hands : headersIn k (drop (4 * i) ws) ≡ headersIn k (drop (4 * i) ws₀)
-  hands = ap (headersIn k) (ap (drop (4 * i)) (g .words-are) ∙ filled-rest i ws₀)
+  upto-next : i + k ≤ n
+  upto-next = let u = g .upto in omega arith
+
+  -- The headers that are taken stand as they did.
+  as-before : headersIn k (drop (4 * i) ws) ≡ headersIn k (drop (4 * i) ws₀)
+  as-before = ap (headersIn k) (ap (drop (4 * i)) (g .words-are) ∙ filled-rest i ws₀)
 
   total-taken : (number : MonomialHeader → ℕ) → number noHeader ≡ 0 → total number (headersIn i ws₀) + total number taken ≡ total number (headersIn (i + k) ws₀)
   total-taken number z =
-      let a = ap (total number) (e ∙ ap (λ (r : List MonomialHeader). r ++ replicate (16 - k) noHeader) hands)
+      let a = ap (total number) (e ∙ ap (λ (r : List MonomialHeader). r ++ replicate (16 - k) noHeader) as-before)
       ∙ total-append number (headersIn k (drop (4 * i) ws₀)) (replicate (16 - k) noHeader) in
       omega (arith, total-none number z (16 - k), total-in number i k ws₀)
 
   fits : (number : MonomialHeader → ℕ) → number noHeader ≡ 0 → total number (headersIn i ws₀) + total number taken ≤ total number (headersIn n ws₀)
   fits number z =
-      let m : n ≡ i + k + (n - (i + k)) = omega arith in
+      let m : n ≡ i + k + (n - (i + k)) = omega (arith, upto-next) in
       let a = ap (λ (j : ℕ). total number (headersIn j ws₀)) m in
       omega (arith, total-taken number z, total-in number (i + k) (n - (i + k)) ws₀)
 
@@ -72,6 +75,9 @@ module _ {ws₀ : List ℕ} {n : ℕ} {ws : List ℕ} {vars terms i : ℕ} (g : 
   terms-room h = let a = g .terms-are in omega (arith, fits numTerms refl)
 
   module _ {filled : List MonomialHeader} (f : filled ≡ withOffsets vars terms taken) where
+    sixteen : length taken ≡ 16
+    sixteen = taken-length (drop (4 * i) ws) k taken e (omega arith)
+
     abbrev last : MonomialHeader
     last = getD filled 15 noHeader
 
@@ -79,7 +85,7 @@ module _ {ws₀ : List ℕ} {n : ℕ} {ws : List ℕ} {vars terms i : ℕ} (g : 
     vars-next =
         let a = g .vars-are in
         ap (λ (r : List MonomialHeader). getD r 15 noHeader .«var_offset» + numVars (getD r 15 noHeader)) f
-        ∙ vars-carried vars terms taken 15 (taken-length (drop (4 * i) ws) k taken e few)
+        ∙ vars-carried vars terms taken 15 sixteen
         ∙ omega (arith, total-taken numVars refl)
 
     pub vars-fit : total numVars (headersIn n ws₀) ≤ 4294967295 → last .«var_offset» + numVars last < 2 ^ 32
@@ -89,7 +95,7 @@ module _ {ws₀ : List ℕ} {n : ℕ} {ws : List ℕ} {vars terms i : ℕ} (g : 
     terms-next =
         let a = g .terms-are in
         ap (λ (r : List MonomialHeader). getD r 15 noHeader .«term_offset» + numTerms (getD r 15 noHeader)) f
-        ∙ terms-carried vars terms taken 15 (taken-length (drop (4 * i) ws) k taken e few)
+        ∙ terms-carried vars terms taken 15 sixteen
         ∙ omega (arith, total-taken numTerms refl)
 
     pub terms-fit : total numTerms (headersIn n ws₀) ≤ 4294967295 → last .«term_offset» + numTerms last < 2 ^ 32
@@ -102,7 +108,7 @@ module _ {ws₀ : List ℕ} {n : ℕ} {ws : List ℕ} {vars terms i : ℕ} (g : 
         let Z : List MonomialHeader = replicate (16 - k) noHeader in
         let v : ℕ = total numVars (headersIn i ws₀) in
         let t : ℕ = total numTerms (headersIn i ws₀) in
-        let x : taken ≡ X ++ Z = e ∙ ap (λ (r : List MonomialHeader). r ++ Z) hands in
+        let x : taken ≡ X ++ Z = e ∙ ap (λ (r : List MonomialHeader). r ++ Z) as-before in
         ap (take k) (f ∙ (λ j. withOffsets (g .vars-are j) (g .terms-are j) (x j)) ∙ offsets-append v t X Z)
         ∙ take-at (withOffsets v t X) (withOffsets (v + total numVars X) (t + total numTerms X) Z) k (offsets-length v t X ∙ in-length k (drop (4 * i) ws₀))
 
@@ -126,7 +132,7 @@ module _ {ws₀ : List ℕ} {n : ℕ} {ws : List ℕ} {vars terms i : ℕ} (g : 
 
     pub filled-next : {ws′ : List ℕ} → ws′ ≡ take (4 * i) ws ++ (wordsOf (take k filled) ++ drop (4 * i + 4 * k) ws)
         → Filled ws₀ n ws′ (last .«var_offset» + numVars last) (last .«term_offset» + numTerms last) (i + k)
-    filled-next w = record { upto = l; words-are = words-next w; vars-are = vars-next; terms-are = terms-next }
+    filled-next w = record { upto = upto-next; words-are = words-next w; vars-are = vars-next; terms-are = terms-next }
 
 pub filled-all : {ws₀ : List ℕ} {n : ℕ} {ws : List ℕ} {vars terms i : ℕ} → Filled ws₀ n ws vars terms i → n ≤ i → ws ≡ filledWords n ws₀
 filled-all {ws₀} {n} {i = i} g l = let e : i ≡ n = let u = g .upto in omega arith in g .words-are ∙ ap (λ (k : ℕ). filledWords k ws₀) e

@@ -1,11 +1,11 @@
 -- Headers and their words: taken out one by one, and put back.
 use mathlib.Core.Path.{_≡_, refl, sym, ap, _∙_}
-use mathlib.Core.List.{List, [], _∷_, _++_, append-assoc, append-nil}
+use mathlib.Core.List.{List, [], _∷_, _++_, append-assoc}
 use Prim.Native.Nat.{ℕ, zero, suc, _+_, _*_, _-_, _≤_, _<_}
 use native.Mathlib.Numerals.{add-one}
 use native.Mathlib.Omega.{arith}
 use lib.ListN.{length, getD, set, take, drop, replicate, length-append, length-replicate, take-append-drop}
-use lib.Seq.{take-suc, take-at, drop-at, drop-drop, getD-drop, length-take-le, set-at, sets, sets-eq, append-snoc}
+use lib.Seq.{take-suc, take-at, drop-at, drop-drop, getD-drop, length-take-le, set-at, sets-eq}
 use Rattle.header_offsets.specs.declared.MonomialHeader.{MonomialHeader}
 use Rattle.header_offsets.specs.Headers.{noHeader, headerIn, headersIn, wordsOf}
 

@@ -33,7 +33,11 @@ pub fn fill_offsets(headers: &mut [MonomialHeader], var_offset: u32, term_offset
 }
 
 // The same for sixteen headers by value, lent as a local array.
-pub fn fill_sixteen(headers: [MonomialHeader; 16], var_offset: u32, term_offset: u32) -> [MonomialHeader; 16]
+pub fn fill_sixteen(
+    headers: [MonomialHeader; 16],
+    var_offset: u32,
+    term_offset: u32,
+) -> [MonomialHeader; 16]
     requires { ⌜ («var_offset» + total numVars headers ≤ 4294967295) × («term_offset» + total numTerms headers ≤ 4294967295) ⌝ }
     ensures { λ r. ⌜ r ≡ withOffsets «var_offset» «term_offset» headers ⌝ }
 {

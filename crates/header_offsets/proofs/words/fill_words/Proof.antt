@@ -1,8 +1,6 @@
-use mathlib.Core.Path.{_≡_, refl, sym, ap, _∙_}
-use Prim.Native.Nat.{ℕ, _+_, _*_, _-_, _≤_}
+use Prim.Native.Nat.{_-_}
 use native.Mathlib.Omega.{arith}
 use borrow.Author.Needs.{needs}
-use lib.ListN.{length}
 use Rattle.header_offsets.proofs.Chunks.{Filled, filled-none, filled-long, vars-room, terms-room, vars-fit, terms-fit, filled-next, filled-all}
 use Rattle.header_offsets.proofs.words.fill_words.Statement.{statement}
 use Rattle.header_offsets.proofs.words.fill_words.Tie as tie
@@ -50,14 +48,10 @@ take-headers-requires c κs =
 fill-sixteen-requires : tie.Need-fill-sixteen-requires Inv-loop μ-loop
 fill-sixteen-requires c κs =
     let p = c .before .before .before .before .before .before .pre in
-    let b = c .before .before .before .before .loop in
-    let g = b .inv in
-    let t = c .before .before .before .loop-test .taken in
-    let k = c .before .before .at-most-sixteen in
-    let few : k .result ≤ 16 = omega arith in
-    let l : b .i + k .result ≤ c .before .before .before .before .before .before .args .n = omega arith in
+    let g = c .before .before .before .before .loop .inv in
+    let k = c .before .before .at-most-sixteen .ensures in
     let e = c .take-headers .ensures in
-    (vars-room g (k .result) few l e (p .1), terms-room g (k .result) few l e (p .2))
+    (vars-room g k e (p .1), terms-room g k e (p .2))
 
 -- src/words.rt:82:28
 mul-put-headers : tie.Need-mul-put-headers Inv-loop μ-loop
@@ -82,25 +76,21 @@ array-copy-out-last c = search needs
 add-vars : tie.Need-add-vars Inv-loop μ-loop
 add-vars c =
     let p = c .before .before .before .before .before .before .before .before .before .before .before .before .before .pre in
-    let b = c .before .before .before .before .before .before .before .before .before .before .before .loop in
-    let g = b .inv in
-    let t = c .before .before .before .before .before .before .before .before .before .before .loop-test .taken in
-    let k = c .before .before .before .before .before .before .before .before .before .at-most-sixteen in
-    let few : k .result ≤ 16 = omega arith in
-    let l : b .i + k .result ≤ c .before .before .before .before .before .before .before .before .before .before .before .before .before .args .n = omega arith in
-    record { fits = vars-fit g (k .result) few l (c .before .before .before .before .before .before .before .take-headers .ensures) (c .before .before .before .before .before .before .fill-sixteen .ensures) (p .1) }
+    let g = c .before .before .before .before .before .before .before .before .before .before .before .loop .inv in
+    let k = c .before .before .before .before .before .before .before .before .before .at-most-sixteen .ensures in
+    let e = c .before .before .before .before .before .before .before .take-headers .ensures in
+    let f = c .before .before .before .before .before .before .fill-sixteen .ensures in
+    record { fits = vars-fit g k e f (p .1) }
 
 -- src/words.rt:85:17
 add-terms : tie.Need-add-terms Inv-loop μ-loop
 add-terms c =
     let p = c .before .before .before .before .before .before .before .before .before .before .before .before .before .before .pre in
-    let b = c .before .before .before .before .before .before .before .before .before .before .before .before .loop in
-    let g = b .inv in
-    let t = c .before .before .before .before .before .before .before .before .before .before .before .loop-test .taken in
-    let k = c .before .before .before .before .before .before .before .before .before .before .at-most-sixteen in
-    let few : k .result ≤ 16 = omega arith in
-    let l : b .i + k .result ≤ c .before .before .before .before .before .before .before .before .before .before .before .before .before .before .args .n = omega arith in
-    record { fits = terms-fit g (k .result) few l (c .before .before .before .before .before .before .before .before .take-headers .ensures) (c .before .before .before .before .before .before .before .fill-sixteen .ensures) (p .2) }
+    let g = c .before .before .before .before .before .before .before .before .before .before .before .before .loop .inv in
+    let k = c .before .before .before .before .before .before .before .before .before .before .at-most-sixteen .ensures in
+    let e = c .before .before .before .before .before .before .before .before .take-headers .ensures in
+    let f = c .before .before .before .before .before .before .before .fill-sixteen .ensures in
+    record { fits = terms-fit g k e f (p .2) }
 
 -- src/words.rt:86:9
 add-i : tie.Need-add-i Inv-loop μ-loop
@@ -125,14 +115,11 @@ loop-less c =
 -- src/words.rt:78:5
 loop-again : tie.Need-loop-again Inv-loop μ-loop
 loop-again c =
-    let p = c .before .before .before .before .before .before .before .before .before .before .before .before .before .before .pre in
-    let b = c .before .before .before .before .before .before .before .before .before .before .before .before .loop in
-    let g = b .inv in
-    let t = c .before .before .before .before .before .before .before .before .before .before .before .loop-test .taken in
-    let k = c .before .before .before .before .before .before .before .before .before .before .at-most-sixteen in
-    let few : k .result ≤ 16 = omega arith in
-    let l : b .i + k .result ≤ c .before .before .before .before .before .before .before .before .before .before .before .before .before .before .args .n = omega arith in
-    filled-next g (k .result) few l (c .before .before .before .before .before .before .before .before .take-headers .ensures) (c .before .before .before .before .before .before .before .fill-sixteen .ensures) (c .before .before .before .before .before .put-headers .ensures)
+    let g = c .before .before .before .before .before .before .before .before .before .before .before .before .loop .inv in
+    let k = c .before .before .before .before .before .before .before .before .before .before .at-most-sixteen .ensures in
+    let e = c .before .before .before .before .before .before .before .before .take-headers .ensures in
+    let f = c .before .before .before .before .before .before .before .fill-sixteen .ensures in
+    filled-next g k e f (c .before .before .before .before .before .put-headers .ensures)
 
 -- src/words.rt:71:1
 same-length : tie.Need-same-length Inv-loop μ-loop

@@ -1,5 +1,5 @@
-use mathlib.Core.Path.{_≡_, refl, sym, ap, _∙_}
-use mathlib.Core.List.{List, _++_}
+use mathlib.Core.Path.{_≡_, refl, ap, _∙_}
+use mathlib.Core.List.{_++_}
 use Prim.Native.Nat.{ℕ, _+_, _*_, _-_, _≤_}
 use native.Mathlib.Omega.{arith}
 use borrow.Author.Needs.{needs}
@@ -18,39 +18,39 @@ Inv-loop words₀ at k headers j₀ words j = (j ≤ k) × (length words ≡ len
 abbrev μ-loop : tie.MeasureT-loop
 μ-loop words₀ at k headers j₀ words j = k - j
 
--- src/words.rt:58:5
+-- src/words.rt:64:5
 loop-holds : tie.Need-loop-holds Inv-loop μ-loop
 loop-holds c = (omega arith, refl, search needs, put-none (c .before .args .words .now) (c .before .args .at) (c .before .args .t4))
 
--- src/words.rt:59:32
+-- src/words.rt:65:32
 mul-put-header : tie.Need-mul-put-header Inv-loop μ-loop
 mul-put-header c = search needs
 
--- src/words.rt:59:27
+-- src/words.rt:65:27
 add-put-header : tie.Need-add-put-header Inv-loop μ-loop
 add-put-header c = search needs
 
--- src/words.rt:59:39
+-- src/words.rt:65:39
 mul-put-header-2 : tie.Need-mul-put-header-2 Inv-loop μ-loop
 mul-put-header-2 c = search needs
 
--- src/words.rt:59:39
+-- src/words.rt:65:39
 array-copy-out-put-header : tie.Need-array-copy-out-put-header Inv-loop μ-loop
 array-copy-out-put-header c = search needs
 
--- src/words.rt:59:9
+-- src/words.rt:65:9
 put-header-requires : tie.Need-put-header-requires Inv-loop μ-loop
 put-header-requires c κs = search needs
 
--- src/words.rt:60:9
+-- src/words.rt:66:9
 add-j : tie.Need-add-j Inv-loop μ-loop
 add-j c = search needs
 
--- src/words.rt:58:5
+-- src/words.rt:64:5
 loop-less : tie.Need-loop-less Inv-loop μ-loop
 loop-less c = search needs
 
--- src/words.rt:58:5
+-- src/words.rt:64:5
 loop-again : tie.Need-loop-again Inv-loop μ-loop
 loop-again c =
     let a = c .before .before .before .before .before .before .before .before .args in
@@ -65,11 +65,11 @@ loop-again c =
       put-next (a .words .now) (a .at) (a .t4) (b .j) (b .words) (h .3) (omega arith) (omega arith) (u .last .0) (u .ensures),
     )
 
--- src/words.rt:53:1
+-- src/words.rt:59:1
 same-length : tie.Need-same-length Inv-loop μ-loop
 same-length c = c .before .loop .inv .1
 
--- src/words.rt:53:1
+-- src/words.rt:59:1
 returns : tie.Need-returns Inv-loop μ-loop
 returns c =
     let a = c .before .before .before .args in
