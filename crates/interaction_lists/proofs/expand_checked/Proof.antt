@@ -1,8 +1,8 @@
-use mathlib.Core.Path.{_≡_, refl, sym, ap, subst, _∙_}
-use mathlib.Core.List.{List, [], _∷_, _++_}
+use mathlib.Core.Path.{ap, subst, _∙_}
+use mathlib.Core.List.{[], _∷_, _++_}
 use Prim.Native.Nat.{ℕ, _-_, _*_, _+_}
 use native.Mathlib.Omega.{arith}
-use lib.ListN.{length, take, drop, replicate, length-take}
+use lib.ListN.{length}
 use Rattle.semantics.specs.Arithmetic.{prime}
 use Rattle.semantics.specs.Check.{readSheet}
 use Rattle.semantics.specs.Walk.{order}
@@ -12,16 +12,12 @@ use Rattle.records.specs.Access.{recordsOf}
 use Rattle.records.proofs.Reading.{counts-small, counts, fields}
 use Rattle.expand.specs.declared.Expanded.{Expanded}
 use Rattle.expand.specs.Walking.{Expands}
-use Rattle.expansion.proofs.Walked.{counts-grouping, fields-grouping}
-use Rattle.expansion.proofs.Steps.{work-short, pool-short, interactions-refused, interactions-walked}
+use Rattle.interaction_lists.proofs.Walked.{counts-grouping, fields-grouping}
+use Rattle.constraint_lists.proofs.Steps.{work-short, pool-short}
+use Rattle.interaction_lists.proofs.Steps.{interactions-refused, interactions-walked}
 use borrow.Author.Needs.{needs}
-use Rattle.expansion.proofs.expand_checked_interactions.Statement.{statement}
-use Rattle.expansion.proofs.expand_checked_interactions.Tie as tie
-use Rattle.expansion.proofs.expand_checked_interactions.Reads as reads
-use Rattle.expansion.proofs.expand_checked_interactions.Lts as lts
-use Rattle.expansion.proofs.group_interactions.Reads as group-interactions-reads
-use Rattle.expansion.proofs.refusal_of.Reads as refusal-of-reads
-use Rattle.expansion.proofs.walk_interactions.Reads as walk-interactions-reads
+use Rattle.interaction_lists.proofs.expand_checked.Statement.{statement}
+use Rattle.interaction_lists.proofs.expand_checked.Tie as tie
 
 -- src/lib.rt:291:9
 returns : tie.Need-returns
@@ -144,8 +140,8 @@ returns-4 c =
       g .ensures .1,
     )
 
-pub expand-checked-interactions-spec : {M : Type 1} → statement M
-expand-checked-interactions-spec =
+pub expand-checked-spec : {M : Type 1} → statement M
+expand-checked-spec =
     tie.close
     (tie.spec
     returns

@@ -1,14 +1,9 @@
-use mathlib.Core.Path.{_≡_, refl, sym, ap, subst, _∙_}
-use mathlib.Core.List.{List, [], _∷_, _++_}
-use Prim.Native.Nat.{ℕ, _-_, _*_}
-use native.Mathlib.Omega.{arith}
-use lib.ListN.{length, take, drop, replicate, length-take}
-use Rattle.expansion.specs.Answers.{constraintsIn}
+use mathlib.Core.Path.{sym, ap}
+use Prim.Native.Nat.{_-_}
+use Rattle.constraint_lists.specs.Lists.{constraintsIn}
 use borrow.Author.Needs.{needs}
-use Rattle.expansion.proofs.constraints_in.Statement.{statement}
-use Rattle.expansion.proofs.constraints_in.Tie as tie
-use Rattle.expansion.proofs.constraints_in.Reads as reads
-use Rattle.expansion.proofs.constraints_in.Lts as lts
+use Rattle.constraint_lists.proofs.constraints_in.Statement.{statement}
+use Rattle.constraint_lists.proofs.constraints_in.Tie as tie
 
 -- src/lib.rt:44:26
 enum-known-grouped : tie.Need-enum-known-grouped

@@ -1,24 +1,16 @@
-use mathlib.Core.Path.{_≡_, refl, sym, ap, subst, _∙_}
-use mathlib.Core.List.{List, [], _∷_, _++_}
-use Prim.Native.Nat.{ℕ, _-_, _*_, _+_}
+use mathlib.Core.Path.{refl, _∙_}
+use Prim.Native.Nat.{_-_}
 use native.Mathlib.Omega.{arith}
-use lib.ListN.{length, take, drop, replicate, length-take}
+use lib.ListN.{length}
 use Rattle.semantics.specs.Check.{readSheet}
 use Rattle.semantics.specs.Group.{countRoots, fieldRoots, interactionTerm}
 use Rattle.grouping.specs.Families.{groupsOf}
-use Rattle.expansion.proofs.Walked.{interactions-there}
-use Rattle.expansion.proofs.Messages.{longest-is}
-use Rattle.expansion.proofs.Steps.{short-few, counts-refused, fields-refused, all-written}
+use Rattle.interaction_lists.proofs.Walked.{interactions-there}
+use Rattle.interaction_lists.proofs.Messages.{longest-is}
+use Rattle.interaction_lists.proofs.Steps.{short-few, counts-refused, fields-refused, all-written}
 use borrow.Author.Needs.{needs}
-use Rattle.expansion.proofs.group_interactions.Statement.{statement}
-use Rattle.expansion.proofs.group_interactions.Tie as tie
-use Rattle.expansion.proofs.group_interactions.Reads as reads
-use Rattle.expansion.proofs.group_interactions.Lts as lts
-use Rattle.expansion.proofs.max_fields_len.Reads as max-fields-len-reads
-use Rattle.expansion.proofs.too_short.Reads as too-short-reads
-use Rattle.grouping.proofs.group_counts.Reads as group-counts-reads
-use Rattle.grouping.proofs.group_fields.Reads as group-fields-reads
-use Rattle.records.proofs.interactions_at.Reads as interactions-at-reads
+use Rattle.interaction_lists.proofs.group_interactions.Statement.{statement}
+use Rattle.interaction_lists.proofs.group_interactions.Tie as tie
 
 -- src/lib.rt:255:9
 group-counts-requires : tie.Need-group-counts-requires

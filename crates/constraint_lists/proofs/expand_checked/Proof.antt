@@ -1,8 +1,8 @@
-use mathlib.Core.Path.{_≡_, refl, sym, ap, subst, _∙_}
-use mathlib.Core.List.{List, [], _∷_, _++_}
+use mathlib.Core.Path.{refl, ap, subst}
+use mathlib.Core.List.{[], _∷_}
 use Prim.Native.Nat.{ℕ, _-_, _*_}
 use native.Mathlib.Omega.{arith}
-use lib.ListN.{length, take, drop, replicate, length-take}
+use lib.ListN.{length}
 use Rattle.semantics.specs.Arithmetic.{prime}
 use Rattle.semantics.specs.Check.{readSheet}
 use Rattle.semantics.specs.Walk.{order}
@@ -12,17 +12,11 @@ use Rattle.records.specs.Access.{recordsOf}
 use Rattle.records.proofs.Reading.{counts-small}
 use Rattle.expand.specs.declared.Expanded.{Expanded}
 use Rattle.expand.specs.Walking.{Expands}
-use Rattle.expansion.proofs.Walked.{constraints-grouping}
-use Rattle.expansion.proofs.Steps.{work-short, pool-short, constraints-refused, constraints-grouped}
+use Rattle.constraint_lists.proofs.Walked.{constraints-grouping}
+use Rattle.constraint_lists.proofs.Steps.{work-short, pool-short, constraints-refused, constraints-grouped}
 use borrow.Author.Needs.{needs}
-use Rattle.expansion.proofs.expand_checked.Statement.{statement}
-use Rattle.expansion.proofs.expand_checked.Tie as tie
-use Rattle.expansion.proofs.expand_checked.Reads as reads
-use Rattle.expansion.proofs.expand_checked.Lts as lts
-use Rattle.expansion.proofs.constraints_in.Reads as constraints-in-reads
-use Rattle.grouping.proofs.group_constraints.Reads as group-constraints-reads
-use Rattle.expansion.proofs.refusal_of.Reads as refusal-of-reads
-use Rattle.expansion.proofs.walk_constraints.Reads as walk-constraints-reads
+use Rattle.constraint_lists.proofs.expand_checked.Statement.{statement}
+use Rattle.constraint_lists.proofs.expand_checked.Tie as tie
 
 -- src/lib.rt:84:9
 returns : tie.Need-returns

@@ -1,22 +1,17 @@
-use mathlib.Core.Path.{_≡_, refl, sym, ap, subst, _∙_}
-use mathlib.Core.List.{List, [], _∷_, _++_}
+use mathlib.Core.Path.{subst}
+use mathlib.Core.List.{List, _++_}
 use Prim.Native.Nat.{ℕ, _-_, _*_, _+_}
 use native.Mathlib.Omega.{arith}
-use lib.ListN.{length, take, drop, replicate, length-take}
+use lib.ListN.{length, take, drop, length-take}
 use Rattle.semantics.specs.Check.{readSheet}
 use Rattle.records.specs.Orders.{Visiting}
 use Rattle.records.proofs.Reading.{counts, fields}
 use Rattle.expand.specs.Walking.{Holds, Expands}
-use Rattle.expansion.proofs.Walked.{walk-starts, walk-ends, interactions-there, counts-there, fields-there, counts-below, first-refused, second-walking, both-walked}
+use Rattle.constraint_lists.proofs.Walked.{walk-starts, walk-ends}
+use Rattle.interaction_lists.proofs.Walked.{interactions-there, counts-there, fields-there, counts-below, first-refused, second-walking, both-walked}
 use borrow.Author.Needs.{needs}
-use Rattle.expansion.proofs.walk_interactions.Statement.{statement}
-use Rattle.expansion.proofs.walk_interactions.Tie as tie
-use Rattle.expansion.proofs.walk_interactions.Reads as reads
-use Rattle.expansion.proofs.walk_interactions.Lts as lts
-use Rattle.expand.proofs.expand_counts.Reads as expand-counts-reads
-use Rattle.expand.proofs.expand_fields.Reads as expand-fields-reads
-use Rattle.records.proofs.interactions_at.Reads as interactions-at-reads
-use Rattle.slices.proofs.zero_all.Reads as zero-all-reads
+use Rattle.interaction_lists.proofs.walk_interactions.Statement.{statement}
+use Rattle.interaction_lists.proofs.walk_interactions.Tie as tie
 
 -- src/lib.rt:186:17
 mul-heads : tie.Need-mul-heads

@@ -1,15 +1,11 @@
-use mathlib.Core.Path.{_≡_, refl, sym, ap, subst, _∙_}
-use mathlib.Core.List.{List, [], _∷_, _++_}
-use Prim.Native.Nat.{ℕ, _-_, _*_, _+_}
+use mathlib.Core.Path.{sym, ap, subst}
+use Prim.Native.Nat.{_-_}
 use native.Mathlib.Omega.{arith}
-use lib.ListN.{length, take, drop, replicate, length-take}
 use Rattle.grouping.specs.declared.Grouped.{Grouped}
-use Rattle.expansion.specs.Answers.{shortOf, ShortFew}
+use Rattle.interaction_lists.specs.Lists.{shortOf, ShortFew}
 use borrow.Author.Needs.{needs}
-use Rattle.expansion.proofs.too_short.Statement.{statement}
-use Rattle.expansion.proofs.too_short.Tie as tie
-use Rattle.expansion.proofs.too_short.Reads as reads
-use Rattle.expansion.proofs.too_short.Lts as lts
+use Rattle.interaction_lists.proofs.too_short.Statement.{statement}
+use Rattle.interaction_lists.proofs.too_short.Tie as tie
 
 -- src/lib.rt:229:24
 enum-known-grouped : tie.Need-enum-known-grouped

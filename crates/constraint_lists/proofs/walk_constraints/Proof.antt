@@ -1,20 +1,15 @@
-use mathlib.Core.Path.{_≡_, refl, sym, ap, subst, _∙_}
-use mathlib.Core.List.{List, [], _∷_, _++_}
+use mathlib.Core.Path.{subst}
+use mathlib.Core.List.{List}
 use Prim.Native.Nat.{ℕ, _-_, _*_}
 use native.Mathlib.Omega.{arith}
-use lib.ListN.{length, take, drop, replicate, length-take}
+use lib.ListN.{length, take, drop, length-take}
 use Rattle.semantics.specs.Walk.{order}
 use Rattle.records.specs.Access.{recordsOf}
 use Rattle.expand.specs.Walking.{Expands}
-use Rattle.expansion.proofs.Walked.{walk-starts, walk-ends, names-there, names-are}
+use Rattle.constraint_lists.proofs.Walked.{walk-starts, walk-ends, names-there, names-are}
 use borrow.Author.Needs.{needs}
-use Rattle.expansion.proofs.walk_constraints.Statement.{statement}
-use Rattle.expansion.proofs.walk_constraints.Tie as tie
-use Rattle.expansion.proofs.walk_constraints.Reads as reads
-use Rattle.expansion.proofs.walk_constraints.Lts as lts
-use Rattle.expand.proofs.expand_names.Reads as expand-names-reads
-use Rattle.records.proofs.constraints_at.Reads as constraints-at-reads
-use Rattle.slices.proofs.zero_all.Reads as zero-all-reads
+use Rattle.constraint_lists.proofs.walk_constraints.Statement.{statement}
+use Rattle.constraint_lists.proofs.walk_constraints.Tie as tie
 
 -- src/lib.rt:63:17
 mul-heads : tie.Need-mul-heads

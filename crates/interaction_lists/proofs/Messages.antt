@@ -1,17 +1,17 @@
 -- The largest message length, from the words.
 use mathlib.Core.Path.{_≡_, refl, sym, ap, subst, _∙_}
 use mathlib.Core.List.{List, [], _∷_, _++_, foldr, flatMap}
-use Prim.Native.Nat.{ℕ, zero, suc, _+_, _-_, _≤_, _<_, max}
+use Prim.Native.Nat.{ℕ, suc, _+_, _-_, _≤_, _<_, max}
 use native.Mathlib.Omega.{arith}
-use lib.ListN.{length, getD, drop}
+use lib.ListN.{length, drop}
 use Rattle.semantics.specs.Arithmetic.{prime}
 use Rattle.semantics.specs.Answer.{good}
 use Rattle.semantics.specs.Sheet.{Interaction, interactionWords}
 use Rattle.semantics.specs.Check.{readSheet, check}
 use Rattle.semantics.specs.Call.{maxFieldsLen}
-use Rattle.records.specs.Access.{recordsOf, messageLength, interactionsAt, RootsInside, AllRootsInside}
+use Rattle.records.specs.Access.{messageLength, interactionsAt, RootsInside, AllRootsInside}
 use Rattle.records.proofs.Reading.{first-stands, length-is, next-stands, interactions-stand}
-use Rattle.expansion.specs.Answers.{longestFrom}
+use Rattle.interaction_lists.specs.Lists.{longestFrom}
 
 longest-words : (rest ws : List ℕ) (at : ℕ) (xs : List Interaction) → drop at ws ≡ flatMap interactionWords xs ++ rest
     → longestFrom ws at (length xs) ≡ foldr (λ (x : Interaction) (n : ℕ). max (length (x .message)) n) 0 xs
