@@ -10,9 +10,9 @@ ghost use Rattle.listing.specs.declared.headers.Family.the-variants.{Numerators
 ghost use Rattle.listing.specs.Putting.{Room, Puts};
 ghost use Rattle.sheet_listing.specs.Fronts.{frontLines, Fronts, numberOf};
 use constraint_lists::ConstraintLists;
+use grouping::Lengths;
 use interaction_lists::InteractionLengths;
 use interaction_lists::InteractionLists;
-use grouping::Lengths;
 use libc::STDOUT_FILENO;
 use listing::headers;
 use listing::headers::Family;
