@@ -3,3 +3,4 @@ pub mod Steps
 pub mod Visits
 pub mod Rooting
 pub mod Reading
+pub mod Writing
