@@ -86,16 +86,15 @@ fn add_expr(sheet: &[u32], scratch: &mut [u32], out: &mut [u32], r: usize, n: us
     if scratch[r] != 0 {
         return n;
     }
-    let q = records::record_at(sheet, r);
-    if q.kind < 6 {
+    if records::kind_at(sheet, r) < 6 {
         return add_record(sheet, scratch, out, r, n);
     }
-    let left = records::wide(q.a);
+    let left = records::left_at(sheet, r);
     let one = add_expr(sheet, scratch, out, left, n);
-    if q.kind == 8 {
+    if records::kind_at(sheet, r) == 8 {
         return add_record(sheet, scratch, out, r, one);
     }
-    let right = records::wide(q.b);
+    let right = records::right_at(sheet, r);
     let two = add_expr(sheet, scratch, out, right, one);
     add_record(sheet, scratch, out, r, two)
 }
@@ -133,9 +132,9 @@ fn add_interaction(
     requires { ⌜ Walking (now sheet) (now scratch) (now out) n × RootsInside (length (recordsOf (now sheet))) (now sheet) at ⌝ }
     ensures { λ u. ⌜ Walks (now (sheet .entry)) (fieldsAt (now (sheet .entry)) at ++ countAt (now (sheet .entry)) at) (now (scratch .entry)) (now (out .entry)) n (now (scratch .exit)) (now (out .exit)) u ⌝ }
 {
-    let message = records::wide(sheet[at + 3]);
-    let fields = add_names(sheet, at + 4, message, scratch, out, n);
-    add_names(sheet, at + 2, 1, scratch, out, fields)
+    let x = records::interaction_at(sheet, at);
+    let fields = add_names(sheet, x.fields, x.message, scratch, out, n);
+    add_names(sheet, x.count, 1, scratch, out, fields)
 }
 
 // Adds what the interactions from `at` on name.
@@ -154,9 +153,9 @@ pub fn add_interactions(
     let mut from = at;
     let mut i: usize = 0;
     while i < count {
-        let message = records::wide(sheet[from + 3]);
+        let x = records::interaction_at(sheet, from);
         used = add_interaction(sheet, from, scratch, out, used);
-        from = from + 4 + message;
+        from = x.next;
         i += 1;
     }
     used
