@@ -2,7 +2,7 @@
 ghost use mathlib.Core.Path.{_≡_};
 ghost use mathlib.Core.List.{[], _∷_};
 ghost use Prim.Native.Nat.{_+_, _*_, _^_, _≤_, _<_};
-ghost use lib.ListN.{length};
+ghost use lib.ListN.{length, getD};
 ghost use lib.Seq.{sets};
 ghost use Rattle.semantics.specs.Arithmetic.{prime};
 ghost use Rattle.semantics.specs.Answer.{good};
@@ -179,4 +179,13 @@ pub fn interaction_at(sheet: &[u32], at: usize) -> Interaction
     ensures { λ x. ⌜ x ≡ interactionFrom at (messageLength (now (sheet .entry)) at) ⌝ }
 {
     interaction_from(at, wide(sheet[at + 3]))
+}
+
+// Copies the bus and the weight of the interaction that starts at `at` to the one that starts at `to`.
+pub fn copy_bus_and_weight(sheet: &[u32], at: usize, out: &mut [u32], to: usize)
+    requires { ⌜ (at + 2 ≤ length (now sheet)) × (to + 2 ≤ length (now out)) ⌝ }
+    ensures { λ _. ⌜ now (out .exit) ≡ sets (now (out .entry)) to (getD (now (sheet .entry)) at 0 ∷ getD (now (sheet .entry)) (at + 1) 0 ∷ []) ⌝ }
+{
+    out[to] = sheet[at];
+    out[to + 1] = sheet[at + 1];
 }
