@@ -12,7 +12,7 @@ ghost use Rattle.records.specs.Access.{nodeIn, recordsOf, part, fieldsAt, count
 ghost use Rattle.records.specs.Orders.{Order, There};
 ghost use Rattle.nodes.specs.Picks.{pickOf, viewOf};
 ghost use Rattle.nodes.specs.Memory.{Holds};
-ghost use Rattle.graph_walk.specs.Walking.{Ready, Adding, pickOfRecord, Walking, Walks};
+ghost use Rattle.graph_walk.specs.Walking.{Ready, Adding, pickOfRecord, childOf, Walking, Walks};
 use nodes::rules;
 use nodes::rules::Child;
 use nodes::rules::Pick;
@@ -78,7 +78,22 @@ fn add_record(sheet: &[u32], scratch: &mut [u32], out: &mut [u32], r: usize, n: 
     }
 }
 
+// The child to which the walk goes from a record with children: left at first, then right; a Neg's only one both times, which changes nothing the second time.
+fn child_at(sheet: &[u32], r: usize, i: usize) -> usize
+    requires { ⌜ 4 + 5 * r + 5 ≤ length (now sheet) ⌝ }
+    ensures { λ x. ⌜ x ≡ childOf (nodeIn (now (sheet .entry)) r) i ⌝ }
+{
+    if i == 0 {
+        return records::left_at(sheet, r);
+    }
+    if records::kind_at(sheet, r) == 8 {
+        return records::left_at(sheet, r);
+    }
+    records::right_at(sheet, r)
+}
+
 // Adds record r with all that it reaches, children first, left before right; hands back the number of nodes.
+// The call for a child stands once, in a loop: a second one would have room of its own in the stack of each level.
 fn add_expr(sheet: &[u32], scratch: &mut [u32], out: &mut [u32], r: usize, n: usize) -> usize
     requires { ⌜ Ready (now sheet) r (now scratch) (now out) n ⌝ }
     ensures { λ u. ⌜ ((done : List ℕ) → Order (now (sheet .entry)) done → Holds (now (sheet .entry)) done (now (scratch .entry)) (now (out .entry)) n → Holds (now (sheet .entry)) (visit (childrenAt (recordsOf (now (sheet .entry)))) (suc r) done r) (now (scratch .exit)) (now (out .exit)) u) ⌝ }
@@ -89,14 +104,14 @@ fn add_expr(sheet: &[u32], scratch: &mut [u32], out: &mut [u32], r: usize, n: us
     if records::kind_at(sheet, r) < 6 {
         return add_record(sheet, scratch, out, r, n);
     }
-    let left = records::left_at(sheet, r);
-    let one = add_expr(sheet, scratch, out, left, n);
-    if records::kind_at(sheet, r) == 8 {
-        return add_record(sheet, scratch, out, r, one);
+    let mut used = n;
+    let mut i: usize = 0;
+    while i < 2 {
+        let child = child_at(sheet, r, i);
+        used = add_expr(sheet, scratch, out, child, used);
+        i += 1;
     }
-    let right = records::right_at(sheet, r);
-    let two = add_expr(sheet, scratch, out, right, one);
-    add_record(sheet, scratch, out, r, two)
+    add_record(sheet, scratch, out, r, used)
 }
 
 // Adds the records that the words from `at` on name.
