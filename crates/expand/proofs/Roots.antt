@@ -185,7 +185,7 @@ module _ {one : ℕ → List ℕ} {ws : List ℕ} {at count : ℕ} {work₀ pool
           unfolding eachWords
           passing-refused {v} g =
               let k : count - i ≡ suc (count - (i + 1)) = omega arith in
-              let rest : List ℕ = eachWords one ws (from + (4 + messageLength ws from)) (count - (i + 1)) in
+              let rest : List ℕ = eachWords one ws (interactionFrom from (messageLength ws from) .next) (count - (i + 1)) in
               far-refused ws work₀ pool₀ used₀ p (h .roots) work pool used (h .far) (one from) work₁ pool₁ u next v g rest (eachWords one ws at count)
               (sym (h .passed .whole) ∙ ap (λ (n : ℕ). h .roots ++ eachWords one ws from n) k)
 
