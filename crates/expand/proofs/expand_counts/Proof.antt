@@ -14,16 +14,17 @@ abbrev μ-loop : tie.MeasureT-loop
 μ-loop sheet at count work₀ pool₀ used taken₀ from₀ i₀ work pool taken from i = count - i
 
 loop-holds : tie.Need-loop-holds Inv-loop μ-loop
-loop-holds c = let p = c .before .before .before .pre in passing-none (p .0) (p .1)
+loop-holds c = passing-none (c .before .before .before .pre .0) (c .before .before .before .pre .1)
 
 interaction-at-requires : tie.Need-interaction-at-requires Inv-loop μ-loop
 interaction-at-requires c κs = next-inside (c .before .before .before .before .before .pre .0) (c .before .loop .inv) (c .loop-test .taken) .inside
 
 expand-names-requires : tie.Need-expand-names-requires Inv-loop μ-loop
 expand-names-requires c κs =
-    let s = c .before .before .before .before .before .before .before .before in
-    let h = c .before .before .before .before .loop .inv in
-    (passing-walking (s .pre .0) h, names-next (s .pre .0) h (c .before .before .before .loop-test .taken) (count-taken (s .args .sheet .now)) (c .before .before .interaction-at .ensures))
+    let l = c .before .before .before in
+    let s = l .before .before .before .before .before in
+    let h = l .before .loop .inv in
+    (passing-walking (s .pre .0) h, names-next (s .pre .0) h (l .loop-test .taken) (count-taken (s .args .sheet .now)) (c .before .before .interaction-at .ensures))
 
 enum-known-answer : tie.Need-enum-known-answer Inv-loop μ-loop
 enum-known-answer c = search needs
@@ -32,17 +33,18 @@ enum-told : tie.Need-enum-told Inv-loop μ-loop
 enum-told c = search needs
 
 same-length : tie.Need-same-length Inv-loop μ-loop
-same-length c = c .before .before .before .before .before .before .expand-names .kept .1 .1 .1 .0 ∙ c .before .before .before .before .before .before .before .before .before .before .before .loop .inv .far .work-length
+same-length c = let v = c .before .before .before .before .before .before in v .expand-names .kept .1 .1 .1 .0 ∙ v .before .before .before .before .before .loop .inv .far .work-length
 
 same-length-2 : tie.Need-same-length-2 Inv-loop μ-loop
-same-length-2 c = c .before .before .before .before .before .before .expand-names .kept .1 .1 .1 .1 .0 ∙ c .before .before .before .before .before .before .before .before .before .before .before .loop .inv .far .pool-length
+same-length-2 c = let v = c .before .before .before .before .before .before in v .expand-names .kept .1 .1 .1 .1 .0 ∙ v .before .before .before .before .before .loop .inv .far .pool-length
 
 returns : tie.Need-returns Inv-loop μ-loop
 returns c =
-    let s = c .before .before .before .before .before .before .before .before .before .before .before .before .before .before .before in
-    let v = c .before .before .before .before .before .before .expand-names in
-    passing-refused (s .pre .0) (c .before .before .before .before .before .before .before .before .before .before .before .loop .inv) (c .before .before .before .before .before .before .before .before .before .before .loop-test .taken) (count-taken (s .args .sheet .now)) (c .before .before .before .before .before .before .before .before .before .interaction-at .ensures)
-    (v .last .1 .1 .1 .0) (v .last .1 .1 .1 .1 .0) (v .result) (v .ensures) (c .enum-told .given .1)
+    let v = c .before .before .before .before .before .before in
+    let l = v .before .before .before .before in
+    let s = l .before .before .before .before .before in
+    passing-refused (s .pre .0) (l .before .loop .inv) (l .loop-test .taken) (count-taken (s .args .sheet .now)) (v .before .before .before .interaction-at .ensures)
+    (v .expand-names .last .1 .1 .1 .0) (v .expand-names .last .1 .1 .1 .1 .0) (v .expand-names .result) (v .expand-names .ensures) (c .enum-told .given .1)
 
 add-i : tie.Need-add-i Inv-loop μ-loop
 add-i c = search needs
@@ -52,10 +54,12 @@ loop-less c = search needs
 
 loop-again : tie.Need-loop-again Inv-loop μ-loop
 loop-again c =
-    let s = c .before .before .before .before .before .before .before .before .before .before .before .before .before .before .before .before in
-    let v = c .before .before .before .before .before .before .before .expand-names in
-    passing-more (s .pre .0) (c .before .before .before .before .before .before .before .before .before .before .before .before .loop .inv) (c .before .before .before .before .before .before .before .before .before .before .before .loop-test .taken) (count-taken (s .args .sheet .now)) (c .before .before .before .before .before .before .before .before .before .before .interaction-at .ensures)
-    (v .last .1 .1 .1 .0) (v .last .1 .1 .1 .1 .0) (v .result) (v .ensures) (v .kept .1 .1 .1 .0) (v .kept .1 .1 .1 .1 .0) (c .before .answer .given .1)
+    let v = c .before .before .before .before .before .before .before in
+    let l = v .before .before .before .before in
+    let s = l .before .before .before .before .before in
+    passing-more (s .pre .0) (l .before .loop .inv) (l .loop-test .taken) (count-taken (s .args .sheet .now)) (v .before .before .before .interaction-at .ensures)
+    (v .expand-names .last .1 .1 .1 .0) (v .expand-names .last .1 .1 .1 .1 .0) (v .expand-names .result) (v .expand-names .ensures)
+    (v .expand-names .kept .1 .1 .1 .0) (v .expand-names .kept .1 .1 .1 .1 .0) (c .before .answer .given .1)
 
 same-length-3 : tie.Need-same-length-3 Inv-loop μ-loop
 same-length-3 c = c .before .loop .inv .far .work-length

@@ -14,13 +14,19 @@ abbrev μ-loop : tie.MeasureT-loop
 μ-loop sheet at count work₀ pool₀ used taken₀ j₀ work pool taken j = count - j
 
 loop-holds : tie.Need-loop-holds Inv-loop μ-loop
-loop-holds c = let p = c .before .before .before .pre in naming-none (p .0) (p .1)
+loop-holds c = naming-none (c .before .before .before .pre .0) (c .before .before .before .pre .1)
 
 add-wide : tie.Need-add-wide Inv-loop μ-loop
-add-wide c = let s = c .before .before .before .before .before in let h : s .args .at + c .before .loop .j < length (s .args .sheet .now) = omega (arith, s .pre .1 .inside) in search needs
+add-wide c =
+    let s = c .before .before .before .before .before in
+    let h : s .args .at + c .before .loop .j < length (s .args .sheet .now) = omega (arith, s .pre .1 .inside) in
+    search needs
 
 mul-wide : tie.Need-mul-wide Inv-loop μ-loop
-mul-wide c = let s = c .before .before .before .before .before in let h : s .args .at + c .before .loop .j < length (s .args .sheet .now) = omega (arith, s .pre .1 .inside) in search needs
+mul-wide c =
+    let s = c .before .before .before .before .before in
+    let h : s .args .at + c .before .loop .j < length (s .args .sheet .now) = omega (arith, s .pre .1 .inside) in
+    search needs
 
 shared-slice-read-wide : tie.Need-shared-slice-read-wide Inv-loop μ-loop
 shared-slice-read-wide c = omega (arith, c .before .before .before .before .before .before .pre .1 .inside)
@@ -29,7 +35,10 @@ wide-requires : tie.Need-wide-requires Inv-loop μ-loop
 wide-requires c κs = search needs
 
 expand-node-requires : tie.Need-expand-node-requires Inv-loop μ-loop
-expand-node-requires c κs = let p = c .before .before .before .before .before .before .before .before .before .pre in ready-name (p .0) (p .1) (c .before .before .before .before .before .loop .inv) (omega arith) (c .before .before .wide .ensures)
+expand-node-requires c κs =
+    let l = c .before .before .before .before .before in
+    let p = l .before .before .before .before .pre in
+    ready-name (p .0) (p .1) (l .loop .inv) (omega arith) (c .before .before .wide .ensures)
 
 enum-known-answer : tie.Need-enum-known-answer Inv-loop μ-loop
 enum-known-answer c = search needs
@@ -38,16 +47,18 @@ enum-told : tie.Need-enum-told Inv-loop μ-loop
 enum-told c = search needs
 
 same-length : tie.Need-same-length Inv-loop μ-loop
-same-length c = c .before .before .before .before .before .before .expand-node .kept .1 .0 ∙ c .before .before .before .before .before .before .before .before .before .before .before .before .loop .inv .far .work-length
+same-length c = let v = c .before .before .before .before .before .before in v .expand-node .kept .1 .0 ∙ v .before .before .before .before .before .before .loop .inv .far .work-length
 
 same-length-2 : tie.Need-same-length-2 Inv-loop μ-loop
-same-length-2 c = c .before .before .before .before .before .before .expand-node .kept .1 .1 .0 ∙ c .before .before .before .before .before .before .before .before .before .before .before .before .loop .inv .far .pool-length
+same-length-2 c = let v = c .before .before .before .before .before .before in v .expand-node .kept .1 .1 .0 ∙ v .before .before .before .before .before .before .loop .inv .far .pool-length
 
 returns : tie.Need-returns Inv-loop μ-loop
 returns c =
-    let p = c .before .before .before .before .before .before .before .before .before .before .before .before .before .before .before .before .pre in
-    let v = c .before .before .before .before .before .before .expand-node in
-    naming-refused (p .0) (p .1) (c .before .before .before .before .before .before .before .before .before .before .before .before .loop .inv) (omega arith) (c .before .before .before .before .before .before .before .before .before .wide .ensures) (v .last .1 .0) (v .last .1 .1 .0) (v .result) (v .ensures) (c .enum-told .given .1)
+    let v = c .before .before .before .before .before .before in
+    let l = v .before .before .before .before .before .before in
+    let p = l .before .before .before .before .pre in
+    naming-refused (p .0) (p .1) (l .loop .inv) (omega arith) (v .before .before .before .wide .ensures)
+    (v .expand-node .last .1 .0) (v .expand-node .last .1 .1 .0) (v .expand-node .result) (v .expand-node .ensures) (c .enum-told .given .1)
 
 add-j : tie.Need-add-j Inv-loop μ-loop
 add-j c = search needs
@@ -57,9 +68,12 @@ loop-less c = search needs
 
 loop-again : tie.Need-loop-again Inv-loop μ-loop
 loop-again c =
-    let p = c .before .before .before .before .before .before .before .before .before .before .before .before .before .before .before .before .before .pre in
-    let v = c .before .before .before .before .before .before .before .expand-node in
-    naming-more (p .0) (p .1) (c .before .before .before .before .before .before .before .before .before .before .before .before .before .loop .inv) (omega arith) (c .before .before .before .before .before .before .before .before .before .before .wide .ensures) (v .last .1 .0) (v .last .1 .1 .0) (v .result) (v .ensures) (v .kept .1 .0) (v .kept .1 .1 .0) (c .before .answer .given .1)
+    let v = c .before .before .before .before .before .before .before in
+    let l = v .before .before .before .before .before .before in
+    let p = l .before .before .before .before .pre in
+    naming-more (p .0) (p .1) (l .loop .inv) (omega arith) (v .before .before .before .wide .ensures)
+    (v .expand-node .last .1 .0) (v .expand-node .last .1 .1 .0) (v .expand-node .result) (v .expand-node .ensures)
+    (v .expand-node .kept .1 .0) (v .expand-node .kept .1 .1 .0) (c .before .answer .given .1)
 
 same-length-3 : tie.Need-same-length-3 Inv-loop μ-loop
 same-length-3 c = c .before .loop .inv .far .work-length

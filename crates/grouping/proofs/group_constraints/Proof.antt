@@ -15,6 +15,15 @@ use Rattle.grouping.proofs.group_constraints.Tie as tie
 abbrev start : tie.After-num-constraints → tie.Start
 start c = c .before .before .before .before .before .before .before .before .before .before .before
 
+abbrev named : tie.After-known-told → tie.After-num-constraints
+named c = c .before .before .before .before .before .before .before
+
+abbrev counted : tie.After-known-told2 → tie.After-known-told
+counted c = c .before .before .before .before .before
+
+abbrev fitting : tie.After-start-groups → tie.After-known-told2
+fitting c = c .before .before .before
+
 -- What stands where the names are known, the rows are counted, there is room, and the terms may be placed.
 begun : (n : tie.After-num-constraints) → let a = start n .args in Begun (a .sheet .now) (a .pool .now) (constraintRoots (readSheet (a .sheet .now))) (n .before .before .before .before .zero-all .last .0) (part (n .before .constraints-at .result) (n .num-constraints .result) (a .sheet .now))
 begun n = record {
@@ -24,29 +33,29 @@ begun n = record {
   names-are = constraint-names (start n .args .sheet .now) (start n .pre .checked) (n .before .constraints-at .ensures) (n .num-constraints .ensures);
 }
 
-rowed : (c : tie.After-known-told) → let a = start (c .before .before .before .before .before .before .before) .args in
+rowed : (c : tie.After-known-told) → let a = start (named c) .args in
     Rowed (a .sheet .now) (a .pool .now) (constraintRoots (readSheet (a .sheet .now))) (c .before .counted .given .0 .0) (c .before .before .before .before .before .tally-names .last .1 .1 .1 .0)
-rowed c = let v = c .before .before .before .before .before .tally-names in fit-rows (begun (c .before .before .before .before .before .before .before)) (v .last .1 .1 .1 .0) (v .result) (v .ensures) (c .before .counted .given .1)
+rowed c = let v = c .before .before .before .before .before .tally-names in fit-rows (begun (named c)) (v .last .1 .1 .1 .0) (v .result) (v .ensures) (c .before .counted .given .1)
 
-fits : (c : tie.After-known-told2) → let r = c .before .before .before .before .before in
-    let a = start (r .before .before .before .before .before .before .before) .args in
+fits : (c : tie.After-known-told2) → let r = counted c in
+    let a = start (named r) .args in
     Fits (a .sheet .now) (a .pool .now) (constraintRoots (readSheet (a .sheet .now))) false (r .before .counted .given .0 .0) (r .before .before .before .before .before .tally-names .last .1 .1 .1 .0)
     (a .variables .now) (a .terms .now) (c .before .fit .given .0 .0)
 fits c =
-    let a = start (c .before .before .before .before .before .before .before .before .before .before .before .before) .args in
+    let a = start (named (counted c)) .args in
     let u = c .before .before .before .room-for in
-    fit-fits (rowed (c .before .before .before .before .before)) false (a .variables .now) (a .terms .now) (u .result) (u .ensures) (c .before .fit .given .1)
+    fit-fits (rowed (counted c)) false (a .variables .now) (a .terms .now) (u .result) (u .ensures) (c .before .fit .given .1)
 
-started : (c : tie.After-start-groups) → let r = c .before .before .before .before .before .before .before .before in
-    let n = r .before .before .before .before .before .before .before in
+started : (c : tie.After-start-groups) → let r = counted (fitting c) in
+    let n = named r in
     let a = start n .args in
     Started (a .sheet .now) (a .pool .now) (constraintRoots (readSheet (a .sheet .now))) false (r .before .counted .given .0 .0) (r .before .before .before .before .before .tally-names .last .1 .1 .1 .0)
-    (a .variables .now) (a .terms .now) (c .before .before .before .before .fit .given .0 .0) (c .start-groups .last .0) (c .start-groups .last .1 .1 .1 .0) (labelled constraintRoot 0 (part (n .before .constraints-at .result) (n .num-constraints .result) (a .sheet .now)))
+    (a .variables .now) (a .terms .now) (fitting c .before .fit .given .0 .0) (c .start-groups .last .0) (c .start-groups .last .1 .1 .1 .0) (labelled constraintRoot 0 (part (n .before .constraints-at .result) (n .num-constraints .result) (a .sheet .now)))
 started c =
-    let n = c .before .before .before .before .before .before .before .before .before .before .before .before .before .before .before in
+    let n = named (counted (fitting c)) in
     let s = start n in record {
-      fits = fits (c .before .before .before);
-      placing = c .start-groups .ensures false (fit-terms (fits (c .before .before .before)));
+      fits = fits (fitting c);
+      placing = c .start-groups .ensures false (fit-terms (fits (fitting c)));
       roots-are = constraint-labelled (s .args .sheet .now) (s .pre .checked) (n .before .constraints-at .ensures) (n .num-constraints .ensures);
     }
 
@@ -96,7 +105,7 @@ same-length-2 c = search needs
 
 returns-2 : tie.Need-returns-2
 returns-2 c =
-    let a = start (c .before .before .before .before .before .before .before .before .before .before .before) .args in
+    let a = start (named (c .before .before .before .before)) .args in
     let u = c .before .before .room-for in
     fit-short (rowed (c .before .before .before .before)) false (a .variables .now) (a .terms .now) (u .result) (u .ensures) (c .enum-told2 .given .1)
 
@@ -107,7 +116,7 @@ start-groups-requires c κs =
 
 place-constraints-requires : tie.Need-place-constraints-requires
 place-constraints-requires c κs =
-    let n = c .before .before .before .before .before .before .before .before .before .before .before .before .before .before .before .before .before .before .before .before .before in
+    let n = named (counted (fitting (c .before .before .before .before .before .before))) in
     let s = start n in
     let x = constraint-span (s .args .sheet .now) (s .pre .checked) (n .before .constraints-at .ensures) (n .num-constraints .ensures) in
     (x .0, x .1, fit-place (started (c .before .before .before .before .before .before)))
@@ -122,7 +131,7 @@ same-length-3 c =
     let o = c .before .before .before .before in
     let q = o .before .before .before .before .before .before .before in
     let s = q .before .before .before .before .before .before .before in
-    let v = s .before .before .before .before .before .before .before .before .before .before .before .before .before in
+    let v = counted (fitting s) .before .before .before .before .before in
     o .finish-groups .kept .0 ∙ q .place-constraints .kept .1 .1 .1 .0 ∙ s .start-groups .kept .0 ∙ v .tally-names .kept .1 .1 .1 .0 ∙ v .before .before .before .before .before .before .zero-all .kept .0
 
 same-length-4 : tie.Need-same-length-4

@@ -12,23 +12,18 @@ use Rattle.grouping.proofs.start_groups.Lts as lts
 use Rattle.group.proofs.totals.start_terms.Reads as start-terms-reads
 use Rattle.slices.proofs.zero_all.Reads as zero-all-reads
 
--- src/lib.rt:56:5
 zero-all-requires : tie.Need-zero-all-requires
 zero-all-requires c κs = search needs
 
--- src/lib.rt:57:5
 start-terms-requires : tie.Need-start-terms-requires
 start-terms-requires c κs = let a = c .before .before .before .before .before .before .before .before .args in let p = c .before .before .before .before .before .before .before .before .pre in let t = total-is (a .n) (a .headers .now) (a .pool .now) (p .0) in let s = p .1 in (p .0 .room, omega arith)
 
--- src/lib.rt:52:1
 same-length : tie.Need-same-length
 same-length c = search needs
 
--- src/lib.rt:52:1
 same-length-2 : tie.Need-same-length-2
 same-length-2 c = search needs
 
--- src/lib.rt:52:1
 returns : tie.Need-returns
 returns c = let a = c .before .before .before .before .before .before .before .before .before .before .before .args in
     let p = c .before .before .before .before .before .before .before .before .before .before .before .pre in
