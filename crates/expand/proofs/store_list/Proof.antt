@@ -70,7 +70,8 @@ same-length : tie.Need-same-length
 same-length c = search needs
 
 returns-2 : tie.Need-returns-2
-returns-2 c = let a = c .before .before .before .before .before .before .before .before .args in
+returns-2 c =
+    let a = c .before .before .before .before .before .before .before .before .args in
     let l : List semantics.Monomial = held (a .count) (a .work .now) in
     (omega (arith, c .before .before .before .before .before .list-size .ensures), omega (arith, c .before .before .before .before .if1 .left), (λ i. set (set (tail-written (a .pool .now) (c .before .before .write-list .last .1 .1 .0) (listWords l) (a .used) (listSize l) (c .before .before .write-list .ensures) i) (2 * a .r) (a .used)) (2 * a .r + 1) (sym (held-length (a .count) (a .work .now)) i)))
 

@@ -10,7 +10,11 @@ same-length : tie.Need-same-length
 same-length c = search needs
 
 returns : tie.Need-returns
-returns c = let a = c .before .before .before .before .before .before .args in let p = c .before .before .before .before .before .before .pre in neg-made (a .pool .now) (a .x .at) (a .x .count) (c .before .before .negate-list .last .0) (p .1) (p .2) (c .before .before .negate-list .ensures)
+returns c =
+    let s = c .before .before .before .before .before .before in
+    let a = s .args in
+    let p = s .pre in
+    neg-made (a .pool .now) (a .x .at) (a .x .count) (c .before .before .negate-list .last .0) (p .1) (p .2) (c .before .before .negate-list .ensures)
 
 pub expand-neg-spec : {M : Type 1} → statement M
 expand-neg-spec = tie.close (tie.spec negate-list-requires same-length returns)
