@@ -79,7 +79,7 @@ pub fn group_constraints(
 {
     slices::zero_all(headers);
     let at = records::constraints_at(sheet);
-    let count = records::wide(sheet[2]);
+    let count = records::num_constraints(sheet);
     let counted = families::tally_names(sheet, at, count, headers, 0, pool);
     let Tallied::Headers(n) = counted else {
         return Grouped::Short(1);
@@ -107,7 +107,7 @@ pub fn group_counts(
 {
     slices::zero_all(headers);
     let at = records::interactions_at(sheet);
-    let count = records::wide(sheet[3]);
+    let count = records::num_interactions(sheet);
     let counted = families::tally_counts(sheet, at, count, headers, 0, pool);
     let Tallied::Headers(n) = counted else {
         return Grouped::Short(1);
@@ -135,7 +135,7 @@ pub fn group_fields(
 {
     slices::zero_all(headers);
     let at = records::interactions_at(sheet);
-    let count = records::wide(sheet[3]);
+    let count = records::num_interactions(sheet);
     let counted = families::tally_fields(sheet, at, count, headers, 0, pool);
     let Tallied::Headers(n) = counted else {
         return Grouped::Short(1);
