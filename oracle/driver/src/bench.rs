@@ -1,23 +1,39 @@
-//! The rewrite's builder against the Rust's, timed in one thread. Only the ratio is given, and only the time that the thread ran
-//! is counted: the machine may do other work.
+//! The rewrite's builder and expansions against the Rust's, timed in one thread. Only the time that the thread ran is counted: the
+//! machine may do other work.
 
 use std::hint::black_box;
 use std::time::Duration;
 
+use openvm_cuda_backend::monomial::{ExpandedInteractionMonomials, ExpandedMonomials};
 use openvm_stark_backend::air_builders::symbolic::SymbolicConstraintsDag;
+use plain::calls::Family;
 use plain::Sheet;
 
-use crate::rattle::builds;
+use crate::measured::{products_of_sums, realistic, EXPANDED};
+use crate::needs::needs;
+use crate::rattle::Ready;
 use crate::rng::Rng;
 use crate::rust;
-use crate::sheets::SIZED;
+use crate::sheets::{Sized, SIZED};
 
 const SIZES: [usize; 3] = [50, 500, 4_096];
 
-/// Sheets of each shape and size, how often each is timed, and how long one timing takes at least.
+/// Sheets of each shape and size, how often each is timed at least and at most, how long one timing takes at least, and after how
+/// long in all it is not timed more often.
 const SHEETS: u64 = 5;
-const TIMINGS: usize = 15;
+const TIMINGS: (usize, usize) = (3, 15);
 const LONG_ENOUGH: Duration = Duration::from_micros(500);
+const IN_ALL: Duration = Duration::from_millis(300);
+
+/// Records, constraints and interactions of realistic sheets.
+const REALISTIC: [(usize, usize, usize); 3] = [
+    (1_000, 300, 100),
+    (4_096, 1_024, 409),
+    (4_096, 1_024, 1_024),
+];
+
+/// Grouping is not timed with more headers once it took so long.
+const TOO_LONG: Duration = Duration::from_secs(20);
 
 /// Linux's clock of the time that the calling thread ran.
 const THREAD_TIME: i32 = 3;
@@ -42,21 +58,91 @@ fn thread_time() -> Duration {
     Duration::new(time.seconds as u64, time.nanoseconds as u32)
 }
 
-/// The table: medians of the ratios, the rewrite's time over the Rust's.
+/// All tables.
 pub fn bench() {
-    println!("suhkelva_build over the Rust's builder: median ratio of {SHEETS} sheets, and the smallest and largest\n");
+    let text = "suhkelva_build over the Rust's builder";
+    ratios(text, &SIZED, Ready::build, |sheet| {
+        // The tree stands before the time starts. The call consumes its constraints, so each run has a copy of them, which shares
+        // what is below.
+        let tree = rust::symbolic_constraints(sheet);
+        timed(move || tree.clone(), SymbolicConstraintsDag::from)
+    });
+    let text = "suhkelva_expand_constraints over ExpandedMonomials::from_dag";
+    ratios(text, &EXPANDED, expand_constraints, rust_constraints);
+    let text =
+        "suhkelva_expand_interactions over ExpandedInteractionMonomials::from_symbolic_constraints";
+    let expand = |sheet: &Sheet| Ready::expand(Family::Interactions, sheet);
+    ratios(text, &EXPANDED, expand, |sheet| {
+        let tree = rust::symbolic_constraints(sheet);
+        timed(
+            || (),
+            move |()| ExpandedInteractionMonomials::from_symbolic_constraints(&tree),
+        )
+    });
+    realistic_sheets();
+    grouping();
+}
+
+fn expand_constraints(sheet: &Sheet) -> Ready {
+    Ready::expand(Family::Constraints, sheet)
+}
+
+fn rust_constraints(sheet: &Sheet) -> Timed {
+    let dag = rust::expression_dag(sheet);
+    timed(|| (), move |()| ExpandedMonomials::from_dag(&dag))
+}
+
+/// The time of so many runs.
+type Timed = Box<dyn FnMut(usize) -> Duration>;
+
+/// What goes in stands before the time starts, and what comes out is dropped after it ends.
+fn timed<A, B>(input: impl Fn() -> A + 'static, call: impl Fn(A) -> B + 'static) -> Timed {
+    Box::new(move |runs| {
+        let inputs: Vec<A> = (0..runs).map(|_| input()).collect();
+        let mut outputs = Vec::with_capacity(runs);
+        let start = thread_time();
+        for input in inputs {
+            outputs.push(call(black_box(input)));
+        }
+        let time = thread_time() - start;
+        black_box(&outputs);
+        time
+    })
+}
+
+fn timed_rattle(mut ready: Ready) -> Timed {
+    Box::new(move |runs| {
+        let start = thread_time();
+        for _ in 0..runs {
+            assert!(ready.call(), "an accepted sheet");
+        }
+        thread_time() - start
+    })
+}
+
+/// A table: medians of the ratios, the rewrite's time over the Rust's.
+fn ratios(
+    title: &str,
+    shapes: &[Sized],
+    ours: impl Fn(&Sheet) -> Ready,
+    of_rust: impl Fn(&Sheet) -> Timed,
+) {
+    println!("\n{title}: median ratio of {SHEETS} sheets, and the smallest and largest\n");
     print!("{:<24}", "shape");
     SIZES.iter().for_each(|size| print!(" {size:>20}"));
     println!();
-    for (name, make) in SIZED {
+    for (name, make) in shapes {
         print!("{name:<24}");
         for size in SIZES {
-            let sheet = |seed| make(&mut Rng::new(seed), size);
-            let ratios = (1..=SHEETS).map(|seed| ratio(&sheet(seed)));
-            let mut ratios: Vec<f64> = ratios.collect();
-            ratios.sort_by(f64::total_cmp);
+            let ratio = |seed| {
+                let sheet = make(&mut Rng::new(seed), size);
+                let (ours, rust) = both(timed_rattle(ours(&sheet)), of_rust(&sheet));
+                ours / rust
+            };
+            let mut ratios: Vec<f64> = (1..=SHEETS).map(ratio).collect();
+            let median = median(&mut ratios);
             let (least, most) = (ratios[0], ratios[ratios.len() - 1]);
-            let text = format!("{:.2} ({least:.2}-{most:.2})", median(&mut ratios));
+            let text = format!("{median:.2} ({least:.2}-{most:.2})");
             print!(" {text:>20}");
         }
         println!();
@@ -68,46 +154,84 @@ fn median(values: &mut [f64]) -> f64 {
     values[values.len() / 2]
 }
 
-/// Median against median, the two timed in turn.
-fn ratio(sheet: &Sheet) -> f64 {
-    let words = sheet.encode();
-    let (mut scratch, mut out) = (vec![0; sheet.records.len()], vec![0; words.len()]);
-    let mut ours = |runs: usize| {
-        let start = thread_time();
-        for _ in 0..runs {
-            let built = builds(black_box(&words), &mut scratch, &mut out);
-            assert!(black_box(built), "a graph");
-        }
-        thread_time() - start
-    };
-    // The tree stands before the time starts. The call consumes its constraints, so each run has a copy of them, which shares
-    // what is below; the graphs are dropped after the time ends.
-    let tree = rust::symbolic_constraints(sheet);
-    let of_rust = |runs: usize| {
-        let copies: Vec<_> = (0..runs).map(|_| tree.clone()).collect();
-        let mut graphs = Vec::with_capacity(runs);
-        let start = thread_time();
-        for copy in copies {
-            graphs.push(SymbolicConstraintsDag::from(black_box(copy)));
-        }
-        let time = thread_time() - start;
-        black_box(&graphs);
-        time
-    };
-    let (our_runs, rust_runs) = (enough(&mut ours), enough(of_rust));
+/// The medians of two, timed in turn, in seconds.
+fn both(mut ours: Timed, mut of_rust: Timed) -> (f64, f64) {
+    let (our_runs, rust_runs) = (enough(&mut ours), enough(&mut of_rust));
     let (mut mine, mut theirs) = (vec![], vec![]);
-    for _ in 0..TIMINGS {
+    let start = thread_time();
+    let (least, most) = TIMINGS;
+    while mine.len() < least || (mine.len() < most && thread_time() - start < IN_ALL) {
         mine.push(ours(our_runs).as_secs_f64() / our_runs as f64);
         theirs.push(of_rust(rust_runs).as_secs_f64() / rust_runs as f64);
     }
-    median(&mut mine) / median(&mut theirs)
+    (median(&mut mine), median(&mut theirs))
 }
 
 /// How many runs take long enough to be timed.
-fn enough(mut time: impl FnMut(usize) -> Duration) -> usize {
+fn enough(time: &mut Timed) -> usize {
     let mut runs = 1;
     while time(runs) < LONG_ENOUGH {
         runs *= 2;
     }
     runs
+}
+
+/// Milliseconds of each call on realistic sheets, a common one and as large as sheets can be.
+fn realistic_sheets() {
+    println!("\nrealistic sheets, milliseconds of each call\n");
+    let heads = ["records", "constraints", "interactions", "build"];
+    heads.iter().for_each(|head| print!("{head:>14}"));
+    println!("{:>20}{:>21}", "expand_constraints", "expand_interactions");
+    for (records, constraints, interactions) in REALISTIC {
+        let sheet = realistic(&mut Rng::new(1), records, constraints, interactions);
+        let counts = [
+            sheet.records.len(),
+            sheet.constraints.len(),
+            sheet.interactions.len(),
+        ];
+        counts.iter().for_each(|count| print!("{count:>14}"));
+        let ready = [
+            Ready::build(&sheet),
+            expand_constraints(&sheet),
+            Ready::expand(Family::Interactions, &sheet),
+        ];
+        let [build, constraints, interactions] = ready.map(|ready| {
+            let mut call = timed_rattle(ready);
+            let runs = enough(&mut call);
+            let times = (0..TIMINGS.1).map(|_| call(runs).as_secs_f64() / runs as f64);
+            1e3 * median(&mut times.collect::<Vec<f64>>())
+        });
+        println!("{build:>14.3}{constraints:>20.3}{interactions:>21.3}");
+    }
+}
+
+/// The time of expand_constraints where every monomial of every constraint has a header of its own.
+fn grouping() {
+    println!("\nexpand_constraints, every monomial a header of its own: milliseconds, and over the Rust\n");
+    let heads = ["constraints", "headers", "pool words"];
+    heads.iter().for_each(|head| print!("{head:>12}"));
+    println!(
+        "{:>16}{:>8}{:>18}{:>8}",
+        "in order", "ratio", "from the last", "ratio"
+    );
+    let mut longest = Duration::ZERO;
+    for sums in [1, 2, 4, 8, 11, 16, 23, 32] {
+        if longest > TOO_LONG {
+            break;
+        }
+        let sheets = [false, true].map(|backward| products_of_sums(16, sums, backward));
+        let needs = needs(Family::Constraints, &sheets[0]);
+        let outputs = needs.outputs.expect("lists");
+        let (count, headers) = (sheets[0].constraints.len(), outputs[0] / 4);
+        print!("{count:>12}{headers:>12}{:>12}", needs.pool);
+        for (sheet, width) in sheets.iter().zip([16, 18]) {
+            let mut ours = timed_rattle(expand_constraints(sheet));
+            let mut of_rust = rust_constraints(sheet);
+            let (time, rust) = (ours(1), of_rust(1));
+            longest = longest.max(time);
+            let [time, rust] = [time, rust].map(|time| 1e3 * time.as_secs_f64());
+            print!("{time:>width$.1}{:>8.2}", time / rust);
+        }
+        println!();
+    }
 }

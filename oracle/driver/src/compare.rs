@@ -72,6 +72,14 @@ pub const GRAPHS: [&str; 9] = [
     NUM_CONSTRAINTS[1],
 ];
 
+/// What is compared of the expansions.
+pub const EXPANSIONS: [&str; 4] = [
+    CONSTRAINT_LISTS[0],
+    CONSTRAINT_LISTS[1],
+    INTERACTION_LISTS[0],
+    INTERACTION_LISTS[1],
+];
+
 /// Where document 01 refuses and the Rust does something else; a difference here is a case where it does not do that.
 pub const KNOWN: [&str; 7] = [
     "8, column above 65,535: the Rust panics",
@@ -120,7 +128,18 @@ pub fn compare_graph(under_test: &dyn Implementation, sheet: &Sheet, spare: usiz
     comparison.cases
 }
 
-fn with_spare(sheet: &Sheet, spare: usize) -> Vec<u32> {
+/// Both expansions of a sheet and of its graph: a comparison as above, without the rest.
+pub fn compare_expansions(
+    under_test: &dyn Implementation,
+    sheet: &Sheet,
+    graph: &Sheet,
+) -> Vec<Case> {
+    let mut comparison = Comparison::of(under_test);
+    comparison.expansions(sheet, graph);
+    comparison.cases
+}
+
+pub fn with_spare(sheet: &Sheet, spare: usize) -> Vec<u32> {
     [sheet.encode(), vec![0; spare]].concat()
 }
 
@@ -155,7 +174,8 @@ impl<'a> Comparison<'a> {
     fn equal<T: PartialEq + Debug>(&mut self, kind: &'static str, size: usize, ours: T, rust: T) {
         let difference = (ours != rust).then(|| {
             let name = self.under_test.name();
-            format!("{name} {}, the Rust {}", front(&ours), front(&rust))
+            let (ours, rust) = (front(&ours, 300), front(&rust, 300));
+            format!("{name} {ours}, the Rust {rust}")
         });
         self.case(kind, size, difference);
     }
@@ -166,7 +186,12 @@ impl<'a> Comparison<'a> {
         let Some(graph) = self.graph_and_numbers(sheet, &words) else {
             return;
         };
-        for (k, sheet) in [sheet, &graph].into_iter().enumerate() {
+        self.expansions(sheet, &graph);
+    }
+
+    /// Both expansions of a sheet and of its graph.
+    fn expansions(&mut self, sheet: &Sheet, graph: &Sheet) {
+        for (k, sheet) in [sheet, graph].into_iter().enumerate() {
             self.lists(Family::Constraints, CONSTRAINT_LISTS[k], sheet);
             self.lists(Family::Interactions, INTERACTION_LISTS[k], sheet);
         }
@@ -277,31 +302,21 @@ impl<'a> Comparison<'a> {
                 let lists = family.lists(&walk, &roots);
                 let lent: Vec<usize> = lists.iter().map(Vec::len).collect();
                 let headers = lists.iter().step_by(3).map(|list| list.len() / 4).sum();
-                let ours = self.expand(family, sheet, walk.used, lent);
+                let ours = self.expand(family, sheet, walk.used, &lent);
                 let of_rust = rust_lists(family, sheet).map_err(Told::Panic);
                 self.equal(kind, headers, told(&ours), of_rust);
             }
             Err(refusal) => {
                 let lent = vec![0; 3 * roots.len()];
-                let ours = self.expand(family, sheet, walk.used, lent);
+                let ours = self.expand(family, sheet, walk.used, &lent);
                 self.refused(family, sheet, refusal, &ours);
             }
         }
     }
 
-    fn expand(&self, family: Family, sheet: &Sheet, pool: usize, lent: Vec<usize>) -> Outcome {
+    fn expand(&self, family: Family, sheet: &Sheet, pool: usize, lent: &[usize]) -> Outcome {
         let words = sheet.encode();
-        match family {
-            Family::Constraints => {
-                let lent = lent.try_into().expect("three slices");
-                self.under_test.expand_constraints(&words, WORK, pool, lent)
-            }
-            Family::Interactions => {
-                let lent = lent.try_into().expect("six slices");
-                self.under_test
-                    .expand_interactions(&words, WORK, pool, lent)
-            }
-        }
+        self.under_test.expand(family, &words, WORK, pool, lent)
     }
 
     /// Document 01 refuses: the refusal is this one, and the Rust does what is known of it.
@@ -343,7 +358,7 @@ impl<'a> Comparison<'a> {
 }
 
 /// Lists and further numbers of an expansion.
-type Lists = (Vec<Vec<u32>>, Vec<u32>);
+pub type Lists = (Vec<Vec<u32>>, Vec<u32>);
 
 /// Why there are none: a refusal, or the Rust's panic.
 #[derive(Debug, PartialEq)]
@@ -361,7 +376,8 @@ fn told(outcome: &Outcome) -> Result<Lists, Told> {
     Ok((lists, outcome.reply.numbers.clone()))
 }
 
-fn rust_lists(family: Family, sheet: &Sheet) -> Caught<Lists> {
+/// What the Rust's expansion gives, interaction headers in the order of constraint headers.
+pub fn rust_lists(family: Family, sheet: &Sheet) -> Caught<Lists> {
     match family {
         Family::Constraints => {
             let lists = rust::expand_constraints(sheet)?;
@@ -372,7 +388,7 @@ fn rust_lists(family: Family, sheet: &Sheet) -> Caught<Lists> {
 }
 
 /// The sheet in the output of an accepted call.
-fn decoded(outcome: &Outcome) -> Answer<Sheet> {
+pub fn decoded(outcome: &Outcome) -> Answer<Sheet> {
     match outcome.refusal() {
         Some(refusal) => Err(refusal),
         None => Sheet::decode(outcome.written(0)),
@@ -457,10 +473,10 @@ fn steps(sheet: &Sheet, walk: &Walk) -> u64 {
     roots.fold(0, |sum, &r| sum.saturating_add(steps[r as usize]))
 }
 
-/// The front of a value's text.
-fn front<T: Debug>(value: &T) -> String {
+/// So many characters from the front of a value's text.
+pub fn front(value: &dyn Debug, characters: usize) -> String {
     let text = format!("{value:?}");
-    match text.char_indices().nth(300) {
+    match text.char_indices().nth(characters) {
         Some((at, _)) => format!("{} ..", &text[..at]),
         None => text,
     }

@@ -1,5 +1,7 @@
-//! Edges of the sheet calls and of the builder: inputs at and beside each bound, made without chance. Every call is compared with
-//! the plain Rust, and what is due by how an input was made is asked for too.
+//! Edges of the sheet calls, of the builder and of the expansions: inputs at and beside each bound, made without chance. Every call
+//! is compared with the plain Rust, and what is due by how an input was made is asked for too.
+
+pub mod lists;
 
 use plain::block::{bytes_for, write_blocks, BLOCK_BYTES, BLOCK_WORDS};
 use plain::field::P;
@@ -65,7 +67,8 @@ const ROUND_TRIP: &str = "blocks written and read: the sheet's words, then zeros
 pub fn kinds() -> Vec<&'static str> {
     let mut rows: Vec<&str> = edges().iter().map(|edge| edge.row).collect();
     rows.dedup();
-    [&rows[..], &LENT.concat(), &[ROUND_TRIP]].concat()
+    let lists = lists::kinds();
+    [&rows[..], &LENT.concat(), &[ROUND_TRIP], &lists].concat()
 }
 
 /// So many records of all kinds but row marks, none equal to another.

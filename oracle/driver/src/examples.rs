@@ -6,6 +6,8 @@ use plain::sheet::{
 };
 use plain::{Interaction, Record, Sheet};
 
+use crate::records::{Records, V, W};
+
 /// What document 01 says of a sheet's graph, and of the expansion of its constraints as they are given.
 pub struct Example {
     pub name: &'static str,
@@ -16,34 +18,21 @@ pub struct Example {
     pub headers: Result<usize, u32>,
 }
 
-const V: Record = [VARIABLE, MAIN, 0, 0, 0];
-const W: Record = [VARIABLE, MAIN, 0, 0, 1];
 const ZERO: Record = [CONSTANT, 0, 0, 0, 0];
 const NEG_W: Record = [NEG, 1, 0, 1, 0];
 
-/// So many variables from a column on, joined by one kind.
-fn joined(records: &mut Vec<Record>, kind: u32, count: u32, column: u32) -> u32 {
-    records.push([VARIABLE, MAIN, 0, 0, column]);
-    for k in 1..count {
-        let before = records.len() as u32 - 1;
-        records.push([VARIABLE, MAIN, 0, 0, column + k]);
-        records.push([kind, before, before + 1, 0, 0]);
-    }
-    records.len() as u32 - 1
-}
-
 fn factors(count: u32) -> Vec<Record> {
-    let mut records = vec![];
-    joined(&mut records, MUL, count, 0);
-    records
+    let mut records = Records::default();
+    records.joined(MUL, count, 0);
+    records.0
 }
 
 fn product_of_sums(left: u32, right: u32) -> Vec<Record> {
-    let mut records = vec![];
-    let left = joined(&mut records, ADD, left, 0);
-    let right = joined(&mut records, ADD, right, 100);
-    records.push([MUL, left, right, 0, 0]);
-    records
+    let mut records = Records::default();
+    let left = records.joined(ADD, left, 0);
+    let right = records.joined(ADD, right, 100);
+    records.join(MUL, left, right);
+    records.0
 }
 
 /// The variable again and again times itself, its 16th power last.

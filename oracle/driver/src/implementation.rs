@@ -1,10 +1,11 @@
 //! What can be put to the test: every call of document 01, as a function from its input and the lengths lent.
 
-use plain::{calls, Outcome, Record};
+use plain::calls::{self, Family};
+use plain::{Outcome, Record};
 
 /// A call that an implementation does not have keeps its default, which panics: nothing is counted that was not called.
 #[allow(unused_variables)]
-pub trait Implementation {
+pub trait Implementation: Sync {
     fn name(&self) -> &str;
 
     fn lacks(&self, call: &str) -> ! {
@@ -69,6 +70,27 @@ pub trait Implementation {
         lent: [usize; 6],
     ) -> Outcome {
         self.lacks("interaction call")
+    }
+
+    /// The expansion of a family, which is lent three slices for constraints and six for interactions.
+    fn expand(
+        &self,
+        family: Family,
+        words: &[u32],
+        work: usize,
+        pool: usize,
+        lent: &[usize],
+    ) -> Outcome {
+        match family {
+            Family::Constraints => {
+                let lent = lent.try_into().expect("three slices");
+                self.expand_constraints(words, work, pool, lent)
+            }
+            Family::Interactions => {
+                let lent = lent.try_into().expect("six slices");
+                self.expand_interactions(words, work, pool, lent)
+            }
+        }
     }
 }
 

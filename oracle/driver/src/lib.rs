@@ -6,8 +6,14 @@ pub mod compare;
 pub mod edges;
 pub mod examples;
 pub mod implementation;
+pub mod lists;
+#[cfg(feature = "rattle")]
+pub mod measured;
+pub mod needs;
+pub mod parts;
 #[cfg(feature = "rattle")]
 pub mod rattle;
+pub mod records;
 pub mod rng;
 pub mod runs;
 pub mod rust;

@@ -4,19 +4,21 @@ use std::io::{self, Read};
 use std::process::ExitCode;
 use std::thread;
 
-use driver::compare::{compare_packing, compare_sheet, COMPARED, KNOWN, LEFT_OUT};
+use driver::compare::{compare_sheet, COMPARED, KNOWN, LEFT_OUT};
 use driver::examples::{examples, Example};
 use driver::implementation::{Implementation, Plain};
 use driver::runs::{Run, STACK};
+use driver::sheets::SHAPES;
 use driver::table::Table;
-use driver::{rust, sample, sheets};
+use driver::{parts, rust, sample};
 use plain::calls::WORK;
 
 const USAGE: &str = "usage:
   driver plain-vs-rust [SHEETS] [SEED]   random sheets: the plain Rust written from document 01 against the Rust
   driver examples                        the examples of document 01 and of the known differences, likewise
   driver sheetlist                       what sheetlist prints for standard input, by the plain Rust
-  driver sample                          sheets of all shapes with the Rust's graphs and numbers, and refused ones";
+  driver sample graphs                   sheets of all shapes with the Rust's graphs and numbers, and refused ones
+  driver sample lists                    sheets of all shapes with the Rust's lists, and refused ones";
 
 fn main() -> ExitCode {
     let arguments: Vec<String> = std::env::args().skip(1).collect();
@@ -24,14 +26,16 @@ fn main() -> ExitCode {
         Some(text) => text.parse().ok(),
         None => Some(usual),
     };
-    let command = arguments.first().map(String::as_str);
-    let run: Box<dyn FnOnce() -> bool + Send> = match (command, number(1, 20_000), number(2, 1)) {
-        (Some("plain-vs-rust"), Some(sheets), Some(seed)) => {
+    let texts: Vec<&str> = arguments.iter().map(String::as_str).collect();
+    let run: Box<dyn FnOnce() -> bool + Send> = match (&texts[..], number(1, 20_000), number(2, 1))
+    {
+        (["plain-vs-rust", ..], Some(sheets), Some(seed)) => {
             Box::new(move || random_sheets(&Plain, sheets, seed))
         }
-        (Some("examples"), ..) => Box::new(|| all_examples(&Plain)),
-        (Some("sheetlist"), ..) => Box::new(list_input),
-        (Some("sample"), ..) => Box::new(print_sample),
+        (["examples"], ..) => Box::new(|| all_examples(&Plain)),
+        (["sheetlist"], ..) => Box::new(list_input),
+        (["sample", "graphs"], ..) => Box::new(|| print_sample(sample::graphs())),
+        (["sample", "lists"], ..) => Box::new(|| print_sample(sample::lists())),
         _ => {
             eprintln!("{USAGE}");
             return ExitCode::from(2);
@@ -46,27 +50,12 @@ fn main() -> ExitCode {
     }
 }
 
-/// Random sheets through an implementation and the Rust; whether no difference is left unexplained. Sheet k of a run is the
-/// first of a run whose seed is k larger.
+/// Random sheets through an implementation and the Rust; whether no difference is left unexplained.
 fn random_sheets(under_test: &dyn Implementation, sheets: u64, first_seed: u64) -> bool {
     let name = under_test.name();
     println!("{name} against the Rust: {sheets} sheets, seeds from {first_seed}");
-    let mut run = Run::new(under_test, compare_sheet);
-    for k in 0..sheets {
-        let seed = first_seed.wrapping_add(k);
-        let mut rng = run.random_sheet(seed);
-        for _ in 0..4 {
-            let leaf = sheets::wild_variable(&mut rng);
-            for case in compare_packing(under_test, &leaf) {
-                if let Some(difference) = &case.difference {
-                    println!("\nseed {seed}, {}, {leaf:?}: {difference}", case.kind);
-                }
-                let table = &mut run.table;
-                table.add(case.kind, case.difference.is_some(), case.size);
-            }
-        }
-    }
-    let shapes = sheets::SHAPES.map(|s| s.0);
+    let run = parts::against_rust(under_test, (sheets, first_seed));
+    let shapes = SHAPES.map(|shape| shape.0);
     run.shapes.print("sheets, largest in records", &shapes);
     print_cases(&run.table)
 }
@@ -113,8 +102,8 @@ fn found(under_test: &dyn Implementation, example: &Example) -> (usize, usize, R
     (graph[1] as usize, graph[2] as usize, headers)
 }
 
-fn print_sample() -> bool {
-    print!("{}", sample::sample());
+fn print_sample(text: String) -> bool {
+    print!("{text}");
     true
 }
 

@@ -1,201 +1,66 @@
-//! The rewrite, called through the C entry points of libsuhkelva.a. A further call is declared in `c` as in
-//! include/suhkelva.h, made safe in `calls`, and given to `Rattle` as a call of `Implementation`.
+//! The rewrite, called through the crate `suhkelva`: its answers and what it wrote, as outcomes.
 
-use plain::{Outcome, Record, Reply};
+use std::hint::black_box;
+
+use plain::calls::{Family, WORK};
+use plain::{Outcome, Record, Reply, Sheet};
+use suhkelva::{Answer, Lengths, Lists, PackedVar, Refusal};
 
 use crate::implementation::Implementation;
+use crate::needs::needs;
 
-/// What the header declares.
-mod c {
-    #[repr(C)]
-    pub struct Packed {
-        pub number: u32,
-        pub place: u32,
-        pub packed: u32,
-    }
-
-    #[repr(C)]
-    pub struct Record {
-        pub number: u32,
-        pub place: u32,
-        pub kind: u32,
-        pub a: u32,
-        pub b: u32,
-        pub c: u32,
-        pub d: u32,
-    }
-
-    #[repr(C)]
-    pub struct Block {
-        pub number: u32,
-        pub place: u32,
-        pub good: u32,
-    }
-
-    #[repr(C)]
-    pub struct Sheet {
-        pub number: u32,
-        pub place: u64,
-        pub records: u64,
-        pub constraints: u64,
-        pub interactions: u64,
-        pub words: u64,
-        pub start: u64,
-    }
-
-    #[repr(C)]
-    pub struct Number {
-        pub number: u32,
-        pub place: u64,
-        pub value: u64,
-    }
-
-    #[repr(C)]
-    pub struct Written {
-        pub number: u32,
-        pub place: u64,
-        pub count: u64,
-    }
-
-    extern "C" {
-        pub fn suhkelva_pack(kind: u32, a: u32, b: u32, c: u32, d: u32) -> Packed;
-        pub fn suhkelva_unpack(packed: u32) -> Record;
-        pub fn suhkelva_block_check(bytes: *const u8, bytes_len: usize, number: u32) -> Block;
-        pub fn suhkelva_check_sheet(s: *const u32, s_len: usize) -> Sheet;
-        pub fn suhkelva_max_rotation(s: *const u32, s_len: usize) -> Number;
-        pub fn suhkelva_num_constraints(s: *const u32, s_len: usize) -> Number;
-        pub fn suhkelva_convert(
-            s: *const u32,
-            s_len: usize,
-            out: *mut u32,
-            out_len: usize,
-        ) -> Written;
-        pub fn suhkelva_read_blocks(
-            bytes: *const u8,
-            bytes_len: usize,
-            out: *mut u32,
-            out_len: usize,
-        ) -> Written;
-        pub fn suhkelva_write_blocks(
-            s: *const u32,
-            s_len: usize,
-            out: *mut u8,
-            out_len: usize,
-        ) -> Written;
-        pub fn suhkelva_build(
-            s: *const u32,
-            s_len: usize,
-            scratch: *mut u32,
-            scratch_len: usize,
-            out: *mut u32,
-            out_len: usize,
-        ) -> Written;
-    }
-}
-
-/// Every unsafe call. A slice goes as its pointer and its length; what is lent for writing is lent to one parameter only. The
-/// functions have no condition on their input and are proved to stay inside what they are lent.
-mod calls {
-    use super::c;
-
-    pub fn pack([kind, a, b, c, d]: [u32; 5]) -> c::Packed {
-        unsafe { c::suhkelva_pack(kind, a, b, c, d) }
-    }
-
-    pub fn unpack(packed: u32) -> c::Record {
-        unsafe { c::suhkelva_unpack(packed) }
-    }
-
-    pub fn block_check(bytes: &[u8], number: u32) -> c::Block {
-        unsafe { c::suhkelva_block_check(bytes.as_ptr(), bytes.len(), number) }
-    }
-
-    pub fn check_sheet(s: &[u32]) -> c::Sheet {
-        unsafe { c::suhkelva_check_sheet(s.as_ptr(), s.len()) }
-    }
-
-    pub fn max_rotation(s: &[u32]) -> c::Number {
-        unsafe { c::suhkelva_max_rotation(s.as_ptr(), s.len()) }
-    }
-
-    pub fn num_constraints(s: &[u32]) -> c::Number {
-        unsafe { c::suhkelva_num_constraints(s.as_ptr(), s.len()) }
-    }
-
-    pub fn convert(s: &[u32], out: &mut [u32]) -> c::Written {
-        unsafe { c::suhkelva_convert(s.as_ptr(), s.len(), out.as_mut_ptr(), out.len()) }
-    }
-
-    pub fn read_blocks(bytes: &[u8], out: &mut [u32]) -> c::Written {
-        unsafe { c::suhkelva_read_blocks(bytes.as_ptr(), bytes.len(), out.as_mut_ptr(), out.len()) }
-    }
-
-    pub fn write_blocks(s: &[u32], out: &mut [u8]) -> c::Written {
-        unsafe { c::suhkelva_write_blocks(s.as_ptr(), s.len(), out.as_mut_ptr(), out.len()) }
-    }
-
-    pub fn build(s: &[u32], scratch: &mut [u32], out: &mut [u32]) -> c::Written {
-        unsafe {
-            c::suhkelva_build(
-                s.as_ptr(),
-                s.len(),
-                scratch.as_mut_ptr(),
-                scratch.len(),
-                out.as_mut_ptr(),
-                out.len(),
-            )
-        }
-    }
-}
-
-/// C's fields as an outcome: counts of what was written and further numbers, and the slices lent for writing as they are after
-/// the call. A refusal owes zeros in its further fields; where there are others they stay, so that a comparison sees them.
-fn outcome<T>(
-    (number, place): (u32, u64),
-    counts: &[u64],
-    numbers: &[u64],
+/// An answer as an outcome, with the slices lent for writing as they are after the call: counts of what was written, and further
+/// numbers.
+fn outcome<A, T>(
+    answer: Answer<A>,
+    counts: impl FnOnce(&A) -> Vec<usize>,
+    numbers: impl FnOnce(&A) -> Vec<usize>,
     slices: Vec<Vec<T>>,
 ) -> Outcome<T> {
-    let word = |n: u64| u32::try_from(n).expect("a reply of words");
-    let words = |fields: &[u64]| {
-        let clean = number != 0 && fields.iter().all(|&n| n == 0);
-        let fields = if clean { &[] } else { fields };
-        fields.iter().map(|&n| word(n)).collect()
-    };
-    let reply = Reply {
-        number,
-        place: word(place),
-        counts: words(counts),
-        numbers: words(numbers),
+    let words = |fields: Vec<usize>| fields.into_iter().map(word).collect();
+    let reply = match answer {
+        Ok(answer) => Reply {
+            number: 0,
+            place: 0,
+            counts: words(counts(&answer)),
+            numbers: words(numbers(&answer)),
+        },
+        Err(Refusal { number, place }) => Reply {
+            number,
+            place: word(place as usize),
+            counts: vec![],
+            numbers: vec![],
+        },
     };
     Outcome { reply, slices }
 }
 
-/// The outcome of a call that is lent nothing for writing.
-fn says(number: u32, place: u32, numbers: &[u32]) -> Outcome {
-    let numbers: Vec<u64> = numbers.iter().map(|&n| u64::from(n)).collect();
-    outcome((number, u64::from(place)), &[], &numbers, vec![])
+fn word(n: usize) -> u32 {
+    u32::try_from(n).expect("a reply of words")
 }
 
-/// Words beyond what is lent, which must stay as they are.
+/// The outcome of a call that is lent nothing for writing.
+fn says<A>(answer: Answer<A>, numbers: impl FnOnce(&A) -> Vec<usize>) -> Outcome {
+    outcome(answer, |_| vec![], numbers, vec![])
+}
+
+/// Elements beyond what is lent, which must stay as they are.
 const GUARD: usize = 8;
 
-const JUNK: u32 = 0xdead_beef;
-
-/// What is lent for writing, filled with junk before the call: none of it may be left, and what stands behind must be.
+/// What is lent for writing, filled with noise before the call: none of it may be left, and what stands behind must be.
 struct Lent<T> {
     elements: Vec<T>,
     lent: usize,
-    junk: T,
+    noise: fn(usize) -> T,
 }
 
-impl<T: Copy + PartialEq> Lent<T> {
-    fn new(lent: usize, junk: T) -> Self {
-        let elements = vec![junk; lent + GUARD];
+impl<T: PartialEq> Lent<T> {
+    fn new(lent: usize, noise: fn(usize) -> T) -> Self {
+        let elements = (0..lent + GUARD).map(noise).collect();
         Lent {
             elements,
             lent,
-            junk,
+            noise,
         }
     }
 
@@ -205,29 +70,115 @@ impl<T: Copy + PartialEq> Lent<T> {
 
     fn after(mut self) -> Vec<T> {
         let behind = self.elements.split_off(self.lent);
-        let untouched = behind.iter().all(|&x| x == self.junk);
+        let mut behind = behind.into_iter().enumerate();
+        let untouched = behind.all(|(k, x)| x == (self.noise)(self.lent + k));
         assert!(untouched, "the library wrote past what it was lent");
         self.elements
     }
 }
 
-/// The outcome of a call that is lent one slice for writing.
-fn writing<T: Copy + PartialEq>(
+/// Words and bytes that are not zero, some of the words small as record numbers and counts are.
+fn words(k: usize) -> u32 {
+    let word = (k as u32 + 1).wrapping_mul(0x9e37_79b9);
+    match word >> 30 {
+        0 => word % 4_096 + 1,
+        1 => word % 15 + 1,
+        _ => word,
+    }
+}
+
+fn bytes(k: usize) -> u8 {
+    words(k) as u8 | 1
+}
+
+/// The outcome of a call that is lent one slice for writing and says how much it wrote there.
+fn writing<T: PartialEq>(
     lent: usize,
-    junk: T,
-    call: impl FnOnce(&mut [T]) -> c::Written,
+    noise: fn(usize) -> T,
+    call: impl FnOnce(&mut [T]) -> Answer<usize>,
 ) -> Outcome<T> {
-    let mut out = Lent::new(lent, junk);
-    let r = call(out.slice());
-    outcome((r.number, r.place), &[r.count], &[], vec![out.after()])
+    let mut out = Lent::new(lent, noise);
+    let answer = call(out.slice());
+    outcome(answer, |&count| vec![count], |_| vec![], vec![out.after()])
 }
 
-/// The builder alone, over what the caller lends; whether it was accepted.
-pub fn builds(words: &[u32], scratch: &mut [u32], out: &mut [u32]) -> bool {
-    calls::build(words, scratch, out).number == 0
+fn lists(lent: &mut [Lent<u32>]) -> Lists<'_> {
+    let [headers, variables, terms] = lent else {
+        unreachable!("three slices a family");
+    };
+    Lists {
+        headers: headers.slice(),
+        variables: variables.slice(),
+        terms: terms.slice(),
+    }
 }
 
-/// The rewrite in Rattle; it lacks the calls that the library does not have yet.
+fn counts(lengths: &Lengths) -> Vec<usize> {
+    vec![lengths.headers, lengths.variables, lengths.terms]
+}
+
+/// A sheet and what one call on it is lent, made ready once and called again and again: for measuring.
+pub struct Ready {
+    words: Vec<u32>,
+    scratch: Vec<Vec<u32>>,
+    outputs: Vec<Vec<u32>>,
+}
+
+impl Ready {
+    fn new(sheet: &Sheet, scratch: &[usize], outputs: &[usize]) -> Self {
+        let lent = |lengths: &[usize]| lengths.iter().map(|&n| vec![1; n]).collect();
+        Ready {
+            words: sheet.encode(),
+            scratch: lent(scratch),
+            outputs: lent(outputs),
+        }
+    }
+
+    /// The builder, lent just what it needs.
+    pub fn build(sheet: &Sheet) -> Self {
+        Ready::new(sheet, &[sheet.records.len()], &[sheet.length()])
+    }
+
+    /// The expansion of a family, lent just what it needs; the sheet must be one that is accepted.
+    pub fn expand(family: Family, sheet: &Sheet) -> Self {
+        let needs = needs(family, sheet);
+        let outputs = needs.outputs.expect("a sheet that is accepted");
+        Ready::new(sheet, &[WORK, needs.pool], &outputs)
+    }
+
+    /// The call; whether it was accepted.
+    pub fn call(&mut self) -> bool {
+        let words = black_box(&self.words[..]);
+        let accepted = match (&mut self.scratch[..], &mut self.outputs[..]) {
+            ([scratch], [out]) => suhkelva::build(words, scratch, out).is_ok(),
+            ([work, pool], [headers, variables, terms]) => {
+                let lists = Lists {
+                    headers,
+                    variables,
+                    terms,
+                };
+                suhkelva::expand_constraints(words, work, pool, lists).is_ok()
+            }
+            ([work, pool], [headers, variables, terms, h, v, t]) => {
+                let numerators = Lists {
+                    headers,
+                    variables,
+                    terms,
+                };
+                let denominators = Lists {
+                    headers: h,
+                    variables: v,
+                    terms: t,
+                };
+                suhkelva::expand_interactions(words, work, pool, numerators, denominators).is_ok()
+            }
+            _ => unreachable!("made by one of the above"),
+        };
+        black_box(accepted)
+    }
+}
+
+/// The rewrite in Rattle.
 pub struct Rattle;
 
 impl Implementation for Rattle {
@@ -236,53 +187,93 @@ impl Implementation for Rattle {
     }
 
     fn block_check(&self, bytes: &[u8], number: u32) -> Outcome {
-        let r = calls::block_check(bytes, number);
-        says(r.number, r.place, &[r.good])
+        says(suhkelva::block_check(bytes, number), |&good| {
+            vec![usize::from(good)]
+        })
     }
 
     fn pack(&self, record: &Record) -> Outcome {
-        let r = calls::pack(*record);
-        says(r.number, r.place, &[r.packed])
+        says(suhkelva::pack(*record), |packed| vec![packed.0 as usize])
     }
 
     fn unpack(&self, number: u32) -> Outcome {
-        let r = calls::unpack(number);
-        says(r.number, r.place, &[r.kind, r.a, r.b, r.c, r.d])
+        says(suhkelva::unpack(PackedVar(number)), |record| {
+            record.map(|word| word as usize).to_vec()
+        })
     }
 
     fn check(&self, words: &[u32]) -> Outcome {
-        let r = calls::check_sheet(words);
-        let numbers = [r.records, r.constraints, r.interactions, r.words, r.start];
-        outcome((r.number, r.place), &[], &numbers, vec![])
+        says(suhkelva::check_sheet(words), |s| {
+            vec![s.records, s.constraints, s.interactions, s.words, s.start]
+        })
     }
 
     fn max_rotation(&self, words: &[u32]) -> Outcome {
-        let r = calls::max_rotation(words);
-        outcome((r.number, r.place), &[], &[r.value], vec![])
+        says(suhkelva::max_rotation(words), |&n| vec![n as usize])
     }
 
     fn num_constraints(&self, words: &[u32]) -> Outcome {
-        let r = calls::num_constraints(words);
-        outcome((r.number, r.place), &[], &[r.value], vec![])
+        says(suhkelva::num_constraints(words), |&n| vec![n as usize])
     }
 
-    fn conversion(&self, words: &[u32], out: usize) -> Outcome {
-        writing(out, JUNK, |out| calls::convert(words, out))
+    fn conversion(&self, sheet: &[u32], out: usize) -> Outcome {
+        writing(out, words, |out| suhkelva::convert(sheet, out))
     }
 
-    fn reader(&self, bytes: &[u8], out: usize) -> Outcome {
-        writing(out, JUNK, |out| calls::read_blocks(bytes, out))
+    fn reader(&self, blocks: &[u8], out: usize) -> Outcome {
+        writing(out, words, |out| suhkelva::read_blocks(blocks, out))
     }
 
-    fn builder(&self, words: &[u32], scratch: usize, out: usize) -> Outcome {
-        let mut scratch = Lent::new(scratch, JUNK);
-        let mut out = Lent::new(out, JUNK);
-        let r = calls::build(words, scratch.slice(), out.slice());
+    fn writer(&self, sheet: &[u32], out: usize) -> Outcome<u8> {
+        writing(out, bytes, |out| suhkelva::write_blocks(sheet, out))
+    }
+
+    fn builder(&self, sheet: &[u32], scratch: usize, out: usize) -> Outcome {
+        let mut scratch = Lent::new(scratch, words);
+        let mut out = Lent::new(out, words);
+        let answer = suhkelva::build(sheet, scratch.slice(), out.slice());
         let slices = vec![scratch.after(), out.after()];
-        outcome((r.number, r.place), &[r.count], &[], slices)
+        outcome(answer, |&count| vec![count], |_| vec![], slices)
     }
 
-    fn writer(&self, words: &[u32], out: usize) -> Outcome<u8> {
-        writing(out, 0xa5, |out| calls::write_blocks(words, out))
+    fn expand_constraints(
+        &self,
+        sheet: &[u32],
+        work: usize,
+        pool: usize,
+        lent: [usize; 3],
+    ) -> Outcome {
+        let [mut work, mut pool] = [work, pool].map(|n| Lent::new(n, words));
+        let mut lent = lent.map(|n| Lent::new(n, words));
+        let (of_work, of_pool) = (work.slice(), pool.slice());
+        let answer = suhkelva::expand_constraints(sheet, of_work, of_pool, lists(&mut lent));
+        let slices = [work, pool].into_iter().chain(lent).map(Lent::after);
+        outcome(answer, counts, |_| vec![], slices.collect())
+    }
+
+    fn expand_interactions(
+        &self,
+        sheet: &[u32],
+        work: usize,
+        pool: usize,
+        lent: [usize; 6],
+    ) -> Outcome {
+        let [mut work, mut pool] = [work, pool].map(|n| Lent::new(n, words));
+        let mut lent = lent.map(|n| Lent::new(n, words));
+        let (numerators, denominators) = lent.split_at_mut(3);
+        let answer = suhkelva::expand_interactions(
+            sheet,
+            work.slice(),
+            pool.slice(),
+            lists(numerators),
+            lists(denominators),
+        );
+        let slices = [work, pool].into_iter().chain(lent).map(Lent::after);
+        outcome(
+            answer,
+            |a| [counts(&a.numerators), counts(&a.denominators)].concat(),
+            |a| vec![a.num_interactions, a.max_fields_len],
+            slices.collect(),
+        )
     }
 }

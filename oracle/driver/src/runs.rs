@@ -1,5 +1,7 @@
 //! Sheets through a comparison, and the smallest sheet found that shows a difference.
 
+use std::sync::atomic::{AtomicU64, Ordering};
+use std::thread;
 use std::time::Duration;
 
 use plain::Sheet;
@@ -20,12 +22,50 @@ const SHOWN: u64 = 3;
 /// How long a smaller sheet is looked for that shows a difference.
 const SHRINKING: Duration = Duration::from_secs(2);
 
+/// Seeds are handed out in pieces of so many.
+const PIECE: u64 = 64;
+
+/// Every seed from `first` on, one after another on each processor: what each of them made of its seeds.
+pub fn over_seeds<T: Send>(
+    seeds: u64,
+    first: u64,
+    start: impl Fn() -> T + Sync,
+    step: impl Fn(&mut T, u64) + Sync,
+) -> Vec<T> {
+    let next = AtomicU64::new(0);
+    let work = || {
+        let mut made = start();
+        loop {
+            let from = next.fetch_add(PIECE, Ordering::Relaxed);
+            if from >= seeds {
+                return made;
+            }
+            for k in from..seeds.min(from + PIECE) {
+                step(&mut made, first.wrapping_add(k));
+            }
+        }
+    };
+    let threads = thread::available_parallelism().map_or(1, |n| n.get());
+    thread::scope(|scope| {
+        let spawn = |_| {
+            let thread = thread::Builder::new().stack_size(STACK);
+            let thread = thread.spawn_scoped(scope, work);
+            thread.expect("a thread with a large stack")
+        };
+        let threads: Vec<_> = (0..threads).map(spawn).collect();
+        let threads = threads.into_iter();
+        threads
+            .map(|thread| thread.join().expect("no panic in the driver"))
+            .collect()
+    })
+}
+
 /// All cases of one sheet, behind which so many spare words are put.
-type Compare = fn(&dyn Implementation, &Sheet, usize) -> Vec<Case>;
+pub type Compare = fn(&dyn Implementation, &Sheet, usize) -> Vec<Case>;
 
 /// A comparison and what came of it: the shapes of the random sheets, and the cases.
 pub struct Run<'a> {
-    under_test: &'a dyn Implementation,
+    pub under_test: &'a dyn Implementation,
     compare: Compare,
     pub shapes: Table,
     pub table: Table,
@@ -41,8 +81,32 @@ impl<'a> Run<'a> {
         }
     }
 
+    /// Sheets with names, then the random sheet of each seed from `first` on; `further` goes on with its random numbers.
+    pub fn over_sheets(
+        under_test: &'a dyn Implementation,
+        compare: Compare,
+        named: &[(&str, Sheet)],
+        (sheets, first): (u64, u64),
+        further: impl Fn(&mut Self, u64, Rng) + Sync,
+    ) -> Self {
+        let mut run = Run::new(under_test, compare);
+        for (name, sheet) in named {
+            run.sheet(name, sheet, 0);
+        }
+        let start = || Run::new(under_test, compare);
+        let step = |run: &mut Self, seed| {
+            let rng = run.random_sheet(seed);
+            further(run, seed, rng);
+        };
+        for part in over_seeds(sheets, first, start, step) {
+            run.shapes.join(part.shapes);
+            run.table.join(part.table);
+        }
+        run
+    }
+
     /// The random sheet of a seed; the source of random numbers, for what is to go on with it.
-    pub fn random_sheet(&mut self, seed: u64) -> Rng {
+    fn random_sheet(&mut self, seed: u64) -> Rng {
         let mut rng = Rng::new(seed);
         let (shape, sheet) = sheets::random_sheet(&mut rng);
         let spare = rng.pick(&[0, 0, 1, 126]);

@@ -1,15 +1,17 @@
-//! The calls that take a sheet or its blocks: the sheet check, max_rotation, num_constraints, the conversion, the builder, the
-//! block reader and the block writer. Sheets and blocks, good and broken, and the comparison with the plain Rust; where a sheet
-//! is good, of the two numbers with the Rust too.
+//! The calls that take a sheet or its blocks: the sheet check, max_rotation, num_constraints, the conversion, the builder, both
+//! expansions, the block reader and the block writer. Sheets and blocks, good and broken, and the comparison with the plain Rust;
+//! where a sheet is good, of the two numbers with the Rust too.
 
 use std::fmt::Debug;
 
 use plain::block::{bytes_for, write_blocks, BLOCK_BYTES, BLOCK_WORDS};
+use plain::calls::WORK;
 use plain::field::P;
 use plain::{Outcome, Sheet};
 
 use crate::compare::Case;
 use crate::implementation::{Implementation, Plain};
+use crate::needs::{outputs, FAMILIES};
 use crate::rng::Rng;
 use crate::rust;
 use crate::sheets::random_sheet;
@@ -91,6 +93,31 @@ const BUILD: [&str; 11] = [
     "build, against plain: 15, output lent nothing",
 ];
 
+/// Each expansion: lists, 3 to 7, 8 to 17 of what is a sheet.
+const EXPAND: [[&str; 7]; 2] = [
+    [
+        "expand_constraints, against plain: lists",
+        "expand_constraints, against plain: 3",
+        "expand_constraints, against plain: 4",
+        "expand_constraints, against plain: 5",
+        "expand_constraints, against plain: 6",
+        "expand_constraints, against plain: 7",
+        "expand_constraints, against plain: 8 to 17",
+    ],
+    [
+        "expand_interactions, against plain: lists",
+        "expand_interactions, against plain: 3",
+        "expand_interactions, against plain: 4",
+        "expand_interactions, against plain: 5",
+        "expand_interactions, against plain: 6",
+        "expand_interactions, against plain: 7",
+        "expand_interactions, against plain: 8 to 17",
+    ],
+];
+
+/// What is lent to an expansion here, work, pool and each output: what short lists need, and nothing.
+const LENT: [[usize; 3]; 2] = [[WORK, 4_096, 200], [0, 0, 0]];
+
 /// The reader: an answer lent exactly what it needs or more, 1, 2, 15 lent one less or nothing.
 const READ: [&str; 6] = [
     "read_blocks, against plain: words, lent exactly",
@@ -105,7 +132,16 @@ const READ: [&str; 6] = [
 pub fn kinds() -> Vec<&'static str> {
     let numbers = [CHECK, ROTATION, CONSTRAINTS].concat();
     let writing = [CONVERT, WRITE].concat();
-    [&numbers, &AGAINST_RUST[..], &writing, &BUILD, &READ].concat()
+    let expand = EXPAND.concat();
+    [
+        &numbers,
+        &AGAINST_RUST[..],
+        &writing,
+        &BUILD,
+        &expand,
+        &READ,
+    ]
+    .concat()
 }
 
 /// What is put to the calls: words that may be a sheet, or bytes that may be blocks.
@@ -224,6 +260,18 @@ fn compare_words(under_test: &dyn Implementation, words: &[u32]) -> Vec<Case> {
             Some(number) => number as usize - 1,
         };
         cases.push(case(BUILD[row], &ours, &due));
+    }
+    for (family, rows) in FAMILIES.into_iter().zip(EXPAND) {
+        for [work, pool, output] in LENT {
+            let lent = vec![output; outputs(family)];
+            let due = Plain.expand(family, words, work, pool, &lent);
+            let ours = under_test.expand(family, words, work, pool, &lent);
+            let row = match due.refusal().map(|refusal| refusal.number) {
+                None => 0,
+                Some(number) => (number as usize - 2).min(6),
+            };
+            cases.push(case(rows[row], &ours, &due));
+        }
     }
     cases
 }

@@ -329,15 +329,19 @@ fn shared(rng: &mut Rng) -> Sheet {
     sheet(rng, records, constraints, interactions, 5)
 }
 
-fn polynomials(rng: &mut Rng) -> Sheet {
-    let style = Style {
+fn polynomial_style(rng: &mut Rng) -> Style {
+    Style {
         kinds: [10, 1, 1, 1, 3, 8, 8, 2, 7],
         special: 40,
         columns: rng.between(2, 20),
         reach: rng.pick(&[8, 20, 60]),
         bounded: true,
         ..STYLE
-    };
+    }
+}
+
+fn polynomials(rng: &mut Rng) -> Sheet {
+    let style = polynomial_style(rng);
     let count = rng.any_size(200);
     let records = records(rng, count, &style);
     let (constraints, interactions) = (rng.any_size(30), rng.any_size(12) - 1);
@@ -535,7 +539,7 @@ fn full(rng: &mut Rng) -> Sheet {
     sheet(rng, records, constraints, interactions, 4)
 }
 
-type Sized = (&'static str, fn(&mut Rng, usize) -> Sheet);
+pub type Sized = (&'static str, fn(&mut Rng, usize) -> Sheet);
 
 /// Shapes of a given number of records, in which as many as can be are reached: for measuring.
 pub const SIZED: [Sized; 6] = [
@@ -552,6 +556,11 @@ pub const SIZED: [Sized; 6] = [
     }),
     ("chain", chain),
 ];
+
+/// Polynomials inside 12 and 13.
+pub fn bounded(rng: &mut Rng, count: usize) -> Sheet {
+    styled(rng, count, polynomial_style)
+}
 
 fn styled(rng: &mut Rng, count: usize, style: fn(&mut Rng) -> Style) -> Sheet {
     let style = style(rng);

@@ -28,12 +28,14 @@ pub const LIMITS: Limits = Limits {
     product: 14,
 };
 
-/// A walk so far: the lists of the records that are expanded, and the words of the pool that they take.
+/// A walk so far: the lists of the records that are expanded, the words of the pool that they take, and the records in the order
+/// in which they were stored, each with the words in use after it.
 pub struct Walk<'a> {
     records: &'a [Record],
     limits: Limits,
     pool: usize,
     pub used: usize,
+    pub stored: Vec<(u32, usize)>,
     lists: Vec<Option<Vec<Monomial>>>,
 }
 
@@ -45,6 +47,7 @@ impl<'a> Walk<'a> {
             limits,
             pool,
             used: 2 * records.len(),
+            stored: vec![],
             lists: vec![None; records.len()],
         }
     }
@@ -139,6 +142,7 @@ impl<'a> Walk<'a> {
             return refuse(16, number);
         }
         self.lists[number] = Some(list);
+        self.stored.push((number as u32, self.used));
         Ok(())
     }
 }

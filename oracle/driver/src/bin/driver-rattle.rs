@@ -1,88 +1,75 @@
 //! Compares the rewrite, through its C entry points, with the plain Rust written from document 01 and with the Rust that the
 //! document refers to; measures its stack, and its time against the Rust's.
 
-use std::fmt::Debug;
 use std::process::ExitCode;
 use std::thread;
 
-use driver::compare::{compare_graph, Case, GRAPHS};
-use driver::edges::{
-    self, compare_edge, compare_lent, compare_round_trip, edge_sheets, edges, lengths,
-};
-use driver::implementation::Implementation;
+use driver::compare::LEFT_OUT;
+use driver::implementation::{Implementation, Plain};
+use driver::parts::{against_rust_part, at_edges, calls, expansions, graphs, single};
 use driver::rattle::Rattle;
-use driver::rng::Rng;
-use driver::runs::{Run, STACK};
-use driver::sheet_calls::{self, compare_input, random_inputs};
-use driver::sheets::SHAPES;
-use driver::single::{
-    self, compare_block, compare_number, compare_record, edge_numbers, edge_records, random_blocks,
-    random_number, random_record,
-};
-use driver::table::Table;
+use driver::runs::STACK;
+use driver::table::{print_parts, Part};
 use driver::{bench, rust, stack};
 
 const USAGE: &str = "usage:
-  driver-rattle [CASES] [SEED]          all of the following, 400,000 cases from seed 1 unless said otherwise, half as many graphs
-  driver-rattle single [CASES] [SEED]   packing, unpacking and the block check: the edges, CASES random records and numbers, and a
-                                        tenth as many blocks, each in six states
-  driver-rattle calls [CASES] [SEED]    the sheet calls and the builder on CASES sheets and blocks, good and broken
-  driver-rattle edges                   the sheet calls and the builder at each bound
-  driver-rattle graphs [SHEETS] [SEED]  the builder's graphs of random sheets against the Rust's, 200,000 unless said otherwise
-  driver-rattle stack                   the least stack in which the builder passes a chain of 4,096 records
-  driver-rattle bench                   the builder's time over the Rust's";
-
-/// So many differences are shown.
-const SHOWN: u64 = 10;
-
-/// A table, its title and its rows.
-type Compared = (Table, &'static str, Vec<&'static str>);
+  driver-rattle [SHEETS] [SEED]         every comparison below and plain against the Rust, in one table; 200,000 sheets from seed 1
+                                        unless said otherwise, here and below
+  driver-rattle single [SHEETS] [SEED]  packing, unpacking and the block check: the edges, and for each seed ten random records,
+                                        ten numbers, and a block in six states
+  driver-rattle calls [SHEETS] [SEED]   the sheet calls, the builder and the expansions: ten inputs of each sheet, good and broken
+  driver-rattle edges                   the same calls at each bound
+  driver-rattle graphs [SHEETS] [SEED]  the builder's graphs against the Rust's
+  driver-rattle lists [SHEETS] [SEED]   both expansions of sheets and of their graphs, against the Rust and plain
+  driver-rattle stack                   the least stack in which the builder and the expansions pass a chain of 4,096 records
+  driver-rattle bench                   the time of the builder and of the expansions over the Rust's, and of large expansions";
 
 fn main() -> ExitCode {
     let arguments: Vec<String> = std::env::args().skip(1).collect();
     let arguments: Vec<&str> = arguments.iter().map(String::as_str).collect();
-    let numbers = |from: usize| -> Option<Vec<u64>> {
-        let numbers = arguments[from..].iter().map(|text| text.parse().ok());
-        numbers.collect()
-    };
     let named = arguments
         .first()
         .filter(|text| text.parse::<u64>().is_err());
-    let Some(numbers) = numbers(usize::from(named.is_some())) else {
+    let numbers = arguments[usize::from(named.is_some())..].iter();
+    let numbers: Option<Vec<u64>> = numbers.map(|text| text.parse().ok()).collect();
+    let Some(numbers) = numbers else {
         return usage();
     };
-    let cases = numbers.first().copied();
-    let seed = numbers.get(1).copied().unwrap_or(1);
-    let calls = cases.unwrap_or(400_000);
+    let sheets = numbers.first().copied().unwrap_or(200_000);
+    let seeds = (sheets, numbers.get(1).copied().unwrap_or(1));
+    let over_sheets = numbers.len() <= 2;
     let run: Box<dyn FnOnce() -> bool + Send> = match (named.copied(), &numbers[..]) {
-        (None, [] | [_] | [_, _]) => Box::new(move || {
-            print_all(|| {
-                vec![
-                    compare_single(calls, seed),
-                    compare_calls(calls, seed),
-                    compare_edges(),
-                    compare_graphs(calls / 2, seed),
-                ]
-            })
+        (None, _) if over_sheets => Box::new(move || {
+            print_all(vec![
+                against_rust_part(&Plain, seeds),
+                single(&Rattle, seeds),
+                calls(&Rattle, seeds),
+                at_edges(&Rattle),
+                graphs(&Rattle, seeds),
+                expansions(&Rattle, seeds),
+            ])
         }),
-        (Some("single"), [] | [_] | [_, _]) => {
-            Box::new(move || print_all(|| vec![compare_single(calls, seed)]))
+        (Some("single"), _) if over_sheets => {
+            Box::new(move || print_all(vec![single(&Rattle, seeds)]))
         }
-        (Some("calls"), [] | [_] | [_, _]) => {
-            Box::new(move || print_all(|| vec![compare_calls(calls, seed)]))
+        (Some("calls"), _) if over_sheets => {
+            Box::new(move || print_all(vec![calls(&Rattle, seeds)]))
         }
-        (Some("edges"), []) => Box::new(|| print_all(|| vec![compare_edges()])),
-        (Some("graphs"), [] | [_] | [_, _]) => {
-            let sheets = cases.unwrap_or(200_000);
-            Box::new(move || print_all(|| vec![compare_graphs(sheets, seed)]))
+        (Some("edges"), []) => Box::new(|| print_all(vec![at_edges(&Rattle)])),
+        (Some("graphs"), _) if over_sheets => {
+            Box::new(move || print_all(vec![graphs(&Rattle, seeds)]))
+        }
+        (Some("lists"), _) if over_sheets => {
+            Box::new(move || print_all(vec![expansions(&Rattle, seeds)]))
         }
         (Some("stack"), []) => Box::new(|| {
             stack::measure();
             true
         }),
-        (Some("stack-attempt"), &[kind, records, kib]) => {
-            Box::new(move || stack::attempt(kind as usize, records as u32, kib as usize))
-        }
+        (Some("stack-attempt"), &[call, chain, records, kib]) => Box::new(move || {
+            let [call, chain, kib] = [call, chain, kib].map(|n| n as usize);
+            stack::attempt(call, chain, records as u32, kib)
+        }),
         (Some("bench"), []) => Box::new(|| {
             bench::bench();
             true
@@ -103,120 +90,16 @@ fn usage() -> ExitCode {
     ExitCode::from(2)
 }
 
-/// Whether there is no difference and no row without a case.
-fn print_all(compare: impl FnOnce() -> Vec<Compared>) -> bool {
+/// The table; whether there is no difference and no row without a case. Nothing need be left out.
+fn print_all(parts: Vec<Part>) -> bool {
     println!("{} against plain and the Rust", Rattle.name());
-    let compared = compare();
-    for (table, title, kinds) in &compared {
-        table.print_counts(title, kinds);
-    }
-    let empty = compared
-        .iter()
-        .flat_map(|(table, _, kinds)| table.empty(kinds));
-    let empty: Vec<&str> = empty.collect();
+    print_parts(&parts);
+    let empty = parts.iter().flat_map(Part::empty);
+    let empty: Vec<&str> = empty.filter(|kind| !LEFT_OUT.contains(kind)).collect();
     for kind in &empty {
         println!("no case of: {kind}");
     }
-    let differences: u64 = compared.iter().map(|(table, ..)| table.differences()).sum();
+    let differences: u64 = parts.iter().map(|part| part.table.differences()).sum();
     println!("\nunexplained differences: {differences}");
     differences == 0 && empty.is_empty()
-}
-
-/// Packing, unpacking and the block check.
-fn compare_single(cases: u64, seed: u64) -> Compared {
-    let mut table = Table::default();
-    let mut rng = Rng::new(seed);
-    for record in edge_records() {
-        add(&mut table, &record, compare_record(&Rattle, &record));
-    }
-    for number in edge_numbers() {
-        add(&mut table, &number, compare_number(&Rattle, number));
-    }
-    for _ in 0..cases {
-        let record = random_record(&mut rng);
-        add(&mut table, &record, compare_record(&Rattle, &record));
-        let number = random_number(&mut rng);
-        add(&mut table, &number, compare_number(&Rattle, number));
-    }
-    for _ in 0..cases / 10 {
-        for block in random_blocks(&mut rng) {
-            let case = compare_block(&Rattle, &block);
-            add(&mut table, &(block.number, &block.bytes), vec![case]);
-        }
-    }
-    let title = "compared; known differences as foretold";
-    (table, title, single::kinds())
-}
-
-/// The sheet calls, on sheets and blocks made from random sheets until there are so many.
-fn compare_calls(cases: u64, seed: u64) -> Compared {
-    let mut table = Table::default();
-    let mut rng = Rng::new(seed);
-    let mut made = 0;
-    while made < cases {
-        for input in random_inputs(&mut rng) {
-            add(&mut table, &input, compare_input(&Rattle, &input));
-            made += 1;
-        }
-    }
-    (
-        table,
-        "sheet calls and builder, compared",
-        sheet_calls::kinds(),
-    )
-}
-
-/// The sheet calls and the builder at their bounds.
-fn compare_edges() -> Compared {
-    let mut table = Table::default();
-    for edge in edges() {
-        add(&mut table, &edge.input, compare_edge(&Rattle, &edge));
-    }
-    for (name, sheet) in edge_sheets() {
-        add(&mut table, &name, compare_lent(&Rattle, &sheet));
-    }
-    for sheet in lengths() {
-        let case = compare_round_trip(&Rattle, &sheet);
-        add(&mut table, &sheet, vec![case]);
-    }
-    (
-        table,
-        "edges of the sheet calls and of the builder",
-        edges::kinds(),
-    )
-}
-
-/// Graphs against the Rust's: the sheets at the limits, then random ones, sheet k that of the seed k larger.
-fn compare_graphs(sheets: u64, seed: u64) -> Compared {
-    let mut run = Run::new(&Rattle, compare_graph);
-    for (name, sheet) in edge_sheets() {
-        run.sheet(name, &sheet, 0);
-    }
-    for k in 0..sheets {
-        run.random_sheet(seed.wrapping_add(k));
-    }
-    let shapes = SHAPES.map(|shape| shape.0);
-    run.shapes
-        .print("random sheets, largest in records", &shapes);
-    (run.table, "graphs, compared with the Rust", GRAPHS.to_vec())
-}
-
-fn add(table: &mut Table, input: &dyn Debug, cases: Vec<Case>) {
-    for case in cases {
-        if let Some(difference) = &case.difference {
-            if table.differences() < SHOWN {
-                println!("{}, {}: {difference}", case.kind, front(input));
-            }
-        }
-        table.add(case.kind, case.difference.is_some(), case.size);
-    }
-}
-
-/// The front of an input's text, for the largest have 90,116 words.
-fn front(input: &dyn Debug) -> String {
-    let text = format!("{input:?}");
-    match text.char_indices().nth(2_000) {
-        Some((at, _)) => format!("{} ..", &text[..at]),
-        None => text,
-    }
 }

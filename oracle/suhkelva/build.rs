@@ -1,5 +1,4 @@
-//! With the feature `rattle`, links libsuhkelva.a from the folder SUHKELVA_LIBRARY, a full path, by default target/staticlib at
-//! the root of the repository.
+//! Links libsuhkelva.a from the folder SUHKELVA_LIBRARY, a full path, by default target/staticlib at the root of the repository.
 
 use std::env;
 use std::path::{Path, PathBuf};
@@ -7,9 +6,6 @@ use std::path::{Path, PathBuf};
 fn main() {
     println!("cargo:rerun-if-changed=build.rs");
     println!("cargo:rerun-if-env-changed=SUHKELVA_LIBRARY");
-    if env::var_os("CARGO_FEATURE_RATTLE").is_none() {
-        return;
-    }
     let folder = match env::var_os("SUHKELVA_LIBRARY") {
         Some(folder) => PathBuf::from(folder),
         None => {
