@@ -9,8 +9,7 @@ use openvm_stark_backend::air_builders::symbolic::SymbolicConstraintsDag;
 use plain::calls::Family;
 use plain::Sheet;
 
-use crate::measured::{products_of_sums, realistic, EXPANDED};
-use crate::needs::needs;
+use crate::measured::{as_fields, products_of_sums, realistic, EXPANDED};
 use crate::rattle::Ready;
 use crate::rng::Rng;
 use crate::rust;
@@ -32,7 +31,8 @@ const REALISTIC: [(usize, usize, usize); 3] = [
     (4_096, 1_024, 1_024),
 ];
 
-/// Grouping is not timed with more headers once it took so long.
+/// Grouping is timed on products of sums of so many variables, and not with more headers once it took so long.
+const WIDTH: u32 = 16;
 const TOO_LONG: Duration = Duration::from_secs(20);
 
 /// Linux's clock of the time that the calling thread ran.
@@ -71,14 +71,7 @@ pub fn bench() {
     ratios(text, &EXPANDED, expand_constraints, rust_constraints);
     let text =
         "suhkelva_expand_interactions over ExpandedInteractionMonomials::from_symbolic_constraints";
-    let expand = |sheet: &Sheet| Ready::expand(Family::Interactions, sheet);
-    ratios(text, &EXPANDED, expand, |sheet| {
-        let tree = rust::symbolic_constraints(sheet);
-        timed(
-            || (),
-            move |()| ExpandedInteractionMonomials::from_symbolic_constraints(&tree),
-        )
-    });
+    ratios(text, &EXPANDED, expand_interactions, rust_interactions);
     realistic_sheets();
     grouping();
 }
@@ -90,6 +83,16 @@ fn expand_constraints(sheet: &Sheet) -> Ready {
 fn rust_constraints(sheet: &Sheet) -> Timed {
     let dag = rust::expression_dag(sheet);
     timed(|| (), move |()| ExpandedMonomials::from_dag(&dag))
+}
+
+fn expand_interactions(sheet: &Sheet) -> Ready {
+    Ready::expand(Family::Interactions, sheet)
+}
+
+fn rust_interactions(sheet: &Sheet) -> Timed {
+    let tree = rust::symbolic_constraints(sheet);
+    let expand = move |()| ExpandedInteractionMonomials::from_symbolic_constraints(&tree);
+    timed(|| (), expand)
 }
 
 /// The time of so many runs.
@@ -193,7 +196,7 @@ fn realistic_sheets() {
         let ready = [
             Ready::build(&sheet),
             expand_constraints(&sheet),
-            Ready::expand(Family::Interactions, &sheet),
+            expand_interactions(&sheet),
         ];
         let [build, constraints, interactions] = ready.map(|ready| {
             let mut call = timed_rattle(ready);
@@ -205,29 +208,38 @@ fn realistic_sheets() {
     }
 }
 
-/// The time of expand_constraints where every monomial of every constraint has a header of its own.
+/// The time of an expansion where every monomial of every root has a header of its own.
 fn grouping() {
-    println!("\nexpand_constraints, every monomial a header of its own: milliseconds, and over the Rust\n");
-    let heads = ["constraints", "headers", "pool words"];
-    heads.iter().for_each(|head| print!("{head:>12}"));
+    let sums = [1, 2, 4, 8, 11, 16, 23, 32];
+    let text = "expand_constraints, every monomial of every constraint";
+    grouped(text, &sums, |sheet| {
+        (expand_constraints(sheet), rust_constraints(sheet))
+    });
+    let text = "expand_interactions, every monomial of every field";
+    let sums = [1, 2, 4, 8, 16, 32, 40];
+    grouped(text, &sums, |sheet| {
+        let sheet = as_fields(sheet);
+        (expand_interactions(&sheet), rust_interactions(&sheet))
+    });
+}
+
+fn grouped(text: &str, sums: &[u32], both: impl Fn(&Sheet) -> (Ready, Timed)) {
+    println!("\n{text} a header of its own: milliseconds, and over the Rust\n");
+    print!("{:>12}{:>12}", "products", "headers");
     println!(
         "{:>16}{:>8}{:>18}{:>8}",
         "in order", "ratio", "from the last", "ratio"
     );
     let mut longest = Duration::ZERO;
-    for sums in [1, 2, 4, 8, 11, 16, 23, 32] {
+    for &sums in sums {
         if longest > TOO_LONG {
             break;
         }
-        let sheets = [false, true].map(|backward| products_of_sums(16, sums, backward));
-        let needs = needs(Family::Constraints, &sheets[0]);
-        let outputs = needs.outputs.expect("lists");
-        let (count, headers) = (sheets[0].constraints.len(), outputs[0] / 4);
-        print!("{count:>12}{headers:>12}{:>12}", needs.pool);
-        for (sheet, width) in sheets.iter().zip([16, 18]) {
-            let mut ours = timed_rattle(expand_constraints(sheet));
-            let mut of_rust = rust_constraints(sheet);
-            let (time, rust) = (ours(1), of_rust(1));
+        let products = sums * sums;
+        print!("{products:>12}{:>12}", products * WIDTH * WIDTH);
+        for (backward, width) in [(false, 16), (true, 18)] {
+            let (ready, mut of_rust) = both(&products_of_sums(WIDTH, sums, backward));
+            let (time, rust) = (timed_rattle(ready)(1), of_rust(1));
             longest = longest.max(time);
             let [time, rust] = [time, rust].map(|time| 1e3 * time.as_secs_f64());
             print!("{time:>width$.1}{:>8.2}", time / rust);

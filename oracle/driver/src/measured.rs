@@ -132,6 +132,19 @@ fn many_headers(rng: &mut Rng, count: usize) -> Sheet {
     with_interactions(rng, sheet.clone(), &sheet.constraints)
 }
 
+/// The constraints of a sheet as fields of interactions, 63 in each.
+pub fn as_fields(sheet: &Sheet) -> Sheet {
+    let interaction = |fields: &[u32]| Interaction {
+        message: fields.to_vec(),
+        ..Interaction::default()
+    };
+    Sheet {
+        interactions: sheet.constraints.chunks(63).map(interaction).collect(),
+        constraints: vec![],
+        records: sheet.records.clone(),
+    }
+}
+
 /// So many sums of so many variables times as many others, each product a constraint: its headers are the square of the width, and
 /// no constraint has a header of another. The products stand in the order of their headers, or from the last to the first.
 pub fn products_of_sums(width: u32, sums: u32, backward: bool) -> Sheet {

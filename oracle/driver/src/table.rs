@@ -90,12 +90,14 @@ impl Part {
     }
 }
 
-/// One table: each part's title with the sums of its kinds, then the kinds; a kind without a case is printed too.
+/// One table, in Markdown: each part's title with the sums of its kinds, then the kinds; a kind without a case is printed too.
 pub fn print_parts(parts: &[Part]) {
-    let line = |kind: &str, [cases, differences]: [u64; 2]| {
-        println!("{kind:<62} {cases:>11} {differences:>11}");
+    let line = |kind: &str, [cases, differences]: [String; 2]| {
+        println!("| {kind:<62} | {cases:>13} | {differences:>11} |");
     };
-    println!("\n{:<62} {:>11} {:>11}", "kind", "cases", "differences");
+    println!();
+    line("kind", ["cases", "differences"].map(String::from));
+    line("---", ["---:", "---:"].map(String::from));
     for part in parts {
         let numbers = |kind: &&str| match part.table.of(kind) {
             Some(row) => [row.cases, row.differences],
@@ -105,9 +107,22 @@ pub fn print_parts(parts: &[Part]) {
         let sums = kinds
             .map(numbers)
             .fold([0, 0], |[a, b], [c, d]| [a + c, b + d]);
-        line(&format!("= {}", part.title), sums);
+        line(&format!("**{}**", part.title), sums.map(grouped));
         for kind in &part.kinds {
-            line(kind, numbers(kind));
+            line(kind, numbers(kind).map(grouped));
         }
     }
+}
+
+/// A number with a comma before each three digits.
+fn grouped(n: u64) -> String {
+    let digits = n.to_string();
+    let mut text = String::new();
+    for (k, digit) in digits.chars().enumerate() {
+        if k > 0 && (digits.len() - k) % 3 == 0 {
+            text.push(',');
+        }
+        text.push(digit);
+    }
+    text
 }
