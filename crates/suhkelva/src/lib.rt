@@ -5,58 +5,55 @@ ghost use lib.ListN.{length, getD};
 ghost use Rattle.semantics.specs.Arithmetic.{prime};
 ghost use Rattle.semantics.specs.Sheet.{recordOf};
 ghost use Rattle.semantics.specs.Call.{blockCheckCall, packCall, unpackCall, checkCall, maxRotationCall, numConstraintsCall, conversionCall, readerCall, writerCall, builderCall};
-ghost use Rattle.suhkelva.specs.Fields.{packedFields, recordFields, blockFields, sheetFields, numberFields, writtenFields};
-
-pub mod fields;
-
-use fields::SuhkelvaBlock;
-use fields::SuhkelvaNumber;
-use fields::SuhkelvaPacked;
-use fields::SuhkelvaRecord;
-use fields::SuhkelvaSheet;
-use fields::SuhkelvaWritten;
+ghost use Rattle.c_replies.specs.Fields.{packedFields, recordFields, blockFields, sheetFields, numberFields, writtenFields};
+use c_replies::SuhkelvaBlock;
+use c_replies::SuhkelvaNumber;
+use c_replies::SuhkelvaPacked;
+use c_replies::SuhkelvaRecord;
+use c_replies::SuhkelvaSheet;
+use c_replies::SuhkelvaWritten;
 use packed_var::PackedVar;
 
 #[no_mangle]
 pub extern "C" fn suhkelva_pack(kind: u32, a: u32, b: u32, c: u32, d: u32) -> SuhkelvaPacked
     ensures { λ r. ⌜ r ≡ packedFields (packCall (recordOf kind a b c d) .reply) ⌝ }
 {
-    fields::packed_fields(packing::pack(kind, a, b, c, d))
+    c_replies::packed_fields(packing::pack(kind, a, b, c, d))
 }
 
 #[no_mangle]
 pub extern "C" fn suhkelva_unpack(packed: u32) -> SuhkelvaRecord
     ensures { λ r. ⌜ r ≡ recordFields (unpackCall packed .reply) ⌝ }
 {
-    fields::record_fields(packing::unpack(PackedVar(packed)))
+    c_replies::record_fields(packing::unpack(PackedVar(packed)))
 }
 
 #[no_mangle]
 pub extern "C" fn suhkelva_block_check(bytes: &[u8], number: u32) -> SuhkelvaBlock
     ensures { λ r. ⌜ r ≡ blockFields (blockCheckCall (now (bytes .entry)) number .reply) ⌝ }
 {
-    fields::block_fields(block::block_check(bytes, number))
+    c_replies::block_fields(block::block_check(bytes, number))
 }
 
 #[no_mangle]
 pub extern "C" fn suhkelva_check_sheet(s: &[u32]) -> SuhkelvaSheet
     ensures { λ r. ⌜ r ≡ sheetFields (checkCall prime (now (s .entry)) .reply) ⌝ }
 {
-    fields::sheet_fields(sheet::check_sheet(s))
+    c_replies::sheet_fields(sheet::check_sheet(s))
 }
 
 #[no_mangle]
 pub extern "C" fn suhkelva_max_rotation(s: &[u32]) -> SuhkelvaNumber
     ensures { λ r. ⌜ r ≡ numberFields (maxRotationCall prime (now (s .entry)) .reply) ⌝ }
 {
-    fields::number_fields(sheet_calls::max_rotation(s))
+    c_replies::number_fields(sheet_calls::max_rotation(s))
 }
 
 #[no_mangle]
 pub extern "C" fn suhkelva_num_constraints(s: &[u32]) -> SuhkelvaNumber
     ensures { λ r. ⌜ r ≡ numberFields (numConstraintsCall prime (now (s .entry)) .reply) ⌝ }
 {
-    fields::number_fields(sheet_calls::num_constraints(s))
+    c_replies::number_fields(sheet_calls::num_constraints(s))
 }
 
 #[no_mangle]
@@ -64,7 +61,7 @@ pub extern "C" fn suhkelva_convert(s: &[u32], out: &mut [u32]) -> SuhkelvaWritte
     ensures reply { λ r. ⌜ r ≡ writtenFields (conversionCall prime (now (s .entry)) (length (now (out .entry))) .reply) ⌝ }
     ensures words { λ r. ⌜ now (out .exit) ≡ getD (conversionCall prime (now (s .entry)) (length (now (out .entry))) .slices) 0 [] ⌝ }
 {
-    fields::written_fields(sheet_calls::convert(s, out))
+    c_replies::written_fields(sheet_calls::convert(s, out))
 }
 
 #[no_mangle]
@@ -72,7 +69,7 @@ pub extern "C" fn suhkelva_read_blocks(bytes: &[u8], out: &mut [u32]) -> Suhkelv
     ensures reply { λ r. ⌜ r ≡ writtenFields (readerCall (now (bytes .entry)) (length (now (out .entry))) .reply) ⌝ }
     ensures words { λ r. ⌜ now (out .exit) ≡ getD (readerCall (now (bytes .entry)) (length (now (out .entry))) .slices) 0 [] ⌝ }
 {
-    fields::written_fields(block_reader::read_blocks(bytes, out))
+    c_replies::written_fields(block_reader::read_blocks(bytes, out))
 }
 
 #[no_mangle]
@@ -80,7 +77,7 @@ pub extern "C" fn suhkelva_write_blocks(s: &[u32], out: &mut [u8]) -> SuhkelvaWr
     ensures reply { λ r. ⌜ r ≡ writtenFields (writerCall prime (now (s .entry)) (length (now (out .entry))) .reply) ⌝ }
     ensures words { λ r. ⌜ now (out .exit) ≡ getD (writerCall prime (now (s .entry)) (length (now (out .entry))) .slices) 0 [] ⌝ }
 {
-    fields::written_fields(block_writer::write_blocks(s, out))
+    c_replies::written_fields(block_writer::write_blocks(s, out))
 }
 
 #[no_mangle]
@@ -89,5 +86,5 @@ pub extern "C" fn suhkelva_build(s: &[u32], scratch: &mut [u32], out: &mut [u32]
     ensures scratch_words { λ r. ⌜ now (scratch .exit) ≡ getD (builderCall prime (now (s .entry)) (length (now (scratch .entry))) (length (now (out .entry))) .slices) 0 [] ⌝ }
     ensures words { λ r. ⌜ now (out .exit) ≡ getD (builderCall prime (now (s .entry)) (length (now (scratch .entry))) (length (now (out .entry))) .slices) 1 [] ⌝ }
 {
-    fields::written_fields(dag::build(s, scratch, out))
+    c_replies::written_fields(dag::build(s, scratch, out))
 }

@@ -2,7 +2,7 @@ use mathlib.Core.Path.{ap, _∙_}
 use mathlib.Core.List.{[]}
 use borrow.Author.Needs.{needs}
 use lib.ListN.{getD}
-use Rattle.suhkelva.specs.Fields.{writtenFields}
+use Rattle.c_replies.specs.Fields.{writtenFields}
 use Rattle.semantics.specs.Call.{Outcome}
 use Rattle.suhkelva.proofs.suhkelva_convert.Statement.{statement}
 use Rattle.suhkelva.proofs.suhkelva_convert.Tie as tie

@@ -1,10 +1,10 @@
 use mathlib.Core.Path.{sym, ap}
 use borrow.Author.Needs.{needs}
-use Rattle.suhkelva.specs.Replies.{packedReply}
-use Rattle.suhkelva.specs.Fields.{packedFields}
+use Rattle.c_replies.specs.Replies.{packedReply}
+use Rattle.c_replies.specs.Fields.{packedFields}
 use Rattle.packed_var.specs.declared.Packed.{Packed}
-use Rattle.suhkelva.proofs.fields.packed_fields.Statement.{statement}
-use Rattle.suhkelva.proofs.fields.packed_fields.Tie as tie
+use Rattle.c_replies.proofs.packed_fields.Statement.{statement}
+use Rattle.c_replies.proofs.packed_fields.Tie as tie
 
 enum-known-packed : tie.Need-enum-known-packed
 enum-known-packed c = search needs

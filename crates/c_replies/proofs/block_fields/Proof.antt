@@ -1,10 +1,10 @@
 use mathlib.Core.Path.{sym, ap}
 use borrow.Author.Needs.{needs}
-use Rattle.suhkelva.specs.Replies.{blockReply}
-use Rattle.suhkelva.specs.Fields.{blockFields}
+use Rattle.c_replies.specs.Replies.{blockReply}
+use Rattle.c_replies.specs.Fields.{blockFields}
 use Rattle.block.specs.declared.BlockChecked.{BlockChecked}
-use Rattle.suhkelva.proofs.fields.block_fields.Statement.{statement}
-use Rattle.suhkelva.proofs.fields.block_fields.Tie as tie
+use Rattle.c_replies.proofs.block_fields.Statement.{statement}
+use Rattle.c_replies.proofs.block_fields.Tie as tie
 
 enum-told : tie.Need-enum-told
 enum-told c = search needs

@@ -21,7 +21,7 @@ use Rattle.block.specs.declared.BlockChecked.the-variants as block
 use Rattle.block.specs.Checked.{checkedAnswer}
 use Rattle.sheet.specs.declared.Checked.{Checked}
 use Rattle.sheet.specs.Scans.{checkedOf}
-use Rattle.suhkelva.specs.Replies.{packedReply, unpackedReply, blockReply, checkedReply}
+use Rattle.c_replies.specs.Replies.{packedReply, unpackedReply, blockReply, checkedReply}
 
 -- The reply of a call that hands back numbers and writes nothing.
 abbrev replyOf : {X : Type 0} → (X → List ℕ) → Answer X → Reply

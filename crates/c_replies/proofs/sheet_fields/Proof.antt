@@ -1,10 +1,10 @@
 use mathlib.Core.Path.{sym, ap}
 use borrow.Author.Needs.{needs}
-use Rattle.suhkelva.specs.Replies.{checkedReply}
-use Rattle.suhkelva.specs.Fields.{sheetFields}
+use Rattle.c_replies.specs.Replies.{checkedReply}
+use Rattle.c_replies.specs.Fields.{sheetFields}
 use Rattle.sheet.specs.declared.Checked.{Checked}
-use Rattle.suhkelva.proofs.fields.sheet_fields.Statement.{statement}
-use Rattle.suhkelva.proofs.fields.sheet_fields.Tie as tie
+use Rattle.c_replies.proofs.sheet_fields.Statement.{statement}
+use Rattle.c_replies.proofs.sheet_fields.Tie as tie
 
 enum-known-checked : tie.Need-enum-known-checked
 enum-known-checked c = search needs

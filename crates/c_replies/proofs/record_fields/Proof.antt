@@ -1,10 +1,10 @@
 use mathlib.Core.Path.{sym, ap}
 use borrow.Author.Needs.{needs}
-use Rattle.suhkelva.specs.Replies.{unpackedReply}
-use Rattle.suhkelva.specs.Fields.{recordFields}
+use Rattle.c_replies.specs.Replies.{unpackedReply}
+use Rattle.c_replies.specs.Fields.{recordFields}
 use Rattle.packing.specs.declared.Unpacked.{Unpacked}
-use Rattle.suhkelva.proofs.fields.record_fields.Statement.{statement}
-use Rattle.suhkelva.proofs.fields.record_fields.Tie as tie
+use Rattle.c_replies.proofs.record_fields.Statement.{statement}
+use Rattle.c_replies.proofs.record_fields.Tie as tie
 
 enum-known-unpacked : tie.Need-enum-known-unpacked
 enum-known-unpacked c = search needs

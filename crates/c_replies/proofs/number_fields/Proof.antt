@@ -1,10 +1,10 @@
 use mathlib.Core.Path.{sym, ap}
 use borrow.Author.Needs.{needs}
 use Rattle.sheet_calls.specs.Replies.{countedReply}
-use Rattle.suhkelva.specs.Fields.{numberFields}
+use Rattle.c_replies.specs.Fields.{numberFields}
 use Rattle.sheet_calls.specs.declared.Counted.{Counted}
-use Rattle.suhkelva.proofs.fields.number_fields.Statement.{statement}
-use Rattle.suhkelva.proofs.fields.number_fields.Tie as tie
+use Rattle.c_replies.proofs.number_fields.Statement.{statement}
+use Rattle.c_replies.proofs.number_fields.Tie as tie
 
 enum-known-counted : tie.Need-enum-known-counted
 enum-known-counted c = search needs

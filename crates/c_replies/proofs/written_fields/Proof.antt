@@ -1,10 +1,10 @@
 use mathlib.Core.Path.{sym, ap}
 use borrow.Author.Needs.{needs}
 use Rattle.sheet.specs.Replies.{writtenReply}
-use Rattle.suhkelva.specs.Fields.{writtenFields}
+use Rattle.c_replies.specs.Fields.{writtenFields}
 use Rattle.sheet.specs.declared.Written.{Written}
-use Rattle.suhkelva.proofs.fields.written_fields.Statement.{statement}
-use Rattle.suhkelva.proofs.fields.written_fields.Tie as tie
+use Rattle.c_replies.proofs.written_fields.Statement.{statement}
+use Rattle.c_replies.proofs.written_fields.Tie as tie
 
 enum-known-written : tie.Need-enum-known-written
 enum-known-written c = search needs

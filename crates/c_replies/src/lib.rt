@@ -2,8 +2,8 @@
 ghost use mathlib.Core.Path.{_≡_};
 ghost use Rattle.sheet.specs.Replies.{writtenReply};
 ghost use Rattle.sheet_calls.specs.Replies.{countedReply};
-ghost use Rattle.suhkelva.specs.Replies.{packedReply, unpackedReply, blockReply, checkedReply};
-ghost use Rattle.suhkelva.specs.Fields.{packedFields, recordFields, blockFields, sheetFields, numberFields, writtenFields};
+ghost use Rattle.c_replies.specs.Replies.{packedReply, unpackedReply, blockReply, checkedReply};
+ghost use Rattle.c_replies.specs.Fields.{packedFields, recordFields, blockFields, sheetFields, numberFields, writtenFields};
 use block::BlockChecked;
 use packed_var::Packed;
 use packing::Unpacked;

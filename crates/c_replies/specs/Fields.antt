@@ -1,12 +1,12 @@
 -- The fields in which a reply goes to C: its number, its place, and its counts or numbers, 0 where it has none.
 use lib.ListN.{getD}
 use Rattle.semantics.specs.Call.{Reply}
-use Rattle.suhkelva.specs.declared.fields.SuhkelvaPacked.{SuhkelvaPacked}
-use Rattle.suhkelva.specs.declared.fields.SuhkelvaRecord.{SuhkelvaRecord}
-use Rattle.suhkelva.specs.declared.fields.SuhkelvaBlock.{SuhkelvaBlock}
-use Rattle.suhkelva.specs.declared.fields.SuhkelvaSheet.{SuhkelvaSheet}
-use Rattle.suhkelva.specs.declared.fields.SuhkelvaNumber.{SuhkelvaNumber}
-use Rattle.suhkelva.specs.declared.fields.SuhkelvaWritten.{SuhkelvaWritten}
+use Rattle.c_replies.specs.declared.SuhkelvaPacked.{SuhkelvaPacked}
+use Rattle.c_replies.specs.declared.SuhkelvaRecord.{SuhkelvaRecord}
+use Rattle.c_replies.specs.declared.SuhkelvaBlock.{SuhkelvaBlock}
+use Rattle.c_replies.specs.declared.SuhkelvaSheet.{SuhkelvaSheet}
+use Rattle.c_replies.specs.declared.SuhkelvaNumber.{SuhkelvaNumber}
+use Rattle.c_replies.specs.declared.SuhkelvaWritten.{SuhkelvaWritten}
 
 unfoldable pub packedFields : Reply → SuhkelvaPacked
 packedFields r = record { number = r .number; place = r .place; packed = getD (r .numbers) 0 0 }
