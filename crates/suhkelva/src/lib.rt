@@ -4,8 +4,11 @@ ghost use mathlib.Core.List.{[]};
 ghost use lib.ListN.{length, getD};
 ghost use Rattle.semantics.specs.Arithmetic.{prime};
 ghost use Rattle.semantics.specs.Sheet.{recordOf};
-ghost use Rattle.semantics.specs.Call.{blockCheckCall, packCall, unpackCall, checkCall, maxRotationCall, numConstraintsCall, conversionCall, readerCall, writerCall, builderCall};
+ghost use Rattle.semantics.specs.Call.{blockCheckCall, packCall, unpackCall, checkCall, maxRotationCall, numConstraintsCall, conversionCall, readerCall, writerCall, builderCall, constraintCall, interactionCall};
 ghost use Rattle.c_replies.specs.Fields.{packedFields, recordFields, blockFields, sheetFields, numberFields, writtenFields};
+ghost use Rattle.c_list_replies.specs.Fields.{listFields, interactionListFields};
+use c_list_replies::SuhkelvaInteractionLists;
+use c_list_replies::SuhkelvaLists;
 use c_replies::SuhkelvaBlock;
 use c_replies::SuhkelvaNumber;
 use c_replies::SuhkelvaPacked;
@@ -87,4 +90,60 @@ pub extern "C" fn suhkelva_build(s: &[u32], scratch: &mut [u32], out: &mut [u32]
     ensures words { λ r. ⌜ now (out .exit) ≡ getD (builderCall prime (now (s .entry)) (length (now (scratch .entry))) (length (now (out .entry))) .slices) 1 [] ⌝ }
 {
     c_replies::written_fields(dag::build(s, scratch, out))
+}
+
+#[no_mangle]
+pub extern "C" fn suhkelva_expand_constraints(
+    s: &[u32],
+    work: &mut [u32],
+    pool: &mut [u32],
+    headers: &mut [u32],
+    variables: &mut [u32],
+    terms: &mut [u32],
+) -> SuhkelvaLists
+    ensures reply { λ r. ⌜ r ≡ listFields (constraintCall prime (now (s .entry)) (length (now (work .entry))) (length (now (pool .entry))) (length (now (headers .entry))) (length (now (variables .entry))) (length (now (terms .entry))) .reply) ⌝ }
+    ensures work_words { λ r. ⌜ now (work .exit) ≡ getD (constraintCall prime (now (s .entry)) (length (now (work .entry))) (length (now (pool .entry))) (length (now (headers .entry))) (length (now (variables .entry))) (length (now (terms .entry))) .slices) 0 [] ⌝ }
+    ensures pool_words { λ r. ⌜ now (pool .exit) ≡ getD (constraintCall prime (now (s .entry)) (length (now (work .entry))) (length (now (pool .entry))) (length (now (headers .entry))) (length (now (variables .entry))) (length (now (terms .entry))) .slices) 1 [] ⌝ }
+    ensures header_words { λ r. ⌜ now (headers .exit) ≡ getD (constraintCall prime (now (s .entry)) (length (now (work .entry))) (length (now (pool .entry))) (length (now (headers .entry))) (length (now (variables .entry))) (length (now (terms .entry))) .slices) 2 [] ⌝ }
+    ensures variable_words { λ r. ⌜ now (variables .exit) ≡ getD (constraintCall prime (now (s .entry)) (length (now (work .entry))) (length (now (pool .entry))) (length (now (headers .entry))) (length (now (variables .entry))) (length (now (terms .entry))) .slices) 3 [] ⌝ }
+    ensures term_words { λ r. ⌜ now (terms .exit) ≡ getD (constraintCall prime (now (s .entry)) (length (now (work .entry))) (length (now (pool .entry))) (length (now (headers .entry))) (length (now (variables .entry))) (length (now (terms .entry))) .slices) 4 [] ⌝ }
+{
+    let lists = expansion::expand_constraints(s, work, pool, headers, variables, terms);
+    c_list_replies::list_fields(lists)
+}
+
+#[no_mangle]
+pub extern "C" fn suhkelva_expand_interactions(
+    s: &[u32],
+    work: &mut [u32],
+    pool: &mut [u32],
+    headers: &mut [u32],
+    variables: &mut [u32],
+    terms: &mut [u32],
+    denom_headers: &mut [u32],
+    denom_variables: &mut [u32],
+    denom_terms: &mut [u32],
+) -> SuhkelvaInteractionLists
+    ensures reply { λ r. ⌜ r ≡ interactionListFields (interactionCall prime (now (s .entry)) (length (now (work .entry))) (length (now (pool .entry))) (length (now (headers .entry))) (length (now (variables .entry))) (length (now (terms .entry))) (length (now («denom_headers» .entry))) (length (now («denom_variables» .entry))) (length (now («denom_terms» .entry))) .reply) ⌝ }
+    ensures work_words { λ r. ⌜ now (work .exit) ≡ getD (interactionCall prime (now (s .entry)) (length (now (work .entry))) (length (now (pool .entry))) (length (now (headers .entry))) (length (now (variables .entry))) (length (now (terms .entry))) (length (now («denom_headers» .entry))) (length (now («denom_variables» .entry))) (length (now («denom_terms» .entry))) .slices) 0 [] ⌝ }
+    ensures pool_words { λ r. ⌜ now (pool .exit) ≡ getD (interactionCall prime (now (s .entry)) (length (now (work .entry))) (length (now (pool .entry))) (length (now (headers .entry))) (length (now (variables .entry))) (length (now (terms .entry))) (length (now («denom_headers» .entry))) (length (now («denom_variables» .entry))) (length (now («denom_terms» .entry))) .slices) 1 [] ⌝ }
+    ensures header_words { λ r. ⌜ now (headers .exit) ≡ getD (interactionCall prime (now (s .entry)) (length (now (work .entry))) (length (now (pool .entry))) (length (now (headers .entry))) (length (now (variables .entry))) (length (now (terms .entry))) (length (now («denom_headers» .entry))) (length (now («denom_variables» .entry))) (length (now («denom_terms» .entry))) .slices) 2 [] ⌝ }
+    ensures variable_words { λ r. ⌜ now (variables .exit) ≡ getD (interactionCall prime (now (s .entry)) (length (now (work .entry))) (length (now (pool .entry))) (length (now (headers .entry))) (length (now (variables .entry))) (length (now (terms .entry))) (length (now («denom_headers» .entry))) (length (now («denom_variables» .entry))) (length (now («denom_terms» .entry))) .slices) 3 [] ⌝ }
+    ensures term_words { λ r. ⌜ now (terms .exit) ≡ getD (interactionCall prime (now (s .entry)) (length (now (work .entry))) (length (now (pool .entry))) (length (now (headers .entry))) (length (now (variables .entry))) (length (now (terms .entry))) (length (now («denom_headers» .entry))) (length (now («denom_variables» .entry))) (length (now («denom_terms» .entry))) .slices) 4 [] ⌝ }
+    ensures denom_header_words { λ r. ⌜ now («denom_headers» .exit) ≡ getD (interactionCall prime (now (s .entry)) (length (now (work .entry))) (length (now (pool .entry))) (length (now (headers .entry))) (length (now (variables .entry))) (length (now (terms .entry))) (length (now («denom_headers» .entry))) (length (now («denom_variables» .entry))) (length (now («denom_terms» .entry))) .slices) 5 [] ⌝ }
+    ensures denom_variable_words { λ r. ⌜ now («denom_variables» .exit) ≡ getD (interactionCall prime (now (s .entry)) (length (now (work .entry))) (length (now (pool .entry))) (length (now (headers .entry))) (length (now (variables .entry))) (length (now (terms .entry))) (length (now («denom_headers» .entry))) (length (now («denom_variables» .entry))) (length (now («denom_terms» .entry))) .slices) 6 [] ⌝ }
+    ensures denom_term_words { λ r. ⌜ now («denom_terms» .exit) ≡ getD (interactionCall prime (now (s .entry)) (length (now (work .entry))) (length (now (pool .entry))) (length (now (headers .entry))) (length (now (variables .entry))) (length (now (terms .entry))) (length (now («denom_headers» .entry))) (length (now («denom_variables» .entry))) (length (now («denom_terms» .entry))) .slices) 7 [] ⌝ }
+{
+    let lists = expansion::expand_interactions(
+        s,
+        work,
+        pool,
+        headers,
+        variables,
+        terms,
+        denom_headers,
+        denom_variables,
+        denom_terms,
+    );
+    c_list_replies::interaction_list_fields(lists)
 }
