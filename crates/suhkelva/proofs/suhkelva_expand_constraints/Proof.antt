@@ -1,10 +1,8 @@
-use mathlib.Core.Path.{_≡_, ap, _∙_}
-use mathlib.Core.List.{List, []}
-use Prim.Native.Nat.{ℕ}
+use mathlib.Core.Path.{ap, _∙_}
 use borrow.Author.Needs.{needs}
-use lib.ListN.{getD}
 use Rattle.c_list_replies.specs.Fields.{listFields}
 use Rattle.semantics.specs.Call.{Outcome}
+use Rattle.suhkelva.proofs.Laws.{slice}
 use Rattle.suhkelva.proofs.suhkelva_expand_constraints.Statement.{statement}
 use Rattle.suhkelva.proofs.suhkelva_expand_constraints.Tie as tie
 
@@ -29,9 +27,6 @@ same-length-4 c = c .before .before .before .before .before .before .before .bef
 same-length-5 : tie.Need-same-length-5
 same-length-5 c = c .before .before .before .before .before .before .before .before .before .before .before .expand-constraints .kept .1 .1 .1 .1 .1 .0
 
-slice : (k : ℕ) {o o′ : Outcome} → o ≡ o′ → getD (o .slices) k [] ≡ getD (o′ .slices) k []
-slice k e = ap (λ (o : Outcome). getD (o .slices) k []) e
-
 returns : tie.Need-returns
 returns c =
     let e = c .before .before .before .before .before .before .before .before .before .before .before .expand-constraints .ensures in (
@@ -40,4 +35,6 @@ returns c =
     )
 
 pub suhkelva-expand-constraints-spec : {M : Type 1} → statement M
-suhkelva-expand-constraints-spec = tie.close (tie.spec expand-constraints-requires list-fields-requires same-length same-length-2 same-length-3 same-length-4 same-length-5 returns)
+suhkelva-expand-constraints-spec =
+    tie.close (tie.spec expand-constraints-requires list-fields-requires
+    same-length same-length-2 same-length-3 same-length-4 same-length-5 returns)

@@ -1,10 +1,8 @@
-use mathlib.Core.Path.{_≡_, ap, _∙_}
-use mathlib.Core.List.{List, []}
-use Prim.Native.Nat.{ℕ}
+use mathlib.Core.Path.{ap, _∙_}
 use borrow.Author.Needs.{needs}
-use lib.ListN.{getD}
 use Rattle.c_list_replies.specs.Fields.{interactionListFields}
 use Rattle.semantics.specs.Call.{Outcome}
+use Rattle.suhkelva.proofs.Laws.{slice}
 use Rattle.suhkelva.proofs.suhkelva_expand_interactions.Statement.{statement}
 use Rattle.suhkelva.proofs.suhkelva_expand_interactions.Tie as tie
 
@@ -38,9 +36,6 @@ same-length-7 c = c .before .before .before .before .before .before .before .bef
 same-length-8 : tie.Need-same-length-8
 same-length-8 c = c .before .before .before .before .before .before .before .before .before .before .before .before .before .before .before .before .before .expand-interactions .kept .1 .1 .1 .1 .1 .1 .1 .1 .0
 
-slice : (k : ℕ) {o o′ : Outcome} → o ≡ o′ → getD (o .slices) k [] ≡ getD (o′ .slices) k []
-slice k e = ap (λ (o : Outcome). getD (o .slices) k []) e
-
 returns : tie.Need-returns
 returns c =
     let e = c .before .before .before .before .before .before .before .before .before .before .before .before .before .before .before .before .before .expand-interactions .ensures in (
@@ -49,4 +44,6 @@ returns c =
     )
 
 pub suhkelva-expand-interactions-spec : {M : Type 1} → statement M
-suhkelva-expand-interactions-spec = tie.close (tie.spec expand-interactions-requires interaction-list-fields-requires same-length same-length-2 same-length-3 same-length-4 same-length-5 same-length-6 same-length-7 same-length-8 returns)
+suhkelva-expand-interactions-spec =
+    tie.close (tie.spec expand-interactions-requires interaction-list-fields-requires
+    same-length same-length-2 same-length-3 same-length-4 same-length-5 same-length-6 same-length-7 same-length-8 returns)
