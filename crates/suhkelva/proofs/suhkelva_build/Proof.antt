@@ -1,9 +1,8 @@
 use mathlib.Core.Path.{ap, _∙_}
-use mathlib.Core.List.{[]}
 use borrow.Author.Needs.{needs}
-use lib.ListN.{getD}
-use Rattle.suhkelva.specs.Fields.{writtenFields}
+use Rattle.c_replies.specs.Fields.{writtenFields}
 use Rattle.semantics.specs.Call.{Outcome}
+use Rattle.suhkelva.proofs.Laws.{slice}
 use Rattle.suhkelva.proofs.suhkelva_build.Statement.{statement}
 use Rattle.suhkelva.proofs.suhkelva_build.Tie as tie
 
@@ -23,8 +22,8 @@ returns : tie.Need-returns
 returns c = (
   c .written-fields .ensures ∙ ap (λ (o : Outcome). writtenFields (o .reply)) (c .before .before .before .before .before .build .ensures),
   (
-    ap (λ (o : Outcome). getD (o .slices) 0 []) (c .before .before .before .before .before .build .ensures),
-    ap (λ (o : Outcome). getD (o .slices) 1 []) (c .before .before .before .before .before .build .ensures),
+    slice 0 (c .before .before .before .before .before .build .ensures),
+    slice 1 (c .before .before .before .before .before .build .ensures),
   ),
 )
 
