@@ -3,6 +3,7 @@ ghost use Prim.Native.Nat.{_≤_};
 ghost use lib.ListN.{length};
 use constraint_lists::ConstraintLists;
 use grouping::Lengths;
+use interaction_lists::InteractionLengths;
 use interaction_lists::InteractionLists;
 use libc::STDIN_FILENO;
 use libc::STDOUT_FILENO;
@@ -78,54 +79,69 @@ fn same_words(before: bool, words: &[u32], n: usize) -> bool {
     same
 }
 
+// The same for a list: how many words, then each.
+fn same_list(before: bool, words: &[u32], n: usize) -> bool {
+    let count = same_number(before, n);
+    same_words(count, words, n)
+}
+
 // The same for a refusal.
 fn same_refusal(r: Refusal) -> bool {
     let number = same_number(true, records::wide(r.number));
     same_number(number, r.place)
 }
 
-// The same for how many words three lists have, and for the words.
+// The same for three lists.
 fn same_lists(before: bool, n: Lengths, headers: &[u32], variables: &[u32], terms: &[u32]) -> bool {
-    let a = same_number(before, n.headers);
-    let b = same_words(a, headers, n.headers);
-    let c = same_number(b, n.variables);
-    let d = same_words(c, variables, n.variables);
-    let e = same_number(d, n.terms);
-    same_words(e, terms, n.terms)
+    let first = same_list(before, headers, n.headers);
+    let second = same_list(first, variables, n.variables);
+    same_list(second, terms, n.terms)
 }
 
-// Whether the builder answers so: number and place, then how many words, and the words.
-fn replay_graph(sheet: &[u32]) -> bool {
-    let mut scratch = [0u32; 1016];
-    let mut out = [0u32; 1016];
-    let built = dag::build(sheet, &mut scratch, &mut out);
+// A call of the builder: the words lent of scratch and output, then number and place; where it accepts, the graph.
+fn replay_build(sheet: &[u32], scratch: &mut [u32], out: &mut [u32]) -> bool {
+    let a = next_length(scratch.len());
+    let b = next_length(out.len());
+    let built = dag::build(sheet, &mut scratch[..a], &mut out[..b]);
     match built {
         Written::Words(n) => {
             let accepted = same_refusal(Refusal {
                 number: 0,
                 place: 0,
             });
-            let count = same_number(accepted, n);
-            same_words(count, &out, n)
+            same_list(accepted, out, n)
         }
         Written::Refused(r) => same_refusal(r),
     }
 }
 
-// Whether the constraint call answers so.
-fn replay_constraints(sheet: &[u32]) -> bool {
-    let mut work = [0u32; 4096];
-    let mut pool = [0u32; 4096];
-    let mut headers = [0u32; 1024];
-    let mut variables = [0u32; 1024];
-    let mut terms = [0u32; 1024];
+fn build_again(sheet: &[u32]) -> bool {
+    let mut scratch = [0u32; 4096];
+    let mut out = [0u32; 4096];
+    replay_build(sheet, &mut scratch, &mut out)
+}
+
+// A call of the constraint expansion: the words lent, number and place; where it accepts, the three lists.
+fn replay_constraints(
+    sheet: &[u32],
+    work: &mut [u32],
+    pool: &mut [u32],
+    headers: &mut [u32],
+    variables: &mut [u32],
+    terms: &mut [u32],
+) -> bool {
+    let a = next_length(work.len());
+    let b = next_length(pool.len());
+    let c = next_length(headers.len());
+    let d = next_length(variables.len());
+    let e = next_length(terms.len());
     let lists = expansion::expand_constraints(
         sheet,
-        &mut work,
-        &mut pool,
-        &mut headers,
-        &mut variables,
-        &mut terms,
+        &mut work[..a],
+        &mut pool[..b],
+        &mut headers[..c],
+        &mut variables[..d],
+        &mut terms[..e],
     );
     match lists {
         ConstraintLists::Written(n) => {
@@ -133,23 +149,109 @@ fn replay_constraints(sheet: &[u32]) -> bool {
                 number: 0,
                 place: 0,
             });
-            same_lists(accepted, n, &headers, &variables, &terms)
+            same_lists(accepted, n, headers, variables, terms)
         }
         ConstraintLists::Refused(r) => same_refusal(r),
     }
 }
 
-// Whether the interaction call answers so, with its two numbers at the end.
-fn replay_interactions(sheet: &[u32]) -> bool {
+fn constraints_again(sheet: &[u32]) -> bool {
     let mut work = [0u32; 4096];
-    let mut pool = [0u32; 4096];
-    let mut headers = [0u32; 512];
-    let mut variables = [0u32; 512];
-    let mut terms = [0u32; 512];
-    let mut denom_headers = [0u32; 512];
-    let mut denom_variables = [0u32; 512];
-    let mut denom_terms = [0u32; 512];
+    let mut pool = [0u32; 8192];
+    let mut headers = [0u32; 1024];
+    let mut variables = [0u32; 1024];
+    let mut terms = [0u32; 1024];
+    replay_constraints(
+        sheet,
+        &mut work,
+        &mut pool,
+        &mut headers,
+        &mut variables,
+        &mut terms,
+    )
+}
+
+// Whether the interaction expansion is accepted with these lists and numbers.
+fn same_interactions(
+    n: InteractionLengths,
+    headers: &[u32],
+    variables: &[u32],
+    terms: &[u32],
+    denom_headers: &[u32],
+    denom_variables: &[u32],
+    denom_terms: &[u32],
+) -> bool {
+    let accepted = same_refusal(Refusal {
+        number: 0,
+        place: 0,
+    });
+    let first = same_lists(accepted, n.numerators, headers, variables, terms);
+    let second = same_lists(
+        first,
+        n.denominators,
+        denom_headers,
+        denom_variables,
+        denom_terms,
+    );
+    let count = same_number(second, n.num_interactions);
+    same_number(count, n.max_fields_len)
+}
+
+// A call of the interaction expansion: the same with six lists, and the two numbers at the end.
+fn replay_interactions(
+    sheet: &[u32],
+    work: &mut [u32],
+    pool: &mut [u32],
+    headers: &mut [u32],
+    variables: &mut [u32],
+    terms: &mut [u32],
+    denom_headers: &mut [u32],
+    denom_variables: &mut [u32],
+    denom_terms: &mut [u32],
+) -> bool {
+    let a = next_length(work.len());
+    let b = next_length(pool.len());
+    let c = next_length(headers.len());
+    let d = next_length(variables.len());
+    let e = next_length(terms.len());
+    let f = next_length(denom_headers.len());
+    let g = next_length(denom_variables.len());
+    let h = next_length(denom_terms.len());
     let lists = expansion::expand_interactions(
+        sheet,
+        &mut work[..a],
+        &mut pool[..b],
+        &mut headers[..c],
+        &mut variables[..d],
+        &mut terms[..e],
+        &mut denom_headers[..f],
+        &mut denom_variables[..g],
+        &mut denom_terms[..h],
+    );
+    match lists {
+        InteractionLists::Written(n) => same_interactions(
+            n,
+            headers,
+            variables,
+            terms,
+            denom_headers,
+            denom_variables,
+            denom_terms,
+        ),
+        InteractionLists::Refused(r) => same_refusal(r),
+    }
+}
+
+fn interactions_again(sheet: &[u32]) -> bool {
+    let mut work = [0u32; 4096];
+    let mut pool = [0u32; 8192];
+    let mut headers = [0u32; 1024];
+    let mut variables = [0u32; 1024];
+    let mut terms = [0u32; 1024];
+    let mut denom_headers = [0u32; 1024];
+    let mut denom_variables = [0u32; 1024];
+    let mut denom_terms = [0u32; 1024];
+    replay_interactions(
         sheet,
         &mut work,
         &mut pool,
@@ -159,85 +261,78 @@ fn replay_interactions(sheet: &[u32]) -> bool {
         &mut denom_headers,
         &mut denom_variables,
         &mut denom_terms,
-    );
-    match lists {
-        InteractionLists::Written(n) => {
-            let accepted = same_refusal(Refusal {
-                number: 0,
-                place: 0,
-            });
-            let first = same_lists(accepted, n.numerators, &headers, &variables, &terms);
-            let second = same_lists(
-                first,
-                n.denominators,
-                &denom_headers,
-                &denom_variables,
-                &denom_terms,
-            );
-            let count = same_number(second, n.num_interactions);
-            same_number(count, n.max_fields_len)
-        }
-        InteractionLists::Refused(r) => same_refusal(r),
-    }
+    )
 }
 
-// Whether every call answers as written for a sheet.
-fn replay_calls(sheet: &[u32]) -> bool {
-    let graph = replay_graph(sheet);
-    let constraints = replay_constraints(sheet);
-    let interactions = replay_interactions(sheet);
-    if !graph {
-        return false;
+// Whether a call answers as written: 1 the builder, 2 the constraint expansion, 3 the interaction expansion.
+fn replay_call(kind: u32, sheet: &[u32]) -> bool {
+    if kind == 1 {
+        return build_again(sheet);
     }
-    if !constraints {
-        return false;
+    if kind == 2 {
+        return constraints_again(sheet);
     }
-    interactions
+    if kind == 3 {
+        return interactions_again(sheet);
+    }
+    false
 }
 
-// The same for the first n words.
-fn replay_words(words: &[u32], n: usize) -> bool
+// The same for the sheet of n words.
+fn replay_words(kind: u32, words: &[u32], n: usize) -> bool
     requires { ⌜ n ≤ length (now words) ⌝ }
 {
-    replay_calls(&words[..n])
+    replay_call(kind, &words[..n])
 }
 
-// The same for the next sheet.
-fn replay_sheet() -> bool {
-    let mut sheet = [0u32; 8192];
-    let n = read_sheet(&mut sheet);
-    replay_words(&sheet, n)
+// Item i: where it is a sheet, its words are read; otherwise the sheet stays.
+fn next_sheet(kind: u32, sheet: &mut [u32], n: usize) -> usize
+    requires { ⌜ n ≤ length (now sheet) ⌝ }
+    ensures { λ r. ⌜ r ≤ length (now (sheet .exit)) ⌝ }
+{
+    if kind == 0 {
+        return read_sheet(sheet);
+    }
+    n
 }
 
-// Replays the next sheet; where it differs, says so, and hands back 1. Sheets are counted from 0.
-fn replay_next(i: usize) -> usize
+// Item i: where it is a call that does not answer as written, says so and hands back 1.
+fn next_call(i: usize, kind: u32, sheet: &[u32], n: usize) -> usize
+    requires { ⌜ n ≤ length (now sheet) ⌝ }
     ensures { λ r. ⌜ r ≤ 1 ⌝ }
 {
-    if replay_sheet() {
+    if kind == 0 {
         return 0;
     }
-    io::write_all(STDOUT_FILENO, b"sheet ");
+    if replay_words(kind, sheet, n) {
+        return 0;
+    }
+    io::write_all(STDOUT_FILENO, b"item ");
     io::print_decimal(STDOUT_FILENO, i as u64);
     io::write_all(STDOUT_FILENO, b" differs\n");
     1
 }
 
-// Replays so many sheets, and hands back how many differ.
-fn replay(count: usize) -> usize {
+// Replays so many items, counted from 0, and hands back how many differ.
+fn replay(sheet: &mut [u32], count: usize) -> usize {
+    let mut n: usize = 0;
     let mut differ: usize = 0;
     let mut i: usize = 0;
     while i < count {
-        differ += replay_next(i);
+        let kind = next_number();
+        n = next_sheet(kind, sheet, n);
+        differ += next_call(i, kind, sheet, n);
         i += 1;
     }
     differ
 }
 
 fn main() {
+    let mut sheet = [0u32; 4096];
     let count = next_length(100000);
-    let differ = replay(count);
+    let differ = replay(&mut sheet, count);
     io::print_decimal(STDOUT_FILENO, count as u64);
-    io::write_all(STDOUT_FILENO, b" sheets, ");
+    io::write_all(STDOUT_FILENO, b" items, ");
     io::print_decimal(STDOUT_FILENO, differ as u64);
     io::write_all(STDOUT_FILENO, b" differ\n");
 }
