@@ -17,19 +17,24 @@ fn next_byte() -> u8 {
     byte[0]
 }
 
-// The next number: its digits, then one byte that ends it.
+// A number below 2^32 as a word.
+fn word(n: u64) -> u32 {
+    (n % 4294967296) as u32
+}
+
+// The next number, which is below 2^32: its digits, then one byte that ends it.
 fn next_number() -> u32 {
-    let mut value: u32 = 0;
+    let mut value: u64 = 0;
     let mut i: usize = 0;
     while i < 11 {
         let byte = next_byte();
         if byte < 48 {
-            return value;
+            return word(value);
         }
-        value = value % 429496729 * 10 + (byte % 16) as u32;
+        value = value % 429496730 * 10 + (byte % 16) as u64;
         i += 1;
     }
-    value
+    word(value)
 }
 
 // The next number, or the most that it may be.

@@ -15,6 +15,9 @@ loop-holds c = search needs
 next-byte-requires : tie.Need-next-byte-requires Inv-loop μ-loop
 next-byte-requires c κs = search needs
 
+word-requires : tie.Need-word-requires Inv-loop μ-loop
+word-requires c κs = search needs
+
 returns : tie.Need-returns Inv-loop μ-loop
 returns c = search needs
 
@@ -36,6 +39,9 @@ loop-less c = search needs
 loop-again : tie.Need-loop-again Inv-loop μ-loop
 loop-again c = search needs
 
+word-requires-2 : tie.Need-word-requires-2 Inv-loop μ-loop
+word-requires-2 c κs = search needs
+
 returns-2 : tie.Need-returns-2 Inv-loop μ-loop
 returns-2 c = search needs
 
@@ -47,6 +53,7 @@ next-number-spec =
     μ-loop
     loop-holds
     next-byte-requires
+    word-requires
     returns
     mul-value
     cast-value
@@ -54,4 +61,5 @@ next-number-spec =
     add-i
     loop-less
     loop-again
+    word-requires-2
     returns-2)
