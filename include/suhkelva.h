@@ -3,7 +3,8 @@
  *
  * Link libsuhkelva.a, an archive for x86-64 Linux. It is written by
  *     rt staticlib suhkelva        -> target/staticlib/libsuhkelva.a
- * and only after each function was proved to meet its contract (crates/suhkelva/src/lib.rt).
+ * and only after each function was proved to meet its contract (crates/suhkelva/src/lib.rt). examples/c/example.c is a program that
+ * goes from blocks to printed monomials.
  *
  * Calls. Every call returns, keeps nothing between calls, takes no memory of its own but some stack, and reads and writes
  * nothing but what it is lent. Calls may run at the same time in several threads.

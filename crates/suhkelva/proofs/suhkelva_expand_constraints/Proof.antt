@@ -1,8 +1,6 @@
-use mathlib.Core.Path.{ap, _∙_}
 use borrow.Author.Needs.{needs}
 use Rattle.c_list_replies.specs.Fields.{listFields}
-use Rattle.semantics.specs.Call.{Outcome}
-use Rattle.suhkelva.proofs.Laws.{slice}
+use Rattle.suhkelva.proofs.Laws.{handed}
 use Rattle.suhkelva.proofs.suhkelva_expand_constraints.Statement.{statement}
 use Rattle.suhkelva.proofs.suhkelva_expand_constraints.Tie as tie
 
@@ -28,11 +26,7 @@ same-length-5 : tie.Need-same-length-5
 same-length-5 c = c .before .before .before .before .before .before .before .before .before .before .before .expand-constraints .kept .1 .1 .1 .1 .1 .0
 
 returns : tie.Need-returns
-returns c =
-    let e = c .before .before .before .before .before .before .before .before .before .before .before .expand-constraints .ensures in (
-      c .list-fields .ensures ∙ ap (λ (o : Outcome). listFields (o .reply)) e,
-      (slice 0 e, (slice 1 e, (slice 2 e, (slice 3 e, (slice 4 e))))),
-    )
+returns c = handed listFields (c .list-fields .ensures) (c .before .before .before .before .before .before .before .before .before .before .before .expand-constraints .ensures)
 
 pub suhkelva-expand-constraints-spec : {M : Type 1} → statement M
 suhkelva-expand-constraints-spec =

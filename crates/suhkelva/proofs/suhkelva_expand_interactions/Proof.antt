@@ -1,8 +1,6 @@
-use mathlib.Core.Path.{ap, _∙_}
 use borrow.Author.Needs.{needs}
 use Rattle.c_list_replies.specs.Fields.{interactionListFields}
-use Rattle.semantics.specs.Call.{Outcome}
-use Rattle.suhkelva.proofs.Laws.{slice}
+use Rattle.suhkelva.proofs.Laws.{handed}
 use Rattle.suhkelva.proofs.suhkelva_expand_interactions.Statement.{statement}
 use Rattle.suhkelva.proofs.suhkelva_expand_interactions.Tie as tie
 
@@ -37,11 +35,7 @@ same-length-8 : tie.Need-same-length-8
 same-length-8 c = c .before .before .before .before .before .before .before .before .before .before .before .before .before .before .before .before .before .expand-interactions .kept .1 .1 .1 .1 .1 .1 .1 .1 .0
 
 returns : tie.Need-returns
-returns c =
-    let e = c .before .before .before .before .before .before .before .before .before .before .before .before .before .before .before .before .before .expand-interactions .ensures in (
-      c .interaction-list-fields .ensures ∙ ap (λ (o : Outcome). interactionListFields (o .reply)) e,
-      (slice 0 e, (slice 1 e, (slice 2 e, (slice 3 e, (slice 4 e, (slice 5 e, (slice 6 e, (slice 7 e)))))))),
-    )
+returns c = handed interactionListFields (c .interaction-list-fields .ensures) (c .before .before .before .before .before .before .before .before .before .before .before .before .before .before .before .before .before .expand-interactions .ensures)
 
 pub suhkelva-expand-interactions-spec : {M : Type 1} → statement M
 suhkelva-expand-interactions-spec =
