@@ -16,7 +16,7 @@ use Rattle.semantics.proofs.Members.{Mem}
 use Rattle.semantics.proofs.Walks.{by-seen, fold-keeps}
 use Rattle.sheet.specs.declared.Refusal.{Refusal}
 use Rattle.records.specs.declared.Record as declared
-use Rattle.records.specs.Access.{fiveWords, nodeIn, recordsOf}
+use Rattle.records.specs.Access.{nodeIn, recordsOf}
 use Rattle.records.specs.Orders.{Order, There}
 use Rattle.records.proofs.Steps.{child-low, child-inside, still-new, order-next, there-none, there-one, there-two}
 use Rattle.records.proofs.Visits.{none-is, one-is, two-is, has-a, has-b, visit-seen, visit-none, visit-one, visit-two}

@@ -8,11 +8,11 @@ use lib.Dec.{eqb}
 use lib.ListN.{length, getD}
 use borrow.Author.Tests.{eqb-true, eqb-false, eq-eqb, ne-eqb}
 use Rattle.semantics.specs.Arithmetic.{prime}
-use Rattle.semantics.specs.Answer.{good, refused}
+use Rattle.semantics.specs.Answer.{good}
 use Rattle.semantics.specs.Sheet.{Record, GoodRecord}
 use Rattle.semantics.specs.Check.{readSheet, check}
 use Rattle.semantics.specs.Packing.{packFault}
-use Rattle.semantics.specs.Value.{Node, leaf, add, sub, neg, mul, nodeOf, recordAt}
+use Rattle.semantics.specs.Value.{Node, add, sub, neg, mul, nodeOf, recordAt}
 use Rattle.semantics.specs.Walk.{childrenAt, member}
 use Rattle.semantics.specs.Monomial.{Monomial, negMonomial, products, combine, working, finished, recordList, listAt}
 use Rattle.semantics.specs.Expand.{workFault, recordFault}

@@ -1,5 +1,4 @@
 // The families of roots: the lists of the records that words name are counted, and their terms are placed under the roots' labels.
-ghost use mathlib.Core.Path.{_≡_};
 ghost use mathlib.Core.Bool.{true, false};
 ghost use Prim.Native.Nat.{_+_, _≤_};
 ghost use lib.ListN.{length};

@@ -1,8 +1,7 @@
 // The families of a checked sheet, grouped: headers, variables and terms, or the first slice that is too short.
-ghost use mathlib.Core.Path.{_≡_};
-ghost use mathlib.Core.Bool.{Bool, true, false};
-ghost use mathlib.Core.List.{List, []};
-ghost use Prim.Native.Nat.{_+_, _*_, _≤_};
+ghost use mathlib.Core.Bool.{Bool};
+ghost use mathlib.Core.List.{[]};
+ghost use Prim.Native.Nat.{_*_, _≤_};
 ghost use lib.ListN.{length};
 ghost use Rattle.semantics.specs.Check.{readSheet};
 ghost use Rattle.semantics.specs.Group.{constraintRoots, countRoots, fieldRoots, constraintTerm, interactionTerm};

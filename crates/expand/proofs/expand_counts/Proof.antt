@@ -1,6 +1,5 @@
 use mathlib.Core.Path.{_∙_}
 use Prim.Native.Nat.{_-_}
-use native.Mathlib.Omega.{arith}
 use borrow.Author.Needs.{needs}
 use Rattle.records.specs.Access.{countAt}
 use Rattle.expand.proofs.Roots.{count-taken, Passing, passing-none, passing-walking, passing-done, next-inside, names-next, passing-more, passing-refused}

@@ -1,6 +1,5 @@
 use mathlib.Core.Path.{_∙_}
 use Prim.Native.Nat.{_-_}
-use native.Mathlib.Omega.{arith}
 use borrow.Author.Needs.{needs}
 use Rattle.records.specs.Access.{fieldsAt}
 use Rattle.grouping.proofs.NamedLists.{rest-next, fields-taken, EachAt, each-start, each-done, each-ready, each-more, each-full}
