@@ -1,9 +1,10 @@
 /*
- * The C library of Suhkelva: packed variables, rule sheets, their blocks and their graphs.
+ * The C library of Suhkelva: packed variables, rule sheets, their blocks, their graphs and their monomials.
  *
  * Link libsuhkelva.a, an archive for x86-64 Linux. It is written by
  *     rt staticlib suhkelva        -> target/staticlib/libsuhkelva.a
- * and only after each function was proved to meet its contract (crates/suhkelva/src/lib.rt).
+ * and only after each function was proved to meet its contract (crates/suhkelva/src/lib.rt). examples/c/example.c is a program that
+ * goes from blocks to printed monomials.
  *
  * Calls. Every call returns, keeps nothing between calls, takes no memory of its own but some stack, and reads and writes
  * nothing but what it is lent. Calls may run at the same time in several threads.
@@ -36,15 +37,28 @@
  *                                        is wrong
  *      7  SUHKELVA_WRONG_SPARE           a spare word is not zero, or is the   the word's index
  *                                        127th
- *      8  SUHKELVA_COLUMN_TOO_LARGE      column above 65,535                   0
- *      9  SUHKELVA_CHALLENGE_REFUSED     the variable is a challenge           0
- *     10  SUHKELVA_PART_TOO_LARGE        part above 255                        0
- *     11  SUHKELVA_OFFSET_TOO_LARGE      offset above 15                       0
- *     14  SUHKELVA_SCRATCH_TOO_SHORT     scratch is shorter than needed        words needed
+ *      8  SUHKELVA_COLUMN_TOO_LARGE      column above 65,535                   packing: 0
+ *      9  SUHKELVA_CHALLENGE_REFUSED     the variable is a challenge           expansions: the record's
+ *     10  SUHKELVA_PART_TOO_LARGE        part above 255                        number, from 0
+ *     11  SUHKELVA_OFFSET_TOO_LARGE      offset above 15
+ *     12  SUHKELVA_LIST_TOO_LONG         a record has more than 256            the record's number
+ *                                        monomials, before equal ones are
+ *                                        summed
+ *     13  SUHKELVA_PRODUCT_TOO_LONG      a product of more than 14 variables   the record's number
+ *     14  SUHKELVA_SCRATCH_TOO_SHORT     scratch is shorter than needed;       words needed
+ *                                        expansions: work, then pool
  *     15  SUHKELVA_OUTPUT_TOO_SHORT      the output is shorter than needed     elements needed
+ *     16  SUHKELVA_POOL_TOO_SHORT        no room in the pool for a record's    the record's number
+ *                                        monomials
+ *     17  SUHKELVA_SLICE_TOO_SHORT       an output of an expansion is shorter  the first such: 1 headers,
+ *                                        than needed                           2 variables, 3 terms,
+ *                                                                              4 denom_headers,
+ *                                                                              5 denom_variables,
+ *                                                                              6 denom_terms
  *
  * Where several hold, the lowest number is sent. But a sheet's words are read from the front, and the first that fails decides
- * between 3 to 7; and the reader looks for 1, then 15, then 2.
+ * between 3 to 7; the reader looks for 1, then 15, then 2; and an expansion looks for 14, then goes from record to record, where
+ * the first that fails decides between 8 to 13 and 16, then looks for 17.
  */
 #ifndef SUHKELVA_H
 #define SUHKELVA_H
@@ -69,8 +83,12 @@ extern "C" {
 #define SUHKELVA_CHALLENGE_REFUSED 9u
 #define SUHKELVA_PART_TOO_LARGE 10u
 #define SUHKELVA_OFFSET_TOO_LARGE 11u
+#define SUHKELVA_LIST_TOO_LONG 12u
+#define SUHKELVA_PRODUCT_TOO_LONG 13u
 #define SUHKELVA_SCRATCH_TOO_SHORT 14u
 #define SUHKELVA_OUTPUT_TOO_SHORT 15u
+#define SUHKELVA_POOL_TOO_SHORT 16u
+#define SUHKELVA_SLICE_TOO_SHORT 17u
 
 /*
  * Kinds of records: a record is five words, its kind and a to d; a word that its kind does not use is 0. A child is the number
@@ -95,6 +113,12 @@ extern "C" {
 /* Bytes of a block, and the words of a sheet in it. */
 #define SUHKELVA_BLOCK_BYTES 512u
 #define SUHKELVA_BLOCK_WORDS 127u
+
+/* Words of `work` that an expansion needs; words of a header; words of a term. */
+#define SUHKELVA_WORK_WORDS 4096u
+#define SUHKELVA_HEADER_WORDS 4u
+#define SUHKELVA_TERM_WORDS 2u
+#define SUHKELVA_INTERACTION_TERM_WORDS 3u
 
 /* ---- Packed variables ---- */
 
@@ -230,9 +254,89 @@ SuhkelvaWritten suhkelva_write_blocks(const uint32_t *s, size_t s_len, uint8_t *
  * needed. All of scratch and of `out` is then 0.
  *
  * Stack. The call recurses once for each record of the longest chain of children, at most 4,096 deep. Where it was measured, on
- * x86-64, that took 584 KiB, 144 bytes a level; the proofs promise no figure.
+ * x86-64, that took 456 KiB, 112 bytes a level; the proofs promise no figure.
  */
 SuhkelvaWritten suhkelva_build(const uint32_t *s, size_t s_len, uint32_t *scratch, size_t scratch_len, uint32_t *out, size_t out_len);
+
+/* ---- Expansions ---- */
+
+/*
+ * An expansion multiplies out what a sheet's constraints or interactions name: each becomes a sum of monomials, a coefficient (1 to
+ * 2013265920) times up to 14 packed variables. Monomials with the same variables are one header, with a term for each of them:
+ *     headers     four words a header: where its variables start in `variables`, in words; where its terms start in `terms`, in
+ *                 terms; how many variables it has; how many terms. Headers ascend by the number of variables, then by the
+ *                 variables; the first may have no variables, and its terms are constants.
+ *     variables   a word a variable, packed; those of a header ascend, and a square is the same variable twice.
+ *     terms       of a constraint two words: its place in the sheet's list of constraints, and the coefficient;
+ *                 of an interaction three words: the coefficient, the interaction, and the field of its message (0 for a count).
+ *                 Those of a header ascend by constraint, or by interaction and then field.
+ * Constraints, interactions and fields count from 0. What is zero has no terms. Any sheet is taken; of a graph, where equal
+ * constraints stand once, the terms carry the places in the graph's list.
+ *
+ * What to lend, besides the sheet. Whatever the outcome, all of work and pool is 0 after the call.
+ *     work        at least 4,096 words.
+ *     pool        at least two words for each record of the sheet, and room behind them for the monomials of each record that is
+ *                 reached: two words a monomial and one for each of its variables, so at most 4,096 a record. 4,098 words for each
+ *                 record of the sheet are always enough, and mostly much less; 16 says that it was too little.
+ *     outputs     of any length; 17 says which was too short. A constraint, count or field has at most 256 monomials, so that 1,024
+ *                 words of headers, 3,584 of variables and 512 of terms (of interactions 768) for each of them are always enough.
+ * The words written to each output are counted in the reply; the rest of it becomes 0, and after a refusal all of every output is 0.
+ *
+ * Refused by 3 to 7. Then by 14, place 4,096 where work is too short, else place the words that the pool needs at the least. Then
+ * the records are expanded, each once: what is named comes in its order, a left child before a right one, both before the record
+ * itself. The first that cannot be decides: 8 to 13, or 16 where its monomials find no room; place its number. Then by 17. A record
+ * that nothing of the call reaches is never refused.
+ *
+ * Stack. As for the graph, the call recurses once for each record of the longest chain of children, at most 4,096 deep. Where it was
+ * measured, on x86-64, that took 776 KiB, 192 bytes a level; the proofs promise no figure.
+ */
+
+/* How many words an expansion of constraints wrote to each output. */
+typedef struct {
+    uint32_t number; /* 0, 3 to 14, 16 or 17 */
+    uint64_t place;
+    uint64_t headers;
+    uint64_t variables;
+    uint64_t terms;
+} SuhkelvaLists;
+
+/* The constraints of a sheet, in their order, repeated ones too. */
+SuhkelvaLists suhkelva_expand_constraints(
+    const uint32_t *s, size_t s_len,
+    uint32_t *work, size_t work_len,
+    uint32_t *pool, size_t pool_len,
+    uint32_t *headers, size_t headers_len,
+    uint32_t *variables, size_t variables_len,
+    uint32_t *terms, size_t terms_len);
+
+/* How many words an expansion of interactions wrote to each output, how many interactions there are, and the longest message. */
+typedef struct {
+    uint32_t number; /* 0, 3 to 14, 16 or 17 */
+    uint64_t place;
+    uint64_t headers;
+    uint64_t variables;
+    uint64_t terms;
+    uint64_t denom_headers;
+    uint64_t denom_variables;
+    uint64_t denom_terms;
+    uint64_t num_interactions;
+    uint64_t max_fields_len; /* in fields; 0 if there is no interaction */
+} SuhkelvaInteractionLists;
+
+/*
+ * The interactions of a sheet: their counts go to headers, variables and terms (the numerators), the fields of their messages to
+ * the three further outputs (the denominators). All counts are expanded before all fields. Bus and weight are not used.
+ */
+SuhkelvaInteractionLists suhkelva_expand_interactions(
+    const uint32_t *s, size_t s_len,
+    uint32_t *work, size_t work_len,
+    uint32_t *pool, size_t pool_len,
+    uint32_t *headers, size_t headers_len,
+    uint32_t *variables, size_t variables_len,
+    uint32_t *terms, size_t terms_len,
+    uint32_t *denom_headers, size_t denom_headers_len,
+    uint32_t *denom_variables, size_t denom_variables_len,
+    uint32_t *denom_terms, size_t denom_terms_len);
 
 #ifdef __cplusplus
 }

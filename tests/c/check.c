@@ -283,12 +283,86 @@ static int no_number(SuhkelvaNumber r, uint32_t number, uint64_t place)
     return r.number == number && r.place == place && r.value == 0;
 }
 
+/* What the expansions are lent, and how much of each. */
+#define LENT 4352u
+enum { WORK, POOL, HEADERS, VARIABLES, TERMS, DENOM_HEADERS, DENOM_VARIABLES, DENOM_TERMS, SLICES };
+static uint32_t slices[SLICES][LENT];
+static size_t rooms[SLICES];
+
+static SuhkelvaLists expand_constraints(const uint32_t *s, size_t length)
+{
+    memset(slices, 0xff, sizeof slices);
+    return suhkelva_expand_constraints(
+        s, length, slices[WORK], rooms[WORK], slices[POOL], rooms[POOL], slices[HEADERS], rooms[HEADERS], slices[VARIABLES],
+        rooms[VARIABLES], slices[TERMS], rooms[TERMS]);
+}
+
+static SuhkelvaInteractionLists expand_interactions(const uint32_t *s, size_t length)
+{
+    memset(slices, 0xff, sizeof slices);
+    return suhkelva_expand_interactions(
+        s, length, slices[WORK], rooms[WORK], slices[POOL], rooms[POOL], slices[HEADERS], rooms[HEADERS], slices[VARIABLES],
+        rooms[VARIABLES], slices[TERMS], rooms[TERMS], slices[DENOM_HEADERS], rooms[DENOM_HEADERS], slices[DENOM_VARIABLES],
+        rooms[DENOM_VARIABLES], slices[DENOM_TERMS], rooms[DENOM_TERMS]);
+}
+
+/* Whether a slice holds these words, then zeros to its end, and what lies beyond it is untouched. */
+static int slice_holds(size_t which, const uint32_t *words, size_t count)
+{
+    size_t k;
+    for (k = 0; k < LENT; k++) {
+        if (slices[which][k] != (k < count ? words[k] : k < rooms[which] ? 0u : 0xffffffffu)) {
+            return 0;
+        }
+    }
+    return 1;
+}
+
+/* Whether the first so many slices hold only zeros, and the others were left alone. */
+static int slices_zero(size_t lent)
+{
+    size_t which;
+    int zero = 1;
+    for (which = 0; which < SLICES; which++) {
+        size_t room = rooms[which];
+        rooms[which] = which < lent ? room : 0;
+        zero = zero && slice_holds(which, NULL, 0);
+        rooms[which] = room;
+    }
+    return zero;
+}
+
+static int no_lists(SuhkelvaLists r, uint32_t number, uint64_t place)
+{
+    return r.number == number && r.place == place && (r.headers | r.variables | r.terms) == 0;
+}
+
+static int no_interaction_lists(SuhkelvaInteractionLists r, uint32_t number, uint64_t place)
+{
+    return r.number == number && r.place == place
+        && (r.headers | r.variables | r.terms | r.denom_headers | r.denom_variables | r.denom_terms) == 0
+        && (r.num_interactions | r.max_fields_len) == 0;
+}
+
+static void check_no_constraints(const uint32_t *s, size_t length, uint32_t number, uint64_t place, const char *what)
+{
+    check(no_lists(expand_constraints(s, length), number, place), what);
+    check(slices_zero(DENOM_HEADERS), "zeros after refused constraints");
+}
+
+static void check_no_interactions(const uint32_t *s, size_t length, uint32_t number, uint64_t place, const char *what)
+{
+    check(no_interaction_lists(expand_interactions(s, length), number, place), what);
+    check(slices_zero(SLICES), "zeros after refused interactions");
+}
+
 /* Every sheet call refuses these words by this number at this place, and leaves only zeros in what it was lent. */
 static void check_refused(const uint32_t *s, size_t length, uint32_t number, uint64_t place, const char *what)
 {
     static const size_t lents[] = {0, 1, 45, 46, 47, 512, ROOM};
     SuhkelvaSheet r = suhkelva_check_sheet(s, length);
     size_t k;
+    size_t n;
     check(r.number == number && r.place == place, what);
     check((r.records | r.constraints | r.interactions | r.words | r.start) == 0, what);
     check(no_number(suhkelva_max_rotation(s, length), number, place), what);
@@ -303,6 +377,11 @@ static void check_refused(const uint32_t *s, size_t length, uint32_t number, uin
         fill();
         check(wrote_nothing(suhkelva_build(s, length, scratch, lents[6 - k], out_words, lent), number, place), what);
         check(scratch_zero(lents[6 - k]) && words_zero(0, lent), "zeros after a refused build");
+        for (n = 0; n < SLICES; n++) {
+            rooms[n] = lents[(k + n) % 7];
+        }
+        check_no_constraints(s, length, number, place, what);
+        check_no_interactions(s, length, number, place, what);
     }
 }
 
@@ -554,16 +633,12 @@ static void check_graph(const Graph *g)
     }
 }
 
-/* A chain of as many records as a sheet may have: each the negative of the one before it. */
-static void check_chain(void)
+/* A chain of as many records as a sheet may have: each the negative of the one before it. Its words. */
+static size_t chain(uint32_t *s)
 {
-    static uint32_t s[4 + 5 * 4096 + 1];
-    static uint32_t graph[4 + 5 * 4096 + 1];
-    static uint32_t marks[4096];
-    size_t length = sizeof s / sizeof *s;
-    size_t left = 0;
+    size_t length = 4 + 5 * 4096 + 1;
     uint32_t k;
-    memset(s, 0, sizeof s);
+    memset(s, 0, length * sizeof *s);
     s[0] = 1;
     s[1] = 4096;
     s[2] = 1;
@@ -575,6 +650,17 @@ static void check_chain(void)
         s[7 + 5 * k] = k;
     }
     s[length - 1] = 4095;
+    return length;
+}
+
+static void check_chain(void)
+{
+    static uint32_t s[4 + 5 * 4096 + 1];
+    static uint32_t graph[4 + 5 * 4096 + 1];
+    static uint32_t marks[4096];
+    size_t length = chain(s);
+    size_t left = 0;
+    uint32_t k;
     memset(graph, 0xff, sizeof graph);
     memset(marks, 0xff, sizeof marks);
     check(wrote(suhkelva_build(s, length, marks, 4096, graph, length), length), "a chain of 4,096 records");
@@ -595,6 +681,365 @@ static void check_graphs(void)
     check_chain();
 }
 
+/* ---- Expansions ---- */
+
+typedef struct {
+    uint32_t words[16];
+    size_t count;
+} Words;
+
+/* A sheet, its E and L, and its lists: of its constraints (three), of its interactions (six), with the pool that each call needs. */
+typedef struct {
+    const char *what;
+    uint32_t sheet[WORDS];
+    size_t records;
+    size_t words;
+    size_t pool;
+    Words lists[3];
+    size_t interaction_pool;
+    Words interaction_lists[6];
+    uint64_t num_interactions;
+    uint64_t max_fields_len;
+} Expansion;
+
+#define NONE {{0}, 0}
+#define NO_INTERACTIONS {NONE, NONE, NONE, NONE, NONE, NONE}, 0, 0
+#define W1 0x00010001u
+#define NEXT 0x00001001u /* main, offset 1, column 0 */
+
+static const Expansion expansions[] = {
+    {"nothing", {1, 0, 0, 0}, 0, 4, 0, {NONE, NONE, NONE}, 0, NO_INTERACTIONS},
+    {"v times 0", {1, 3, 1, 0, V, 5, 0, 0, 0, 0, 9, 0, 1, 1, 0, 2}, 3, 20, 11, {NONE, NONE, NONE}, 6, NO_INTERACTIONS},
+    {"constraint 0", {1, 1, 1, 0, 5, 0, 0, 0, 0, 0}, 1, 10, 4, {NONE, NONE, NONE}, 2, NO_INTERACTIONS},
+    {"a constant", {1, 1, 1, 0, 5, 7, 0, 0, 0, 0}, 1, 10, 4, {{{0, 0, 0, 1}, 4}, NONE, {{0, 7}, 2}}, 2, NO_INTERACTIONS},
+    {"v + w with two degree words", {1, 4, 2, 0, V, W, 6, 0, 1, 1, 0, 6, 0, 1, 2, 0, 2, 3}, 4, 26, 26,
+     {{{0, 0, 1, 2, 1, 2, 1, 2}, 8}, {{1, W1}, 2}, {{0, 1, 1, 1, 0, 1, 1, 1}, 8}}, 8, NO_INTERACTIONS},
+    {"the same sum twice, and named twice", {1, 4, 3, 0, V, W, 6, 0, 1, 1, 0, 6, 0, 1, 1, 0, 3, 2, 3}, 4, 27, 26,
+     {{{0, 0, 1, 3, 1, 3, 1, 3}, 8}, {{1, W1}, 2}, {{0, 1, 1, 1, 2, 1, 0, 1, 1, 1, 2, 1}, 12}}, 8, NO_INTERACTIONS},
+    {"the graph of the same sum twice", {1, 3, 1, 0, V, W, 6, 0, 1, 1, 0, 2}, 3, 20, 18,
+     {{{0, 0, 1, 1, 1, 1, 1, 1}, 8}, {{1, W1}, 2}, {{0, 1, 0, 1}, 4}}, 6, NO_INTERACTIONS},
+    {"(v + w)(v - w)", {1, 5, 1, 0, V, W, 6, 0, 1, 1, 0, 7, 0, 1, 1, 0, 9, 2, 3, 2, 0, 4}, 5, 30, 36,
+     {{{0, 0, 2, 1, 2, 1, 2, 1}, 8}, {{1, 1, W1, W1}, 4}, {{0, 1, 0, P - 1}, 4}}, 10, NO_INTERACTIONS},
+    {"v - v", {1, 2, 1, 0, V, 7, 0, 0, 1, 0, 1}, 2, 15, 7, {NONE, NONE, NONE}, 4, NO_INTERACTIONS},
+    {"a message of no fields, a count of 0", {1, 1, 0, 1, 5, 0, 0, 0, 0, 7, 1, 0, 0}, 1, 13, 2, {NONE, NONE, NONE}, 4,
+     {NONE, NONE, NONE, NONE, NONE, NONE}, 1, 0},
+    {"two interactions, a field in both", {1, 2, 0, 2, V, W, 7, 1, 0, 1, 1, 9, 2, 1, 2, 0, 1}, 2, 25, 4, {NONE, NONE, NONE}, 10,
+     {{{0, 0, 1, 1, 1, 1, 1, 1}, 8}, {{1, W1}, 2}, {{1, 0, 0, 1, 1, 0}, 6},
+      {{0, 0, 1, 1, 1, 1, 1, 2}, 8}, {{1, W1}, 2}, {{1, 1, 0, 1, 0, 0, 1, 1, 1}, 9}}, 2, 2},
+    {"the sheet of sheetlist",
+     {1, 7, 1, 1, 1, 1, 0, 1, 0, V, 7, 0, 1, 1, 0, 5, 1, 0, 0, 0, 7, 2, 3, 1, 0, 4, 0, 0, 0, 0, 9, 5, 4, 2, 0, 6, 7, 1, 3, 2, 1, 2}, 7, WORDS, 50,
+     {{{0, 0, 1, 1, 1, 1, 2, 1, 3, 2, 2, 1}, 12}, {{10, 1, 10, 10, NEXT}, 5}, {{0, P - 1, 0, P - 1, 0, 1}, 6}}, 28,
+     {{{0, 0, 0, 1}, 4}, NONE, {{1, 0, 0}, 3},
+      {{0, 0, 1, 2, 1, 2, 1, 1}, 8}, {{1, NEXT}, 2}, {{1, 0, 0, P - 1, 0, 1, 1, 0, 1}, 9}}, 1, 2},
+};
+
+/* As much of each slice as is needed, and so many words more. */
+static void lend(size_t pool, const Words *lists, size_t outputs, size_t more)
+{
+    size_t k;
+    rooms[WORK] = 4096 + more;
+    rooms[POOL] = pool + more;
+    for (k = 0; k < SLICES - HEADERS; k++) {
+        rooms[HEADERS + k] = k < outputs ? lists[k].count + more : 0;
+    }
+}
+
+static int lists_hold(const Words *lists, size_t outputs)
+{
+    size_t k;
+    int holds = slice_holds(WORK, NULL, 0) && slice_holds(POOL, NULL, 0);
+    for (k = 0; k < outputs; k++) {
+        holds = holds && slice_holds(HEADERS + k, lists[k].words, lists[k].count);
+    }
+    return holds;
+}
+
+static void check_constraints(const Expansion *e)
+{
+    static const size_t more[] = {0, 1, 7, 200};
+    const Words *l = e->lists;
+    size_t k;
+    size_t room;
+    for (k = 0; k < sizeof more / sizeof more[0]; k++) {
+        SuhkelvaLists r;
+        lend(e->pool, l, 3, more[k]);
+        r = expand_constraints(e->sheet, e->words);
+        check(r.number == 0 && r.place == 0 && r.headers == l[0].count && r.variables == l[1].count && r.terms == l[2].count, e->what);
+        check(lists_hold(l, 3), e->what);
+    }
+    /* 14: work before pool, and before all that comes later */
+    lend(0, l, 0, 0);
+    rooms[WORK] = 4095;
+    check_no_constraints(e->sheet, e->words, 14, 4096, "4,095 words of work");
+    rooms[WORK] = 0;
+    check_no_constraints(e->sheet, e->words, 14, 4096, "no slice has a word");
+    for (room = 0; room < 2 * e->records; room++) {
+        rooms[WORK] = 4096;
+        rooms[POOL] = room;
+        check_no_constraints(e->sheet, e->words, 14, 2 * e->records, "a pool without two words a record");
+    }
+    /* 16, before 17 */
+    for (; room < e->pool; room++) {
+        SuhkelvaLists r;
+        rooms[POOL] = room;
+        r = expand_constraints(e->sheet, e->words);
+        check(r.number == 16 && r.place < e->records && no_lists(r, 16, r.place), "16");
+        check(slices_zero(DENOM_HEADERS), "zeros after 16");
+    }
+    /* 17: the first that is too short */
+    for (k = 0; k < 3; k++) {
+        for (room = 0; room < l[k].count; room++) {
+            lend(e->pool, l, 3, 0);
+            rooms[HEADERS + k] = room;
+            rooms[TERMS] -= k < 2 && room % 2 == 0 && l[2].count > 0;
+            check_no_constraints(e->sheet, e->words, 17, k + 1, "17");
+        }
+    }
+}
+
+static void check_interactions(const Expansion *e)
+{
+    static const size_t more[] = {0, 1, 7, 200};
+    const Words *l = e->interaction_lists;
+    size_t k;
+    size_t room;
+    for (k = 0; k < sizeof more / sizeof more[0]; k++) {
+        SuhkelvaInteractionLists r;
+        lend(e->interaction_pool, l, 6, more[k]);
+        r = expand_interactions(e->sheet, e->words);
+        check(r.number == 0 && r.place == 0 && r.headers == l[0].count && r.variables == l[1].count && r.terms == l[2].count, e->what);
+        check(r.denom_headers == l[3].count && r.denom_variables == l[4].count && r.denom_terms == l[5].count, e->what);
+        check(r.num_interactions == e->num_interactions && r.max_fields_len == e->max_fields_len, e->what);
+        check(lists_hold(l, 6), e->what);
+    }
+    lend(0, l, 0, 0);
+    rooms[WORK] = 4095;
+    check_no_interactions(e->sheet, e->words, 14, 4096, "4,095 words of work");
+    rooms[WORK] = 0;
+    check_no_interactions(e->sheet, e->words, 14, 4096, "no slice has a word");
+    for (room = 0; room < 2 * e->records; room++) {
+        rooms[WORK] = 4096;
+        rooms[POOL] = room;
+        check_no_interactions(e->sheet, e->words, 14, 2 * e->records, "a pool without two words a record");
+    }
+    for (; room < e->interaction_pool; room++) {
+        SuhkelvaInteractionLists r;
+        rooms[POOL] = room;
+        r = expand_interactions(e->sheet, e->words);
+        check(r.number == 16 && r.place < e->records && no_interaction_lists(r, 16, r.place), "16");
+        check(slices_zero(SLICES), "zeros after 16");
+    }
+    for (k = 0; k < 6; k++) {
+        for (room = 0; room < l[k].count; room++) {
+            lend(e->interaction_pool, l, 6, 0);
+            rooms[HEADERS + k] = room;
+            rooms[DENOM_TERMS] -= k < 5 && room % 2 == 0 && l[5].count > 0;
+            check_no_interactions(e->sheet, e->words, 17, k + 1, "17");
+        }
+    }
+}
+
+/* Where 16 comes from in the sheet of `sheetlist`: its records in the order of each walk, and the words that their monomials take. */
+static void check_pool(void)
+{
+    static const uint64_t order[] = {5, 0, 1, 2, 3, 4, 6};
+    static const size_t sizes[] = {3, 3, 3, 6, 2, 8, 11};
+    static const uint64_t interaction_order[] = {3, 1, 0, 2};
+    static const size_t interaction_sizes[] = {2, 3, 3, 6};
+    size_t used = 2 * 7;
+    size_t k;
+    lend(0, NULL, 0, 0);
+    for (k = 0; k < 7; k++) {
+        for (rooms[POOL] = used; rooms[POOL] < used + sizes[k]; rooms[POOL]++) {
+            check_no_constraints(sheet, WORDS, 16, order[k], "the record that finds no room");
+        }
+        used += sizes[k];
+    }
+    used = 2 * 7;
+    for (k = 0; k < 4; k++) {
+        for (rooms[POOL] = used; rooms[POOL] < used + interaction_sizes[k]; rooms[POOL]++) {
+            check_no_interactions(sheet, WORDS, 16, interaction_order[k], "the record that finds no room");
+        }
+        used += interaction_sizes[k];
+    }
+}
+
+/* A record that is refused. */
+typedef struct {
+    const char *what;
+    uint32_t record[5];
+    uint32_t number;
+} Unpackable;
+
+static const Unpackable unpackables[] = {
+    {"column 65,536", {1, 1, 0, 0, 65536}, 8},
+    {"a challenge", {1, 2, 0, 0, 0}, 9},
+    {"part 256", {1, 1, 256, 0, 0}, 10},
+    {"offset 16", {1, 1, 0, 16, 0}, 11},
+    {"preprocessed, offset 2^32 - 1", {1, 0, 0, 0xffffffffu, 0}, 11},
+    {"a challenge in column 65,536", {1, 2, 0, 0, 65536}, 8},
+    {"part 256 and offset 16", {1, 1, 256, 16, 0}, 10},
+};
+
+static void check_unpackable(const Unpackable *u)
+{
+    /* v, the record, their sum; constraint; bus, weight, count, message of one field */
+    uint32_t s[] = {1, 3, 1, 1, V, 0, 0, 0, 0, 0, 6, 0, 1, 0, 0, 2, 7, 1, 2, 1, 0};
+    size_t length = sizeof s / sizeof *s;
+    lend(4, NULL, 0, 200);
+    memcpy(s + 9, u->record, sizeof u->record);
+    check_no_constraints(s, length, u->number, 1, u->what);
+    check_no_interactions(s, length, u->number, 1, u->what);
+    /* 14 goes before it; it goes before 16 of a later record and before 17 */
+    rooms[WORK] = 4095;
+    check_no_constraints(s, length, 14, 4096, "14 before the walk");
+    check_no_interactions(s, length, 14, 4096, "14 before the walk");
+    lend(6 + 3, NULL, 0, 0);
+    check_no_constraints(s, length, u->number, 1, u->what);
+    check_no_interactions(s, length, u->number, 1, u->what);
+    lend(6, NULL, 0, 0);
+    check_no_constraints(s, length, 16, 0, "16 of an earlier record");
+    check_no_interactions(s, length, 16, 0, "16 of an earlier record");
+    /* reached by the message only, and by nothing */
+    lend(64, NULL, 0, 64);
+    s[19] = 0;
+    s[22] = 0;
+    s[24] = 1;
+    check(expand_constraints(s, length).number == 17, "what no constraint reaches is not refused");
+    check_no_interactions(s, length, u->number, 1, u->what);
+    s[24] = 0;
+    check(expand_interactions(s, length).number == 17, "what nothing reaches is not refused");
+}
+
+/* A sheet as it is written: records one behind the other, then the last as constraint and as the count of an interaction. */
+static uint32_t written[4 + 5 * 100 + 1 + 4];
+
+static uint32_t add_record(uint32_t kind, uint32_t a, uint32_t b, uint32_t c, uint32_t d)
+{
+    uint32_t *at = written + 4 + 5 * written[1];
+    at[0] = kind;
+    at[1] = a;
+    at[2] = b;
+    at[3] = c;
+    at[4] = d;
+    return written[1]++;
+}
+
+static size_t finish(uint32_t root)
+{
+    uint32_t *at = written + 4 + 5 * written[1];
+    written[0] = 1;
+    written[2] = 1;
+    written[3] = 1;
+    at[0] = root;
+    at[1] = 7;
+    at[2] = 1;
+    at[3] = root;
+    at[4] = 0;
+    return 4 + 5 * (size_t)written[1] + 5;
+}
+
+/* The sum of so many main variables, from a column on. */
+static uint32_t add_sum(uint32_t column, uint32_t many)
+{
+    uint32_t sum = add_record(1, 1, 0, 0, column);
+    uint32_t k;
+    for (k = 1; k < many; k++) {
+        uint32_t next = add_record(1, 1, 0, 0, column + k);
+        sum = add_record(6, sum, next, 0, 0);
+    }
+    return sum;
+}
+
+static void check_limits(void)
+{
+    SuhkelvaLists r;
+    SuhkelvaInteractionLists n;
+    uint32_t root;
+    uint32_t k;
+    size_t length;
+    int holds = 1;
+    for (k = 0; k < SLICES; k++) {
+        rooms[k] = LENT;
+    }
+    /* 14 factors, then 15 */
+    memset(written, 0, sizeof written);
+    root = add_record(1, 1, 0, 0, 0);
+    for (k = 1; k < 14; k++) {
+        root = add_record(9, root, 0, 0, 0);
+    }
+    length = finish(root);
+    r = expand_constraints(written, length);
+    check(r.number == 0 && r.headers == 4 && r.variables == 14 && r.terms == 2, "14 factors");
+    for (k = 0; k < 14; k++) {
+        holds = holds && slices[VARIABLES][k] == 1;
+    }
+    check(holds && slices[HEADERS][2] == 14 && slices[HEADERS][3] == 1 && slices[TERMS][1] == 1, "the header of 14 factors");
+    n = expand_interactions(written, length);
+    check(n.number == 0 && n.headers == 4 && n.variables == 14 && n.terms == 3 && n.denom_headers == 0, "14 factors as a count");
+    memset(written + length - 5, 0, 5 * sizeof *written);
+    root = add_record(9, 0, root, 0, 0);
+    length = finish(root);
+    check_no_constraints(written, length, 13, root, "15 factors");
+    check_no_interactions(written, length, 13, root, "15 factors as a count");
+    /* 16 times 16 variables, then 16 times 17 */
+    for (k = 16; k <= 17; k++) {
+        uint32_t left;
+        memset(written, 0, sizeof written);
+        left = add_sum(0, 16);
+        root = add_sum(100, k);
+        root = add_record(9, left, root, 0, 0);
+        length = finish(root);
+        if (k == 16) {
+            r = expand_constraints(written, length);
+            check(r.number == 0 && r.headers == 1024 && r.variables == 512 && r.terms == 512, "16 times 16 variables");
+            n = expand_interactions(written, length);
+            check(n.number == 0 && n.headers == 1024 && n.variables == 512 && n.terms == 768, "16 times 16 variables as a count");
+        } else {
+            check_no_constraints(written, length, 12, root, "16 times 17 variables");
+            check_no_interactions(written, length, 12, root, "16 times 17 variables as a count");
+        }
+    }
+}
+
+/* The same chain, with its last record as a count too. */
+static void check_expanded_chain(void)
+{
+    static uint32_t s[4 + 5 * 4096 + 1 + 4];
+    static uint32_t pool[5 * 4096];
+    size_t length = chain(s);
+    SuhkelvaLists r;
+    SuhkelvaInteractionLists n;
+    s[3] = 1;
+    s[length] = 7;
+    s[length + 1] = 1;
+    s[length + 2] = 4095;
+    s[length + 3] = 0;
+    r = suhkelva_expand_constraints(
+        s, length + 4, slices[WORK], 4096, pool, 5 * 4096, slices[HEADERS], 4, slices[VARIABLES], 1, slices[TERMS], 2);
+    check(r.number == 0 && r.headers == 4 && r.variables == 1 && r.terms == 2, "the monomials of a chain of 4,096 records");
+    check(slices[VARIABLES][0] == 1 && slices[TERMS][0] == 0 && slices[TERMS][1] == P - 1, "its variable and its sign");
+    n = suhkelva_expand_interactions(
+        s, length + 4, slices[WORK], 4096, pool, 5 * 4096 - 1, slices[HEADERS], 4, slices[VARIABLES], 1, slices[TERMS], 3,
+        slices[DENOM_HEADERS], 0, slices[DENOM_VARIABLES], 0, slices[DENOM_TERMS], 0);
+    check(no_interaction_lists(n, 16, 4095), "a pool without room for the last record");
+}
+
+static void check_expansions(void)
+{
+    size_t k;
+    for (k = 0; k < sizeof expansions / sizeof expansions[0]; k++) {
+        check_constraints(&expansions[k]);
+        check_interactions(&expansions[k]);
+    }
+    check_pool();
+    for (k = 0; k < sizeof unpackables / sizeof unpackables[0]; k++) {
+        check_unpackable(&unpackables[k]);
+    }
+    check_limits();
+    check_expanded_chain();
+}
+
 int main(void)
 {
     check(sizeof(SuhkelvaPacked) == 12, "the size of SuhkelvaPacked");
@@ -603,6 +1048,8 @@ int main(void)
     check(sizeof(SuhkelvaSheet) == 56, "the size of SuhkelvaSheet");
     check(sizeof(SuhkelvaNumber) == 24, "the size of SuhkelvaNumber");
     check(sizeof(SuhkelvaWritten) == 24, "the size of SuhkelvaWritten");
+    check(sizeof(SuhkelvaLists) == 40, "the size of SuhkelvaLists");
+    check(sizeof(SuhkelvaInteractionLists) == 80, "the size of SuhkelvaInteractionLists");
     check_packing();
     check_unpacking();
     check_blocks();
@@ -610,6 +1057,7 @@ int main(void)
     check_copies();
     check_sheet_blocks();
     check_graphs();
+    check_expansions();
     printf("%u checks passed, %u failed\n", passed, failed);
     return failed == 0 ? 0 : 1;
 }

@@ -10,8 +10,8 @@ pub fn build_graph(sheet: &[u32], scratch: &mut [u32], out: &mut [u32]) -> usize
     ensures { λ r. ⌜ (now (out .exit) ≡ graphOut (length (now (out .entry))) (now (sheet .entry))) × (r ≡ graphLength (now (sheet .entry))) ⌝ }
 {
     let at = records::constraints_at(sheet);
-    let constraints = records::wide(sheet[2]);
-    let interactions = records::wide(sheet[3]);
+    let constraints = records::num_constraints(sheet);
+    let interactions = records::num_interactions(sheet);
     let named = graph_walk::add_names(sheet, at, constraints, scratch, out, 0);
     let n = graph_walk::add_interactions(
         sheet,

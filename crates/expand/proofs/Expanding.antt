@@ -16,7 +16,7 @@ use Rattle.semantics.proofs.Members.{Mem}
 use Rattle.semantics.proofs.Walks.{by-seen, fold-keeps}
 use Rattle.sheet.specs.declared.Refusal.{Refusal}
 use Rattle.records.specs.declared.Record as declared
-use Rattle.records.specs.Access.{fiveWords, nodeIn, recordsOf}
+use Rattle.records.specs.Access.{nodeIn, recordsOf}
 use Rattle.records.specs.Orders.{Order, There}
 use Rattle.records.proofs.Steps.{child-low, child-inside, still-new, order-next, there-none, there-one, there-two}
 use Rattle.records.proofs.Visits.{none-is, one-is, two-is, has-a, has-b, visit-seen, visit-none, visit-one, visit-two}
@@ -70,149 +70,206 @@ abbrev pub Finish : (ws pool : List ℕ) (used r : ℕ) (pool′ : List ℕ) →
 Finish ws pool used r pool′ u =
     (done : List ℕ) → Order ws done → member r done ≡ false → There ws r done → Holds ws done pool used → Expands ws pool′ u (r ∷ done)
 
-module _ (ws : List ℕ) (r : ℕ) (work pool : List ℕ) (used : ℕ) (p : Ready ws r work pool used) where
+-- Record r as it stands in the words.
+abbrev words : List ℕ → ℕ → declared.Record
+words ws r = record { kind = nodeIn ws r .kind; a = nodeIn ws r .a; b = nodeIn ws r .b; c = nodeIn ws r .c; d = nodeIn ws r .d }
+
+pub visits-seen : {ws : List ℕ} {r : ℕ} {work pool : List ℕ} {used : ℕ} → Ready ws r work pool used → (getD pool (2 * r) 0 ≡ 0 → ⊥) → Visit ws pool used r pool (Used used)
+visits-seen {ws} {r} {work} {pool} {used} p n done o h =
+    subst (λ (d : List ℕ). Holds ws d pool used)
+    (sym (visit-seen ws (p .walking .checked) r (p .inside) done (expanded ws done pool used h r (p .inside) n))) h
+
+-- A record that is not expanded yet.
+pub record Fresh (ws : List ℕ) (r : ℕ) (work pool : List ℕ) (used : ℕ) : Type 0 where
+  pub ready : Ready ws r work pool used
+  pub free : getD pool (2 * r) 0 ≡ 0
+
+-- Its left child x is expanded then, and u is the answer.
+pub record Left (ws : List ℕ) (r : ℕ) (work pool : List ℕ) (used x : ℕ) (work₁ pool₁ : List ℕ) (u : Expanded) : Type 0 where
+  pub fresh : Fresh ws r work pool used
+  pub parent : 6 ≤ nodeIn ws r .kind
+  pub left-is : x ≡ nodeIn ws r .a
+  pub same-room : length work₁ ≡ length work
+  pub visits : Visit ws pool used x pool₁ u
+
+-- And its right child y.
+pub record Right (ws : List ℕ) (r : ℕ) (work pool : List ℕ) (used x : ℕ) (work₁ pool₁ : List ℕ) (u₁ : Expanded) (one y : ℕ) (work₂ pool₂ : List ℕ) (u : Expanded) : Type 0 where
+  pub left : Left ws r work pool used x work₁ pool₁ u₁
+  pub taken : u₁ ≡ Used one
+  pub two : nodeIn ws r .kind ≡ 8 → ⊥
+  pub right-is : y ≡ nodeIn ws r .b
+  pub same-room : length work₂ ≡ length work₁
+  pub visits : Visit ws pool₁ one y pool₂ u
+
+module _ {ws : List ℕ} {r : ℕ} {work pool : List ℕ} {used : ℕ} (f : Fresh ws r work pool used) where
   abbrev checked : check prime ws ≡ good (readSheet ws)
-  checked = p .walking .checked
+  checked = f .ready .walking .checked
 
   abbrev l : r < length (recordsOf ws)
-  l = p .inside
+  l = f .ready .inside
+
+  pub new : (done : List ℕ) → Holds ws done pool used → member r done ≡ false
+  new done h = fresh ws done pool used h r l (f .free)
+
+  pub finishing-none : nodeIn ws r .kind < 6 → Finishing ws r work pool used
+  finishing-none k = record {
+    ready = f .ready;
+    new = new (f .ready .walking .done) (f .ready .walking .holds);
+    there = there-none ws checked r l (none-is ws checked r l (words ws r) refl k) (f .ready .walking .done);
+  }
+
+  pub visits-none : nodeIn ws r .kind < 6 → (pool′ : List ℕ) (u : Expanded) → Finish ws pool used r pool′ u → Visit ws pool used r pool′ u
+  visits-none k pool′ u g done o h =
+      let c = none-is ws checked r l (words ws r) refl k in
+      subst (Expands ws pool′ u) (sym (visit-none ws checked r l done (new done h) c)) (g done o (new done h) (there-none ws checked r l c done) h)
+
+  module _ (k : 6 ≤ nodeIn ws r .kind) {x : ℕ} (ex : x ≡ nodeIn ws r .a) where
+    pub has-left : Mem x (childrenAt (recordsOf ws) r)
+    has-left = subst (λ (c : ℕ). Mem c (childrenAt (recordsOf ws) r)) (sym ex) (has-a ws checked r l (words ws r) refl k)
+
+    pub left-low : x < r
+    left-low = child-low ws checked r x has-left
+
+    pub ready-left : Ready ws x work pool used
+    ready-left = record { walking = f .ready .walking; inside = child-inside ws checked r l x has-left }
+
+-- With the left child's answer.
+module _ {ws : List ℕ} {r : ℕ} {work pool : List ℕ} {used x : ℕ} {work₁ pool₁ : List ℕ} {u₁ : Expanded} (h₁ : Left ws r work pool used x work₁ pool₁ u₁) where
+  abbrev p₁ : Walking ws work pool used
+  p₁ = h₁ .fresh .ready .walking
+
+  abbrev l₁ : r < length (recordsOf ws)
+  l₁ = h₁ .fresh .ready .inside
 
   abbrev go-on : ℕ → List ℕ → ℕ → List ℕ
   go-on = visit (childrenAt (recordsOf ws))
 
-  pub visits-seen : (getD pool (2 * r) 0 ≡ 0 → ⊥) → Visit ws pool used r pool (Used used)
-  visits-seen n done o h =
-      subst (λ (d : List ℕ). Holds ws d pool used) (sym (visit-seen ws checked r l done (expanded ws done pool used h r l n))) h
+  has-x : Mem x (childrenAt (recordsOf ws) r)
+  has-x = has-left (h₁ .fresh) (h₁ .parent) (h₁ .left-is)
 
-  module _ (z : getD pool (2 * r) 0 ≡ 0) (q : declared.Record) (e : fiveWords q ≡ nodeIn ws r) where
-    new : (done : List ℕ) → Holds ws done pool used → member r done ≡ false
-    new done h = fresh ws done pool used h r l z
+  pub left-refused : (v : Refusal) → u₁ ≡ Refused v → Visit ws pool used r pool₁ u₁
+  left-refused v g done o h =
+      subst (λ (u : Expanded). Expands ws pool₁ u (go-on (suc r) done r)) (sym g)
+      (go (eqb (nodeIn ws r .kind) 8) refl (subst (λ (u : Expanded). Expands ws pool₁ u (go-on (suc x) done x)) g (h₁ .visits done o h)))
+    where
+      go : (t : Bool) → eqb (nodeIn ws r .kind) 8 ≡ t → Stopped ws (length pool₁) (v .number) (v .place) (go-on (suc x) done x)
+          → Stopped ws (length pool₁) (v .number) (v .place) (go-on (suc r) done r)
+      go true t s =
+          subst (Stopped ws (length pool₁) (v .number) (v .place)) (sym (visit-one ws (p₁ .checked) r l₁ done (new (h₁ .fresh) done h) x (one-is ws (p₁ .checked) r l₁ (words ws r) refl (eqb-true (nodeIn ws r .kind) 8 t) x (h₁ .left-is))))
+          (refused-more ws (length pool₁) (v .number) (v .place) (go-on (suc x) done x) r s)
+      go false t s =
+          let y : ℕ = nodeIn ws r .b in
+          let both = two-is ws (p₁ .checked) r l₁ (words ws r) refl (h₁ .parent) (eqb-false (nodeIn ws r .kind) 8 t) x y (h₁ .left-is) refl in
+          subst (Stopped ws (length pool₁) (v .number) (v .place)) (sym (visit-two ws (p₁ .checked) r l₁ done (new (h₁ .fresh) done h) x y both))
+          (refused-more ws (length pool₁) (v .number) (v .place) (go-on (suc y) (go-on (suc x) done x) y) r
+          (refused-visit ws (length pool₁) (v .number) (v .place) (suc y) (go-on (suc x) done x) y s))
 
-    pub finishing-none : q .kind < 6 → Finishing ws r work pool used
-    finishing-none k = record {
-      ready = p;
-      new = new (p .walking .done) (p .walking .holds);
-      there = there-none ws checked r l (none-is ws checked r l q e k) (p .walking .done);
+  module _ {one : ℕ} (g₁ : u₁ ≡ Used one) where
+    pub holds-left : (done : List ℕ) → Order ws done → Holds ws done pool used → Holds ws (go-on (suc x) done x) pool₁ one
+    holds-left done o h = subst (λ (u : Expanded). Expands ws pool₁ u (go-on (suc x) done x)) g₁ (h₁ .visits done o h)
+
+    pub order-left : (done : List ℕ) → Order ws done → Order ws (go-on (suc x) done x)
+    order-left done o = order-next ws (p₁ .checked) r l₁ done x has-x o
+
+    pub new-left : (done : List ℕ) → Holds ws done pool used → member r (go-on (suc x) done x) ≡ false
+    new-left done h = still-new ws (p₁ .checked) r l₁ done x has-x (new (h₁ .fresh) done h)
+
+    pub walking-left : Walking ws work₁ pool₁ one
+    walking-left = record {
+      checked = p₁ .checked;
+      room = subst (λ (n : ℕ). 4096 ≤ n) (sym (h₁ .same-room)) (p₁ .room);
+      done = go-on (suc x) (p₁ .done) x;
+      order = order-left (p₁ .done) (p₁ .order);
+      holds = holds-left (p₁ .done) (p₁ .order) (p₁ .holds);
     }
 
-    pub visits-none : q .kind < 6 → (pool′ : List ℕ) (u : Expanded) → Finish ws pool used r pool′ u → Visit ws pool used r pool′ u
-    visits-none k pool′ u f done o h =
-        subst (Expands ws pool′ u) (sym (visit-none ws checked r l done (new done h) (none-is ws checked r l q e k)))
-        (f done o (new done h) (there-none ws checked r l (none-is ws checked r l q e k) done) h)
+    -- A Neg.
+    module _ (k₈ : nodeIn ws r .kind ≡ 8) where
+      only : childrenAt (recordsOf ws) r ≡ x ∷ []
+      only = one-is ws (p₁ .checked) r l₁ (words ws r) refl k₈ x (h₁ .left-is)
 
-    -- The left child, then what its answer says.
-    module _ (k : 6 ≤ q .kind) (x : ℕ) (ex : x ≡ q .a) where
-      has-x : Mem x (childrenAt (recordsOf ws) r)
-      has-x = subst (λ (c : ℕ). Mem c (childrenAt (recordsOf ws) r)) (sym ex) (has-a ws checked r l q e k)
+      pub finishing-one : Finishing ws r work₁ pool₁ one
+      unfolding walking-left
+      finishing-one = record {
+        ready = record { walking = walking-left; inside = l₁ };
+        new = new-left (p₁ .done) (p₁ .holds);
+        there = there-one ws (p₁ .checked) r l₁ x only (p₁ .done);
+      }
 
-      pub left-low : x < r
-      left-low = child-low ws checked r x has-x
+      pub visits-one : (pool′ : List ℕ) (u : Expanded) → Finish ws pool₁ one r pool′ u → Visit ws pool used r pool′ u
+      visits-one pool′ u g done o h =
+          subst (Expands ws pool′ u) (sym (visit-one ws (p₁ .checked) r l₁ done (new (h₁ .fresh) done h) x only))
+          (g (go-on (suc x) done x) (order-left done o) (new-left done h) (there-one ws (p₁ .checked) r l₁ x only done) (holds-left done o h))
 
-      pub ready-left : Ready ws x work pool used
-      ready-left = record { walking = p .walking; inside = child-inside ws checked r l x has-x }
+    -- The right child of another record.
+    module _ (k₈ : nodeIn ws r .kind ≡ 8 → ⊥) {y : ℕ} (ey : y ≡ nodeIn ws r .b) where
+      pub has-right : Mem y (childrenAt (recordsOf ws) r)
+      has-right = subst (λ (c : ℕ). Mem c (childrenAt (recordsOf ws) r)) (sym ey) (has-b ws (p₁ .checked) r l₁ (words ws r) refl (h₁ .parent) k₈)
 
-      module _ (work₁ pool₁ : List ℕ) (lw : length work₁ ≡ length work) (u₁ : Expanded) (f₁ : Visit ws pool used x pool₁ u₁) where
-        pub left-refused : (v : Refusal) → u₁ ≡ Refused v → Visit ws pool used r pool₁ u₁
-        left-refused v g done o h =
-            subst (λ (u : Expanded). Expands ws pool₁ u (go-on (suc r) done r)) (sym g)
-            (go (eqb (q .kind) 8) refl (subst (λ (u : Expanded). Expands ws pool₁ u (go-on (suc x) done x)) g (f₁ done o h)))
-          where
-            go : (t : Bool) → eqb (q .kind) 8 ≡ t → Stopped ws (length pool₁) (v .number) (v .place) (go-on (suc x) done x)
-                → Stopped ws (length pool₁) (v .number) (v .place) (go-on (suc r) done r)
-            go true t s =
-                subst (Stopped ws (length pool₁) (v .number) (v .place))
-                (sym (visit-one ws checked r l done (new done h) x (one-is ws checked r l q e (eqb-true (q .kind) 8 t) x ex)))
-                (refused-more ws (length pool₁) (v .number) (v .place) (go-on (suc x) done x) r s)
-            go false t s =
-                subst (Stopped ws (length pool₁) (v .number) (v .place))
-                (sym (visit-two ws checked r l done (new done h) x (q .b) (two-is ws checked r l q e k (eqb-false (q .kind) 8 t) x (q .b) ex refl)))
-                (refused-more ws (length pool₁) (v .number) (v .place) (go-on (suc (q .b)) (go-on (suc x) done x) (q .b)) r
-                (refused-visit ws (length pool₁) (v .number) (v .place) (suc (q .b)) (go-on (suc x) done x) (q .b) s))
+      pub right-low : y < r
+      right-low = child-low ws (p₁ .checked) r y has-right
 
-        module _ (one : ℕ) (g₁ : u₁ ≡ Used one) where
-          holds-left : (done : List ℕ) → Order ws done → Holds ws done pool used → Holds ws (go-on (suc x) done x) pool₁ one
-          holds-left done o h = subst (λ (u : Expanded). Expands ws pool₁ u (go-on (suc x) done x)) g₁ (f₁ done o h)
+      pub ready-right : Ready ws y work₁ pool₁ one
+      ready-right = record { walking = walking-left; inside = child-inside ws (p₁ .checked) r l₁ y has-right }
 
-          abbrev walking-left : Walking ws work₁ pool₁ one
-          walking-left = record {
-            checked = checked;
-            room = subst (λ (n : ℕ). 4096 ≤ n) (sym lw) (p .walking .room);
-            done = go-on (suc x) (p .walking .done) x;
-            order = order-next ws checked r l (p .walking .done) x has-x (p .walking .order);
-            holds = holds-left (p .walking .done) (p .walking .order) (p .walking .holds);
-          }
+-- With both children's answers.
+module _ {ws : List ℕ} {r : ℕ} {work pool : List ℕ} {used x : ℕ} {work₁ pool₁ : List ℕ} {u₁ : Expanded} {one y : ℕ} {work₂ pool₂ : List ℕ} {u₂ : Expanded}
+    (h₂ : Right ws r work pool used x work₁ pool₁ u₁ one y work₂ pool₂ u₂) where
+  abbrev h₁ : Left ws r work pool used x work₁ pool₁ u₁
+  h₁ = h₂ .left
 
-          new-left : (done : List ℕ) → Holds ws done pool used → member r (go-on (suc x) done x) ≡ false
-          new-left done h = still-new ws checked r l done x has-x (new done h)
+  abbrev p₂ : Walking ws work pool used
+  p₂ = h₁ .fresh .ready .walking
 
-          pub finishing-one : q .kind ≡ 8 → Finishing ws r work₁ pool₁ one
-          finishing-one k₈ = record {
-            ready = record { walking = walking-left; inside = l };
-            new = new-left (p .walking .done) (p .walking .holds);
-            there = there-one ws checked r l x (one-is ws checked r l q e k₈ x ex) (p .walking .done);
-          }
+  abbrev l₂ : r < length (recordsOf ws)
+  l₂ = h₁ .fresh .ready .inside
 
-          pub visits-one : q .kind ≡ 8 → (pool′ : List ℕ) (u : Expanded) → Finish ws pool₁ one r pool′ u → Visit ws pool used r pool′ u
-          visits-one k₈ pool′ u f done o h =
-              let c = one-is ws checked r l q e k₈ x ex in
-              subst (Expands ws pool′ u) (sym (visit-one ws checked r l done (new done h) x c))
-              (f (go-on (suc x) done x) (order-next ws checked r l done x has-x o) (new-left done h) (there-one ws checked r l x c done) (holds-left done o h))
+  abbrev after : List ℕ → List ℕ
+  after done = visit (childrenAt (recordsOf ws)) (suc y) (visit (childrenAt (recordsOf ws)) (suc x) done x) y
 
-          -- The right child.
-          module _ (k₈ : q .kind ≡ 8 → ⊥) (y : ℕ) (ey : y ≡ q .b) where
-            has-y : Mem y (childrenAt (recordsOf ws) r)
-            has-y = subst (λ (c : ℕ). Mem c (childrenAt (recordsOf ws) r)) (sym ey) (has-b ws checked r l q e k k₈)
+  both : childrenAt (recordsOf ws) r ≡ x ∷ y ∷ []
+  both = two-is ws (p₂ .checked) r l₂ (words ws r) refl (h₁ .parent) (h₂ .two) x y (h₁ .left-is) (h₂ .right-is)
 
-            both : childrenAt (recordsOf ws) r ≡ x ∷ y ∷ []
-            both = two-is ws checked r l q e k k₈ x y ex ey
+  has-y : Mem y (childrenAt (recordsOf ws) r)
+  has-y = has-right h₁ (h₂ .taken) (h₂ .two) (h₂ .right-is)
 
-            pub right-low : y < r
-            right-low = child-low ws checked r y has-y
+  says-right : (done : List ℕ) → Order ws done → Holds ws done pool used → Expands ws pool₂ u₂ (after done)
+  says-right done o h = h₂ .visits (visit (childrenAt (recordsOf ws)) (suc x) done x) (order-left h₁ (h₂ .taken) done o) (holds-left h₁ (h₂ .taken) done o h)
 
-            pub ready-right : Ready ws y work₁ pool₁ one
-            ready-right = record { walking = walking-left; inside = child-inside ws checked r l y has-y }
+  pub right-refused : (v : Refusal) → u₂ ≡ Refused v → Visit ws pool used r pool₂ u₂
+  right-refused v g done o h =
+      subst (λ (u : Expanded). Expands ws pool₂ u (visit (childrenAt (recordsOf ws)) (suc r) done r)) (sym g)
+      (subst (Stopped ws (length pool₂) (v .number) (v .place)) (sym (visit-two ws (p₂ .checked) r l₂ done (new (h₁ .fresh) done h) x y both))
+      (refused-more ws (length pool₂) (v .number) (v .place) (after done) r
+      (subst (λ (u : Expanded). Expands ws pool₂ u (after done)) g (says-right done o h))))
 
-            module _ (work₂ pool₂ : List ℕ) (lw₂ : length work₂ ≡ length work₁) (u₂ : Expanded) (f₂ : Visit ws pool₁ one y pool₂ u₂) where
-              abbrev after : List ℕ → List ℕ
-              after done = go-on (suc y) (go-on (suc x) done x) y
+  module _ {two : ℕ} (g₂ : u₂ ≡ Used two) where
+    holds-right : (done : List ℕ) → Order ws done → Holds ws done pool used → Holds ws (after done) pool₂ two
+    holds-right done o h = subst (λ (u : Expanded). Expands ws pool₂ u (after done)) g₂ (says-right done o h)
 
-              says-right : (done : List ℕ) → Order ws done → Holds ws done pool used → Expands ws pool₂ u₂ (after done)
-              says-right done o h = f₂ (go-on (suc x) done x) (order-next ws checked r l done x has-x o) (holds-left done o h)
+    order-right : (done : List ℕ) → Order ws done → Order ws (after done)
+    order-right done o = order-next ws (p₂ .checked) r l₂ (visit (childrenAt (recordsOf ws)) (suc x) done x) y has-y (order-left h₁ (h₂ .taken) done o)
 
-              pub right-refused : (v : Refusal) → u₂ ≡ Refused v → Visit ws pool used r pool₂ u₂
-              right-refused v g done o h =
-                  subst (λ (u : Expanded). Expands ws pool₂ u (go-on (suc r) done r)) (sym g)
-                  (subst (Stopped ws (length pool₂) (v .number) (v .place)) (sym (visit-two ws checked r l done (new done h) x y both))
-                  (refused-more ws (length pool₂) (v .number) (v .place) (after done) r
-                  (subst (λ (u : Expanded). Expands ws pool₂ u (after done)) g (says-right done o h))))
+    new-right : (done : List ℕ) → Holds ws done pool used → member r (after done) ≡ false
+    new-right done h = still-new ws (p₂ .checked) r l₂ (visit (childrenAt (recordsOf ws)) (suc x) done x) y has-y (new-left h₁ (h₂ .taken) done h)
 
-              module _ (two : ℕ) (g₂ : u₂ ≡ Used two) where
-                holds-right : (done : List ℕ) → Order ws done → Holds ws done pool used → Holds ws (after done) pool₂ two
-                holds-right done o h = subst (λ (u : Expanded). Expands ws pool₂ u (after done)) g₂ (says-right done o h)
+    pub finishing-two : Finishing ws r work₂ pool₂ two
+    finishing-two = record {
+      ready = record {
+        walking = record {
+          checked = p₂ .checked;
+          room = subst (λ (n : ℕ). 4096 ≤ n) (sym (h₂ .same-room ∙ h₁ .same-room)) (p₂ .room);
+          done = after (p₂ .done);
+          order = order-right (p₂ .done) (p₂ .order);
+          holds = holds-right (p₂ .done) (p₂ .order) (p₂ .holds);
+        };
+        inside = l₂;
+      };
+      new = new-right (p₂ .done) (p₂ .holds);
+      there = there-two ws (p₂ .checked) r l₂ x y both (p₂ .done);
+    }
 
-                order-right : (done : List ℕ) → Order ws done → Order ws (after done)
-                order-right done o = order-next ws checked r l (go-on (suc x) done x) y has-y (order-next ws checked r l done x has-x o)
-
-                new-right : (done : List ℕ) → Holds ws done pool used → member r (after done) ≡ false
-                new-right done h = still-new ws checked r l (go-on (suc x) done x) y has-y (new-left done h)
-
-                pub finishing-two : Finishing ws r work₂ pool₂ two
-                finishing-two = record {
-                  ready = record {
-                    walking = record {
-                      checked = checked;
-                      room = subst (λ (n : ℕ). 4096 ≤ n) (sym (lw₂ ∙ lw)) (p .walking .room);
-                      done = after (p .walking .done);
-                      order = order-right (p .walking .done) (p .walking .order);
-                      holds = holds-right (p .walking .done) (p .walking .order) (p .walking .holds);
-                    };
-                    inside = l;
-                  };
-                  new = new-right (p .walking .done) (p .walking .holds);
-                  there = there-two ws checked r l x y both (p .walking .done);
-                }
-
-                pub visits-two : (pool′ : List ℕ) (u : Expanded) → Finish ws pool₂ two r pool′ u → Visit ws pool used r pool′ u
-                visits-two pool′ u f done o h =
-                    subst (Expands ws pool′ u) (sym (visit-two ws checked r l done (new done h) x y both))
-                    (f (after done) (order-right done o) (new-right done h) (there-two ws checked r l x y both done) (holds-right done o h))
+    pub visits-two : (pool′ : List ℕ) (u : Expanded) → Finish ws pool₂ two r pool′ u → Visit ws pool used r pool′ u
+    visits-two pool′ u g done o h =
+        subst (Expands ws pool′ u) (sym (visit-two ws (p₂ .checked) r l₂ done (new (h₁ .fresh) done h) x y both))
+        (g (after done) (order-right done o) (new-right done h) (there-two ws (p₂ .checked) r l₂ x y both done) (holds-right done o h))

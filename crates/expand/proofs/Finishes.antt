@@ -8,11 +8,11 @@ use lib.Dec.{eqb}
 use lib.ListN.{length, getD}
 use borrow.Author.Tests.{eqb-true, eqb-false, eq-eqb, ne-eqb}
 use Rattle.semantics.specs.Arithmetic.{prime}
-use Rattle.semantics.specs.Answer.{good, refused}
+use Rattle.semantics.specs.Answer.{good}
 use Rattle.semantics.specs.Sheet.{Record, GoodRecord}
 use Rattle.semantics.specs.Check.{readSheet, check}
 use Rattle.semantics.specs.Packing.{packFault}
-use Rattle.semantics.specs.Value.{Node, leaf, add, sub, neg, mul, nodeOf, recordAt}
+use Rattle.semantics.specs.Value.{Node, add, sub, neg, mul, nodeOf, recordAt}
 use Rattle.semantics.specs.Walk.{childrenAt, member}
 use Rattle.semantics.specs.Monomial.{Monomial, negMonomial, products, combine, working, finished, recordList, listAt}
 use Rattle.semantics.specs.Expand.{workFault, recordFault}
@@ -64,7 +64,24 @@ module _ (r : Record) where
 abbrev pub Reads : (pool : List ℕ) (c : ℕ) → PoolList → Type 0
 Reads pool c x = (x .at ≡ getD pool (2 * c) 0) × (x .count ≡ getD pool (2 * c + 1) 0)
 
-module _ (ws : List ℕ) (r : ℕ) (work pool : List ℕ) (used : ℕ) (p : Finishing ws r work pool used) where
+-- A record whose children are expanded, as its words were read, and its left child's list.
+pub record LeftList (ws : List ℕ) (r : ℕ) (work pool : List ℕ) (used : ℕ) (q : declared.Record) (x : PoolList) : Type 0 where
+  pub finishing : Finishing ws r work pool used
+  pub words-are : fiveWords q ≡ nodeIn ws r
+  pub parent : 6 ≤ q .kind
+  pub child : ℕ
+  pub child-is : child ≡ q .a
+  pub reads : Reads pool child x
+
+-- And its right child's list.
+pub record BothLists (ws : List ℕ) (r : ℕ) (work pool : List ℕ) (used : ℕ) (q : declared.Record) (x y : PoolList) : Type 0 where
+  pub left : LeftList ws r work pool used q x
+  pub two : q .kind ≡ 8 → ⊥
+  pub child : ℕ
+  pub child-is : child ≡ q .b
+  pub reads : Reads pool child y
+
+module _ {ws : List ℕ} {r : ℕ} {work pool : List ℕ} {used : ℕ} (p : Finishing ws r work pool used) where
   abbrev checked : check prime ws ≡ good (readSheet ws)
   checked = p .ready .walking .checked
 
@@ -90,7 +107,7 @@ module _ (ws : List ℕ) (r : ℕ) (work pool : List ℕ) (used : ℕ) (p : Fini
     kept : Kept ws pool used c
     kept = p .ready .walking .holds .old c (p .there c m)
 
-    pub child-head : 2 * c + 1 < length pool
+    child-head : 2 * c + 1 < length pool
     child-head = kept .stored .head
 
     module _ (x : PoolList) (g : Reads pool c x) where
@@ -98,11 +115,11 @@ module _ (ws : List ℕ) (r : ℕ) (work pool : List ℕ) (used : ℕ) (p : Fini
       both =
           rw (g .0, g .1) (list-fits-at pool (getD pool (2 * c) 0) (getD pool (2 * c + 1) 0) (lists c) (kept .stored .words-are) (kept .stored .count-is) (kept .stored .inside) (kept .stored .fit))
 
-      pub child-fits : (x .count ≤ 256) × ListFits pool (x .at) (x .count)
+      child-fits : (x .count ≤ 256) × ListFits pool (x .at) (x .count)
       child-fits = (omega (arith, g .1, kept .stored .count-is, kept .few), both .0)
 
-      child-is : listIn pool (x .at) (x .count) ≡ lists c
-      child-is = both .1
+      child-list : listIn pool (x .at) (x .count) ≡ lists c
+      child-list = both .1
 
   module _ (q : declared.Record) (e : fiveWords q ≡ nodeIn ws r) where
     words : fiveWords q ≡ R
@@ -125,82 +142,114 @@ module _ (ws : List ℕ) (r : ℕ) (work pool : List ℕ) (used : ℕ) (p : Fini
         (ap (λ (z : Record). recordList prime z (λ c. [])) words ∙ flat-list R low (λ c. []) lists ∙ sym (list-at prime (recordsOf ws) (lows ws checked) r l))
         m
 
-    module _ (k : 6 ≤ q .kind) (c : ℕ) (ec : c ≡ q .a) where
-      pub has-left : Mem c (childrenAt (recordsOf ws) r)
-      has-left = subst (λ (x : ℕ). Mem x (childrenAt (recordsOf ws) r)) (sym ec) (has-a ws checked r l q e k)
-
-      left-is : c ≡ R .a
-      left-is = ec ∙ a-is ws checked r l q e
-
+    module _ (k : 6 ≤ q .kind) where
       plain : packFault R ≡ 0
       plain = packs-none R (λ z. omega (arith, kind))
 
-      module _ (x : PoolList) (g : Reads pool c x) where
-        abbrev X : List Monomial
-        X = listIn pool (x .at) (x .count)
+      has-left : {c : ℕ} → c ≡ q .a → Mem c (childrenAt (recordsOf ws) r)
+      has-left ec = subst (λ (x : ℕ). Mem x (childrenAt (recordsOf ws) r)) (sym ec) (has-a ws checked r l q e k)
 
-        x-is : X ≡ lists (R .a)
-        x-is = child-is c has-left x g ∙ ap lists left-is
+      has-right : (q .kind ≡ 8 → ⊥) → {c : ℕ} → c ≡ q .b → Mem c (childrenAt (recordsOf ws) r)
+      has-right n ec = subst (λ (x : ℕ). Mem x (childrenAt (recordsOf ws) r)) (sym ec) (has-b ws checked r l q e k n)
 
-        pub finishes-neg : q .kind ≡ 8 → (work′ : List ℕ) (u : Made) → Makes work′ u (workFault (map (negMonomial prime) X)) (map (negMonomial prime) X)
-            → Makes work′ u (recordFault prime (recordsOf ws) r) (lists r)
-        unfolding working finished
-        finishes-neg h work′ u m =
-            let n = neg-node R (sym kind ∙ h) in
-            makes-same work′ u _ _ _ _ (ap (λ (ms : List Monomial). workFault (map (negMonomial prime) ms)) x-is ∙ fault-is (neg (R .a)) n plain)
-            (ap (map (negMonomial prime)) x-is ∙ list-is (neg (R .a)) n) m
+      pub left-head : {c : ℕ} → c ≡ q .a → 2 * c + 1 < length pool
+      left-head {c} ec = child-head c (has-left ec)
 
-        module _ (k₈ : q .kind ≡ 8 → ⊥) (d : ℕ) (ed : d ≡ q .b) where
-          pub has-right : Mem d (childrenAt (recordsOf ws) r)
-          has-right = subst (λ (z : ℕ). Mem z (childrenAt (recordsOf ws) r)) (sym ed) (has-b ws checked r l q e k k₈)
+      pub right-head : (q .kind ≡ 8 → ⊥) → {c : ℕ} → c ≡ q .b → 2 * c + 1 < length pool
+      right-head n {c} ec = child-head c (has-right n ec)
 
-          right-is : d ≡ R .b
-          right-is = ed ∙ b-is ws checked r l q e
+-- A Neg.
+module _ {ws : List ℕ} {r : ℕ} {work pool : List ℕ} {used : ℕ} {q : declared.Record} {x : PoolList} (h : LeftList ws r work pool used q x) where
+  abbrev p₁ : Finishing ws r work pool used
+  p₁ = h .finishing
 
-          module _ (y : PoolList) (t : Reads pool d y) where
-            abbrev Y : List Monomial
-            Y = listIn pool (y .at) (y .count)
+  abbrev X : List Monomial
+  X = listIn pool (x .at) (x .count)
 
-            y-is : Y ≡ lists (R .b)
-            y-is = child-is d has-right y t ∙ ap lists right-is
+  left-in : Mem (h .child) (childrenAt (recordsOf ws) r)
+  left-in = has-left p₁ q (h .words-are) (h .parent) (h .child-is)
 
-            pub finishes-mul : q .kind ≡ 9 → (work′ : List ℕ) (u : Made) → Makes work′ u (workFault (products prime X Y)) (combine prime (products prime X Y))
-                → Makes work′ u (recordFault prime (recordsOf ws) r) (lists r)
-            unfolding working finished
-            finishes-mul h work′ u m =
-                let n = mul-node R (sym kind ∙ h) in
-                let same : products prime X Y ≡ products prime (lists (R .a)) (lists (R .b)) = λ i. products prime (x-is i) (y-is i) in
-                makes-same work′ u _ _ _ _ (ap workFault same ∙ fault-is (mul (R .a) (R .b)) n plain) (ap (combine prime) same ∙ list-is (mul (R .a) (R .b)) n) m
+  left-list : X ≡ listAt prime (recordsOf ws) (recordAt (recordsOf ws) r .a)
+  left-list = child-list p₁ (h .child) left-in x (h .reads) ∙ ap (listAt prime (recordsOf ws)) (h .child-is ∙ a-is ws (checked p₁) r (l p₁) q (h .words-are))
 
-            pub finishes-sum : (q .kind ≡ 9 → ⊥) → (b : Bool) → b ≡ eqb (q .kind) 7 → (work′ : List ℕ) (u : Made)
-                → Makes work′ u (workFault (X ++ signed b Y)) (combine prime (X ++ signed b Y)) → Makes work′ u (recordFault prime (recordsOf ws) r) (lists r)
-            unfolding working finished
-            finishes-sum k₉ b eb work′ u m = go b (sym eb) m
-              where
-                go : (s : Bool) → eqb (q .kind) 7 ≡ s → Makes work′ u (workFault (X ++ signed s Y)) (combine prime (X ++ signed s Y))
-                    → Makes work′ u (recordFault prime (recordsOf ws) r) (lists r)
-                go true z m′ =
-                    let n = sub-node R (sym kind ∙ eqb-true (q .kind) 7 z) in
-                    let same : X ++ map (negMonomial prime) Y ≡ lists (R .a) ++ map (negMonomial prime) (lists (R .b)) = λ i. x-is i ++ map (negMonomial prime) (y-is i) in
-                    makes-same work′ u _ _ _ _ (ap workFault same ∙ fault-is (sub (R .a) (R .b)) n plain) (ap (combine prime) same ∙ list-is (sub (R .a) (R .b)) n) m′
-                go false z m′ =
-                    let six : R .kind ≡ 6 = omega (arith, kind, kind-limits ws checked r l, eqb-false (q .kind) 7 z, k₈, k₉) in
-                    let n = add-node R six in
-                    let same : X ++ Y ≡ lists (R .a) ++ lists (R .b) = λ i. x-is i ++ y-is i in
-                    makes-same work′ u _ _ _ _ (ap workFault same ∙ fault-is (add (R .a) (R .b)) n plain) (ap (combine prime) same ∙ list-is (add (R .a) (R .b)) n) m′
+  pub left-fits : (x .count ≤ 256) × ListFits pool (x .at) (x .count)
+  left-fits = child-fits p₁ (h .child) left-in x (h .reads)
+
+  pub finishes-neg : q .kind ≡ 8 → (work′ : List ℕ) (u : Made) → Makes work′ u (workFault (map (negMonomial prime) X)) (map (negMonomial prime) X)
+      → Makes work′ u (recordFault prime (recordsOf ws) r) (listAt prime (recordsOf ws) r)
+  unfolding working finished
+  finishes-neg k work′ u m =
+      let R = recordAt (recordsOf ws) r in
+      let n = neg-node R (sym (kind p₁ q (h .words-are)) ∙ k) in
+      makes-same work′ u _ _ _ _
+      (ap (λ (ms : List Monomial). workFault (map (negMonomial prime) ms)) left-list ∙ fault-is p₁ (neg (R .a)) n (plain p₁ q (h .words-are) (h .parent)))
+      (ap (map (negMonomial prime)) left-list ∙ list-is p₁ (neg (R .a)) n) m
+
+-- A record with two children.
+module _ {ws : List ℕ} {r : ℕ} {work pool : List ℕ} {used : ℕ} {q : declared.Record} {x y : PoolList} (h : BothLists ws r work pool used q x y) where
+  abbrev p₂ : Finishing ws r work pool used
+  p₂ = h .left .finishing
+
+  abbrev Y : List Monomial
+  Y = listIn pool (y .at) (y .count)
+
+  right-in : Mem (h .child) (childrenAt (recordsOf ws) r)
+  right-in = has-right p₂ q (h .left .words-are) (h .left .parent) (h .two) (h .child-is)
+
+  right-list : Y ≡ listAt prime (recordsOf ws) (recordAt (recordsOf ws) r .b)
+  right-list = child-list p₂ (h .child) right-in y (h .reads) ∙ ap (listAt prime (recordsOf ws)) (h .child-is ∙ b-is ws (checked p₂) r (l p₂) q (h .left .words-are))
+
+  pub both-fit : ((x .count ≤ 256) × ListFits pool (x .at) (x .count)) × (y .count ≤ 256) × ListFits pool (y .at) (y .count)
+  both-fit = let f = child-fits p₂ (h .child) right-in y (h .reads) in (left-fits (h .left), f .0, f .1)
+
+  -- What is made from the children's lists as its working list is made from them.
+  abbrev worked : Node → List Monomial
+  worked k = working prime (recordAt (recordsOf ws) r) k (listAt prime (recordsOf ws))
+
+  made-as : (k : Node) → nodeOf (recordAt (recordsOf ws) r) ≡ k → (made : List Monomial) → made ≡ worked k → combine prime (worked k) ≡ finished prime k (worked k)
+      → (work′ : List ℕ) (u : Made) → Makes work′ u (workFault made) (combine prime made) → Makes work′ u (recordFault prime (recordsOf ws) r) (listAt prime (recordsOf ws) r)
+  made-as k n made same all work′ u m =
+      makes-same work′ u _ _ _ _ (ap workFault same ∙ fault-is p₂ k n (plain p₂ q (h .left .words-are) (h .left .parent)))
+      (ap (combine prime) same ∙ all ∙ list-is p₂ k n) m
+
+  pub finishes-mul : q .kind ≡ 9 → (work′ : List ℕ) (u : Made) → Makes work′ u (workFault (products prime (X (h .left)) Y)) (combine prime (products prime (X (h .left)) Y))
+      → Makes work′ u (recordFault prime (recordsOf ws) r) (listAt prime (recordsOf ws) r)
+  unfolding working finished
+  finishes-mul k work′ u m =
+      let R = recordAt (recordsOf ws) r in
+      made-as (mul (R .a) (R .b)) (mul-node R (sym (kind p₂ q (h .left .words-are)) ∙ k)) (products prime (X (h .left)) Y)
+      (λ i. products prime (left-list (h .left) i) (right-list i)) refl work′ u m
+
+  pub finishes-sum : (q .kind ≡ 9 → ⊥) → (b : Bool) → b ≡ eqb (q .kind) 7 → (work′ : List ℕ) (u : Made)
+      → Makes work′ u (workFault (X (h .left) ++ signed b Y)) (combine prime (X (h .left) ++ signed b Y))
+      → Makes work′ u (recordFault prime (recordsOf ws) r) (listAt prime (recordsOf ws) r)
+  unfolding working finished
+  finishes-sum k₉ b eb work′ u m = go b (sym eb) m
+    where
+      go : (s : Bool) → eqb (q .kind) 7 ≡ s → Makes work′ u (workFault (X (h .left) ++ signed s Y)) (combine prime (X (h .left) ++ signed s Y))
+          → Makes work′ u (recordFault prime (recordsOf ws) r) (listAt prime (recordsOf ws) r)
+      go true z m′ =
+          let R = recordAt (recordsOf ws) r in
+          made-as (sub (R .a) (R .b)) (sub-node R (sym (kind p₂ q (h .left .words-are)) ∙ eqb-true (q .kind) 7 z)) (X (h .left) ++ map (negMonomial prime) Y)
+          (λ i. left-list (h .left) i ++ map (negMonomial prime) (right-list i)) refl work′ u m′
+      go false z m′ =
+          let R = recordAt (recordsOf ws) r in
+          let six : R .kind ≡ 6 = omega (arith, kind p₂ q (h .left .words-are), h .left .parent, kind-limits ws (checked p₂) r (l p₂), eqb-false (q .kind) 7 z, h .two, k₉) in
+          made-as (add (R .a) (R .b)) (add-node R six) (X (h .left) ++ Y) (λ i. left-list (h .left) i ++ right-list i) refl work′ u m′
 
 -- A record whose list was not made.
-pub finish-refused : (ws done pool work : List ℕ) (used r : ℕ) (u : Made) → Makes work u (recordFault prime (recordsOf ws) r) (listAt prime (recordsOf ws) r)
-    → (f : ℕ) → u ≡ Fault f → (a : Expanded) → a ≡ refusedBy u r → Holds ws done pool used → Expands ws pool a (r ∷ done)
-finish-refused ws done pool work used r u m f e a ea h =
+pub finish-refused : {ws done pool : List ℕ} {used : ℕ} → Holds ws done pool used → (r : ℕ)
+    → (work : List ℕ) (u : Made) → Makes work u (recordFault prime (recordsOf ws) r) (listAt prime (recordsOf ws) r)
+    → {f : ℕ} → u ≡ Fault f → {a : Expanded} → a ≡ refusedBy u r → Expands ws pool a (r ∷ done)
+finish-refused {ws} {done} {pool} {used} h r work u m {f} e ea =
     let t : Makes work (Fault f) (recordFault prime (recordsOf ws) r) (listAt prime (recordsOf ws) r) =
     subst (λ (x : Made). Makes work x (recordFault prime (recordsOf ws) r) (listAt prime (recordsOf ws) r)) e m in
     subst (λ (x : Expanded). Expands ws pool x (r ∷ done)) (sym (ea ∙ ap (λ (x : Made). refusedBy x r) e))
     (expand-fault ws done (length pool) r used (h .used-is) f (t .0) (t .1))
 
 -- A record whose list was made: what storing it asks, and what it comes to.
-module _ (ws : List ℕ) (r : ℕ) (work pool : List ℕ) (used : ℕ) (p : Finishing ws r work pool used) (work′ : List ℕ) (u : Made)
-    (m : Makes work′ u (recordFault prime (recordsOf ws) r) (listAt prime (recordsOf ws) r)) (n : ℕ) (e : u ≡ Held n) where
+module _ {ws : List ℕ} {r : ℕ} {work pool : List ℕ} {used : ℕ} (p : Finishing ws r work pool used) (work′ : List ℕ) (u : Made)
+    (m : Makes work′ u (recordFault prime (recordsOf ws) r) (listAt prime (recordsOf ws) r)) {n : ℕ} (e : u ≡ Held n) where
   made : Makes work′ (Held n) (recordFault prime (recordsOf ws) r) (listAt prime (recordsOf ws) r)
   made = subst (λ (x : Made). Makes work′ x (recordFault prime (recordsOf ws) r) (listAt prime (recordsOf ws) r)) e m
 

@@ -12,7 +12,7 @@ use Rattle.semantics.specs.Answer.{Answer, good, refused, andThen}
 use Rattle.semantics.specs.Sheet.{Record, recordWords, row, table, fits, passes, GoodRecord}
 use Rattle.semantics.specs.Check.{reading, scanWords, judged}
 use Rattle.semantics.specs.Packing.{packed, packFault, leafTests, packRecord, pack}
-use Rattle.semantics.specs.Value.{Node, leaf, nodeOf}
+use Rattle.semantics.specs.Value.{Node, nodeOf}
 use Rattle.semantics.specs.Monomial.{Monomial, working, finished, recordList, above}
 use Rattle.semantics.specs.Expand.{longer, workFault}
 use Rattle.semantics.proofs.Basics.{by-test, and-true, true-and}

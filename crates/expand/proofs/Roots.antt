@@ -12,10 +12,11 @@ use Rattle.semantics.specs.Walk.{childrenAt, foldLeft, visit, order}
 use Rattle.semantics.specs.Expand.{expandAll}
 use Rattle.semantics.proofs.Members.{not-in, Below, cons-below, append-below}
 use Rattle.sheet.specs.declared.Refusal.{Refusal}
-use Rattle.records.specs.Access.{recordsOf, part, messageLength, eachWords, NamesInside, RootsInside, AllRootsInside}
+use Rattle.records.specs.declared.Interaction.{Interaction}
+use Rattle.records.specs.Access.{recordsOf, part, messageLength, interactionFrom, eachWords, countAt, fieldsAt, NamesInside, RootsInside, AllRootsInside}
 use Rattle.records.specs.Orders.{Visiting}
 use Rattle.records.proofs.Parts.{part-more}
-use Rattle.records.proofs.Rooting.{fold-append, order-none, order-walk, visiting-none, visiting-both, visiting-one, Passed, passed-none, passed-done, passed-next, passed-more}
+use Rattle.records.proofs.Rooting.{fold-append, order-none, order-walk, visiting-none, visiting-both, visiting-one, names-below, count-inside, message-inside, Passed, passed-none, passed-done, passed-next, passed-more}
 use Rattle.expand.specs.declared.Expanded.{Expanded}
 use Rattle.expand.specs.declared.Expanded.the-variants.{Used, Refused}
 use Rattle.expand.specs.Walking.{Holds, Expands, Walking, Ready}
@@ -83,17 +84,17 @@ pub record Naming (ws : List ℕ) (at count : ℕ) (work₀ pool₀ : List ℕ) 
   pub j-le : j ≤ count
   pub far : Far ws (part at j ws) work₀ pool₀ used₀ work pool used
 
-module _ (ws : List ℕ) (at count : ℕ) (work₀ pool₀ : List ℕ) (used₀ : ℕ) (p : Walking ws work₀ pool₀ used₀) (named : NamesInside ws at count) where
+module _ {ws : List ℕ} {at count : ℕ} {work₀ pool₀ : List ℕ} {used₀ : ℕ} (p : Walking ws work₀ pool₀ used₀) (named : NamesInside ws at count) where
   pub naming-none : Naming ws at count work₀ pool₀ used₀ work₀ pool₀ used₀ 0
   naming-none = record { j-le = omega arith; far = far-none ws work₀ pool₀ used₀ p }
 
-  module _ (work pool : List ℕ) (used j : ℕ) (h : Naming ws at count work₀ pool₀ used₀ work pool used j) where
+  module _ {work pool : List ℕ} {used j : ℕ} (h : Naming ws at count work₀ pool₀ used₀ work pool used j) where
     pub naming-done : count ≤ j → Roots ws (part at count ws) pool₀ used₀ pool (Used used)
     naming-done l =
         let e : j ≡ count = omega (arith, h .j-le) in
         subst (λ (k : ℕ). Roots ws (part at k ws) pool₀ used₀ pool (Used used)) e (h .far .walks)
 
-    module _ (l : j < count) (r : ℕ) (e : r ≡ getD ws (at + j) 0) where
+    module _ (l : j < count) {r : ℕ} (e : r ≡ getD ws (at + j) 0) where
       inside : r < length (recordsOf ws)
       inside = subst (λ (x : ℕ). x < length (recordsOf ws)) (sym e) (named .below j l)
 
@@ -107,17 +108,17 @@ module _ (ws : List ℕ) (at count : ℕ) (work₀ pool₀ : List ℕ) (used₀ 
         one : Roots ws (r ∷ []) pool used pool₁ u
         one = visiting-one ws (p .checked) r inside (λ (d : List ℕ). Holds ws d pool used) (Expands ws pool₁ u) f
 
-        pub naming-more : length work₁ ≡ length work → length pool₁ ≡ length pool → (n : ℕ) → u ≡ Used n
+        pub naming-more : length work₁ ≡ length work → length pool₁ ≡ length pool → {n : ℕ} → u ≡ Used n
             → Naming ws at count work₀ pool₀ used₀ work₁ pool₁ n (j + 1)
-        naming-more lw lp n g = record {
+        naming-more lw lp {n} g = record {
           j-le = omega arith;
           far = subst (λ (xs : List ℕ). Far ws xs work₀ pool₀ used₀ work₁ pool₁ n) (sym more)
               (far-more ws work₀ pool₀ used₀ p (part at j ws) work pool used (h .far) (r ∷ []) work₁ pool₁ u one
               (cons-below (length (recordsOf ws)) r [] inside (λ y i. not-in y i)) lw lp n g);
         }
 
-        pub naming-refused : (v : Refusal) → u ≡ Refused v → Roots ws (part at count ws) pool₀ used₀ pool₁ u
-        naming-refused v g =
+        pub naming-refused : {v : Refusal} → u ≡ Refused v → Roots ws (part at count ws) pool₀ used₀ pool₁ u
+        naming-refused {v} g =
             let k : count ≡ j + 1 + (count - (j + 1)) = omega arith in
             let rest : List ℕ = take (count - (j + 1)) (drop (j + 1) (drop at ws)) in
             far-refused ws work₀ pool₀ used₀ p (part at j ws) work pool used (h .far) (r ∷ []) work₁ pool₁ u one v g rest (part at count ws)
@@ -126,17 +127,29 @@ module _ (ws : List ℕ) (at count : ℕ) (work₀ pool₀ : List ℕ) (used₀ 
             ∙ ap (λ (xs : List ℕ). xs ++ rest) more
             ∙ append-assoc (part at j ws) (r ∷ []) rest)
 
+-- What is taken of an interaction: so many words of it from a place on, which name records.
+pub record Taken (one : ℕ → List ℕ) (ws : List ℕ) (place size : Interaction → ℕ) : Type 0 where
+  pub words : (at : ℕ) → let x = interactionFrom at (messageLength ws at) in one at ≡ part (place x) (size x) ws
+  pub inside : (at : ℕ) → RootsInside (length (recordsOf ws)) ws at → let x = interactionFrom at (messageLength ws at) in NamesInside ws (place x) (size x)
+
+-- The count, and the fields.
+pub count-taken : (ws : List ℕ) → Taken (countAt ws) ws (λ (x : Interaction). x .count) (λ (x : Interaction). 1)
+count-taken ws = record { words = λ at. refl; inside = λ at h. count-inside ws at h }
+
+pub fields-taken : (ws : List ℕ) → Taken (fieldsAt ws) ws (λ (x : Interaction). x .fields) (λ (x : Interaction). x .message)
+fields-taken ws = record { words = λ at. refl; inside = λ at h. message-inside ws at h (messageLength ws at) refl }
+
 -- What `one` takes of each interaction from `at` on; i of them are passed.
 pub record Passing (one : ℕ → List ℕ) (ws : List ℕ) (at count : ℕ) (work₀ pool₀ : List ℕ) (used₀ : ℕ) (work pool : List ℕ) (used from i : ℕ) : Type 0 where
   pub roots : List ℕ
   pub passed : Passed one ws at count from i roots
   pub far : Far ws roots work₀ pool₀ used₀ work pool used
 
-module _ (one : ℕ → List ℕ) (ws : List ℕ) (at count : ℕ) (work₀ pool₀ : List ℕ) (used₀ : ℕ) (p : Walking ws work₀ pool₀ used₀) where
+module _ {one : ℕ → List ℕ} {ws : List ℕ} {at count : ℕ} {work₀ pool₀ : List ℕ} {used₀ : ℕ} (p : Walking ws work₀ pool₀ used₀) where
   pub passing-none : AllRootsInside (length (recordsOf ws)) ws at count → Passing one ws at count work₀ pool₀ used₀ work₀ pool₀ used₀ at 0
   passing-none h = record { roots = []; passed = passed-none one ws at count h; far = far-none ws work₀ pool₀ used₀ p }
 
-  module _ (work pool : List ℕ) (used from i : ℕ) (h : Passing one ws at count work₀ pool₀ used₀ work pool used from i) where
+  module _ {work pool : List ℕ} {used from i : ℕ} (h : Passing one ws at count work₀ pool₀ used₀ work pool used from i) where
     pub passing-walking : Walking ws work pool used
     passing-walking = far-walking ws work₀ pool₀ used₀ p (h .roots) work pool used (h .far)
 
@@ -147,22 +160,34 @@ module _ (one : ℕ → List ℕ) (ws : List ℕ) (at count : ℕ) (work₀ pool
       pub next-inside : RootsInside (length (recordsOf ws)) ws from
       next-inside = passed-next one ws at count from i (h .roots) (h .passed) l
 
-      module _ (work₁ pool₁ : List ℕ) (u : Expanded) (f : Roots ws (one from) pool used pool₁ u) where
-        pub passing-more : Below (length (recordsOf ws)) (one from) → length work₁ ≡ length work → length pool₁ ≡ length pool → (n : ℕ) → u ≡ Used n
-            → (from′ : ℕ) → from′ ≡ from + (4 + messageLength ws from) → Passing one ws at count work₀ pool₀ used₀ work₁ pool₁ n from′ (i + 1)
-        passing-more b lw lp n g from′ e = record {
-          roots = h .roots ++ one from;
-          passed = passed-more one ws at count from i (h .roots) (h .passed) l b from′ e;
-          far = far-more ws work₀ pool₀ used₀ p (h .roots) work pool used (h .far) (one from) work₁ pool₁ u f b lw lp n g;
-        }
+      -- One more interaction.
+      module _ {place size : Interaction → ℕ} (t : Taken one ws place size) {x : Interaction} (e : x ≡ interactionFrom from (messageLength ws from)) where
+        pub names-next : NamesInside ws (place x) (size x)
+        names-next = subst (λ (y : Interaction). NamesInside ws (place y) (size y)) (sym e) (t .inside from next-inside)
 
-        pub passing-refused : (v : Refusal) → u ≡ Refused v → Roots ws (eachWords one ws at count) pool₀ used₀ pool₁ u
-        unfolding eachWords
-        passing-refused v g =
-            let k : count - i ≡ suc (count - (i + 1)) = omega arith in
-            let rest : List ℕ = eachWords one ws (from + (4 + messageLength ws from)) (count - (i + 1)) in
-            far-refused ws work₀ pool₀ used₀ p (h .roots) work pool used (h .far) (one from) work₁ pool₁ u f v g rest (eachWords one ws at count)
-            (sym (h .passed .whole) ∙ ap (λ (n : ℕ). h .roots ++ eachWords one ws from n) k)
+        words-next : part (place x) (size x) ws ≡ one from
+        words-next = ap (λ (y : Interaction). part (place y) (size y) ws) e ∙ sym (t .words from)
+
+        module _ (work₁ pool₁ : List ℕ) (u : Expanded) (f : Roots ws (part (place x) (size x) ws) pool used pool₁ u) where
+          next : Roots ws (one from) pool used pool₁ u
+          next = subst (λ (xs : List ℕ). Roots ws xs pool used pool₁ u) words-next f
+
+          pub passing-more : length work₁ ≡ length work → length pool₁ ≡ length pool → {n : ℕ} → u ≡ Used n
+              → Passing one ws at count work₀ pool₀ used₀ work₁ pool₁ n (x .next) (i + 1)
+          passing-more lw lp {n} g =
+              let b = subst (Below (length (recordsOf ws))) words-next (names-below ws (place x) (size x) names-next) in record {
+                roots = h .roots ++ one from;
+                passed = passed-more one ws at count from i (h .roots) (h .passed) l b (x .next) (ap (λ (y : Interaction). y .next) e);
+                far = far-more ws work₀ pool₀ used₀ p (h .roots) work pool used (h .far) (one from) work₁ pool₁ u next b lw lp n g;
+              }
+
+          pub passing-refused : {v : Refusal} → u ≡ Refused v → Roots ws (eachWords one ws at count) pool₀ used₀ pool₁ u
+          unfolding eachWords
+          passing-refused {v} g =
+              let k : count - i ≡ suc (count - (i + 1)) = omega arith in
+              let rest : List ℕ = eachWords one ws (interactionFrom from (messageLength ws from) .next) (count - (i + 1)) in
+              far-refused ws work₀ pool₀ used₀ p (h .roots) work pool used (h .far) (one from) work₁ pool₁ u next v g rest (eachWords one ws at count)
+              (sym (h .passed .whole) ∙ ap (λ (n : ℕ). h .roots ++ eachWords one ws from n) k)
 
 -- From a pool whose records have no list yet, to all that some roots reach.
 module _ (ws pool : List ℕ) (room : 2 * length (recordsOf ws) ≤ length pool) (clear : (i : ℕ) → i < length (recordsOf ws) → getD pool (2 * i) 0 ≡ 0) where

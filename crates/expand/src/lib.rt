@@ -95,32 +95,34 @@ fn finish_record(
     store_list(work, count, pool, r, used)
 }
 
-// Expands record r with all that it reaches, left child, right child, then itself.
+// Expands record r with all that it reaches, left child, right child, then itself. It recurses as deep as the longest chain of children,
+// so a level keeps one answer and no record: a word is read when it is needed.
 fn expand_node(sheet: &[u32], work: &mut [u32], pool: &mut [u32], r: usize, used: usize) -> Expanded
     requires { ⌜ Ready (now sheet) r (now work) (now pool) used ⌝ }
     ensures { λ u. ⌜ ((done : List ℕ) → Order (now (sheet .entry)) done → Holds (now (sheet .entry)) done (now (pool .entry)) used → Expands (now (sheet .entry)) (now (pool .exit)) u (visit (childrenAt (recordsOf (now (sheet .entry)))) (suc r) done r)) ⌝ }
 {
+    let mut answer = Expanded::Used(used);
     if pool[2 * r] != 0 {
-        return Expanded::Used(used);
+        return answer;
     }
-    let q = records::record_at(sheet, r);
-    if q.kind < 6 {
-        return finish_record(sheet, work, pool, r, used);
+    if records::kind_at(sheet, r) < 6 {
+        answer = finish_record(sheet, work, pool, r, used);
+        return answer;
     }
-    let left = records::wide(q.a);
-    let first = expand_node(sheet, work, pool, left, used);
-    let Expanded::Used(one) = first else {
-        return first;
+    answer = expand_node(sheet, work, pool, records::left_at(sheet, r), used);
+    let Expanded::Used(one) = answer else {
+        return answer;
     };
-    if q.kind == 8 {
-        return finish_record(sheet, work, pool, r, one);
+    if records::kind_at(sheet, r) == 8 {
+        answer = finish_record(sheet, work, pool, r, one);
+        return answer;
     }
-    let right = records::wide(q.b);
-    let second = expand_node(sheet, work, pool, right, one);
-    let Expanded::Used(two) = second else {
-        return second;
+    answer = expand_node(sheet, work, pool, records::right_at(sheet, r), one);
+    let Expanded::Used(two) = answer else {
+        return answer;
     };
-    finish_record(sheet, work, pool, r, two)
+    answer = finish_record(sheet, work, pool, r, two);
+    answer
 }
 
 // Expands the records that the words from `at` on name.
@@ -165,13 +167,13 @@ pub fn expand_counts(
     let mut from = at;
     let mut i: usize = 0;
     while i < count {
-        let message = records::wide(sheet[from + 3]);
-        let answer = expand_names(sheet, from + 2, 1, work, pool, taken);
+        let x = records::interaction_at(sheet, from);
+        let answer = expand_names(sheet, x.count, 1, work, pool, taken);
         let Expanded::Used(next) = answer else {
             return answer;
         };
         taken = next;
-        from = from + 4 + message;
+        from = x.next;
         i += 1;
     }
     Expanded::Used(taken)
@@ -193,13 +195,13 @@ pub fn expand_fields(
     let mut from = at;
     let mut i: usize = 0;
     while i < count {
-        let message = records::wide(sheet[from + 3]);
-        let answer = expand_names(sheet, from + 4, message, work, pool, taken);
+        let x = records::interaction_at(sheet, from);
+        let answer = expand_names(sheet, x.fields, x.message, work, pool, taken);
         let Expanded::Used(next) = answer else {
             return answer;
         };
         taken = next;
-        from = from + 4 + message;
+        from = x.next;
         i += 1;
     }
     Expanded::Used(taken)

@@ -1,5 +1,5 @@
 -- Demand 3 for the expansions, from their contracts.
-use mathlib.Core.Path.{_≡_, sym, ap, subst, _∙_}
+use mathlib.Core.Path.{sym, ap, subst, _∙_}
 use Rattle.semantics.specs.Arithmetic.{prime}
 use Rattle.semantics.specs.Call.{Outcome}
 use Rattle.semantics.specs.Demand.{ConstraintRule, InteractionRule}

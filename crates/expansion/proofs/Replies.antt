@@ -1,5 +1,5 @@
 -- From the lists that stand in the outputs to the outcome of a call.
-use mathlib.Core.Path.{_≡_, refl, sym, ap, subst, _∙_}
+use mathlib.Core.Path.{_≡_, ap, _∙_}
 use mathlib.Core.List.{List, [], _∷_, _++_}
 use Prim.Native.Nat.{ℕ, _-_, _≤_}
 use native.Mathlib.Omega.{arith}
@@ -9,7 +9,7 @@ use Rattle.semantics.specs.Arithmetic.{prime}
 use Rattle.semantics.specs.Answer.{Answer, good, refused}
 use Rattle.semantics.specs.Sheet.{Sheet}
 use Rattle.semantics.specs.Check.{readSheet, check}
-use Rattle.semantics.specs.Call.{Result, Outcome, zeros, padded, paddedAll, outcome, onSheet, expansion, constraintCall, interactionCall}
+use Rattle.semantics.specs.Call.{Result, zeros, padded, paddedAll, outcome, onSheet, expansion, constraintCall, interactionCall}
 use Rattle.records.proofs.Reading.{read-found}
 use Rattle.sheet.specs.declared.Refusal.{Refusal}
 use Rattle.sheet.specs.declared.Head.{Head}
@@ -18,12 +18,14 @@ use Rattle.sheet.specs.declared.Checked.the-variants as checked
 use Rattle.sheet.specs.Scans.{checkedOf}
 use Rattle.sheet.proofs.Answers.{found, on-found, on-refused}
 use Rattle.grouping.specs.declared.Lengths.{Lengths}
-use Rattle.expansion.specs.declared.ConstraintLists.{ConstraintLists}
-use Rattle.expansion.specs.declared.ConstraintLists.the-variants.{Written, Refused}
-use Rattle.expansion.specs.declared.InteractionLengths.{InteractionLengths}
-use Rattle.expansion.specs.declared.InteractionLists.{InteractionLists}
-use Rattle.expansion.specs.declared.InteractionLists.the-variants as interaction
-use Rattle.expansion.specs.Answers.{constraintOutcome, constraintAnswer, Inside, lengthsOf, constraintsOf, cut, CheckedSheet, interactionOutcome, interactionAnswer, BothInside, bothLengths, interactionsOf}
+use Rattle.constraint_lists.specs.declared.ConstraintLists.{ConstraintLists}
+use Rattle.constraint_lists.specs.declared.ConstraintLists.the-variants.{Written, Refused}
+use Rattle.interaction_lists.specs.declared.InteractionLengths.{InteractionLengths}
+use Rattle.interaction_lists.specs.declared.InteractionLists.{InteractionLists}
+use Rattle.interaction_lists.specs.declared.InteractionLists.the-variants as interaction
+use Rattle.constraint_lists.specs.Lists.{constraintAnswer, Inside, constraintsOf, CheckedSheet}
+use Rattle.interaction_lists.specs.Lists.{interactionAnswer, BothInside, interactionsOf}
+use Rattle.expansion.specs.Answers.{constraintOutcome, lengthsOf, cut, interactionOutcome, bothLengths}
 
 -- Words that stay, and zeros behind them.
 pub kept-padded : (k : ℕ) (o : List ℕ) → cut k o ≡ padded (take k o) (length o)

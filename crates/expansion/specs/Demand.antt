@@ -8,8 +8,8 @@ use Rattle.semantics.specs.Sheet.{Sheet}
 use Rattle.semantics.specs.Check.{check}
 use Rattle.semantics.specs.Call.{Accepted, constraintCall, interactionCall}
 use Rattle.semantics.specs.Demand.{ConstraintRule, InteractionRule}
-use Rattle.expansion.specs.declared.ConstraintLists.{ConstraintLists}
-use Rattle.expansion.specs.declared.InteractionLists.{InteractionLists}
+use Rattle.constraint_lists.specs.declared.ConstraintLists.{ConstraintLists}
+use Rattle.interaction_lists.specs.declared.InteractionLists.{InteractionLists}
 use Rattle.expansion.specs.Answers.{constraintOutcome, interactionOutcome}
 
 -- For any words and any lent lengths: where the constraint call has handed back r with these slices, and r's number is 0, the words are a

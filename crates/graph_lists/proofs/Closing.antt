@@ -5,7 +5,8 @@ use mathlib.Core.List.{List, [], _∷_, _++_, flatMap, append-assoc}
 use Prim.Native.Nat.{ℕ, zero, suc, _+_, _*_, _≤_, _<_}
 use native.Mathlib.Omega.{arith}
 use lib.Dec.{ltb, leb, lit<}
-use lib.ListN.{length, set, length-append}
+use lib.ListN.{length, length-append}
+use lib.Seq.{sets}
 use borrow.Author.Tests.{ltb-false, le-leb, lt-leb}
 use Rattle.semantics.specs.Arithmetic.{prime}
 use Rattle.semantics.specs.Answer.{good}
@@ -29,7 +30,7 @@ put-behind W xs lent k e h = ap (λ (j : ℕ). put (padded W lent) j xs) e ∙ p
 
 -- The head's four words, written over four zeros.
 head-in : (lent n c i : ℕ) (xs : List ℕ)
-    → set (set (set (set (padded (zeros 4 ++ xs) lent) 0 1) 1 n) 2 c) 3 i ≡ padded ((1 ∷ n ∷ c ∷ i ∷ []) ++ xs) lent
+    → sets (padded (zeros 4 ++ xs) lent) 0 (1 ∷ n ∷ c ∷ i ∷ []) ≡ padded ((1 ∷ n ∷ c ∷ i ∷ []) ++ xs) lent
 unfolding padded zeros
 head-in lent n c i xs = refl
 
@@ -41,10 +42,10 @@ room-for lent g h = omega (arith, sheet-length g)
 
 -- The nodes, behind them the constraints and the interactions, and the head: the words of the graph.
 pub graph-words : (lent : ℕ) (g : Sheet) → length (encode g) ≤ lent
-    → set (set (set (set (
+    → sets (
     put (put (nodesOut lent (g .records)) (4 + 5 * length (g .records)) (g .constraints))
     (4 + 5 * length (g .records) + length (g .constraints)) (flatMap interactionWords (g .interactions))
-    ) 0 1) 1 (length (g .records))) 2 (length (g .constraints))) 3 (length (g .interactions))
+    ) 0 (1 ∷ length (g .records) ∷ length (g .constraints) ∷ length (g .interactions) ∷ [])
     ≡ padded (encode g) lent
 unfolding nodesOut encode headWords
 graph-words lent g h =
@@ -67,7 +68,7 @@ graph-words lent g h =
     W = zeros 4 ++ R
 
     heads : List ℕ → List ℕ
-    heads u = set (set (set (set u 0 1) 1 (length (g .records))) 2 (length C)) 3 (length (g .interactions))
+    heads u = sets u 0 (1 ∷ length (g .records) ∷ length C ∷ length (g .interactions) ∷ [])
 
     start : 4 + 5 * length (g .records) ≡ length W
     start = sym (length-append (zeros 4) R ∙ unfold zeros in (omega (arith, records-length (g .records))))

@@ -1,9 +1,10 @@
 -- The graph in the output, from the state when all records are added.
 use mathlib.Core.Path.{_≡_, refl, sym, ap, subst, _∙_}
-use mathlib.Core.List.{List, _++_, map, flatMap}
-use Prim.Native.Nat.{ℕ, suc, pred, _+_, _*_, _-_, _≤_, _<_}
+use mathlib.Core.List.{List, [], _∷_, _++_, map, flatMap}
+use Prim.Native.Nat.{ℕ, suc, pred, _+_, _*_, _-_, _^_, _≤_, _<_}
 use native.Mathlib.Omega.{arith}
-use lib.ListN.{length, getD, set, drop, length-map, length-append}
+use lib.ListN.{length, getD, drop, length-map, length-append}
+use lib.Seq.{sets}
 use Rattle.semantics.specs.Arithmetic.{prime}
 use Rattle.semantics.specs.Sheet.{Sheet, interactionWords, encode, headWords, lengthOf}
 use Rattle.semantics.specs.Check.{readSheet}
@@ -146,9 +147,6 @@ module _ (ws scratch out : List ℕ) (n : ℕ) (f : Finishing ws scratch out n) 
       let k : length (g .records) ≡ n = ap length records-are ∙ sym nodes-count in
       omega (arith, encode-long g, graph-fits ws (f .checked), f .room, k)
 
-  pub four-words : 4 ≤ length out
-  four-words = omega (arith, fits)
-
   -- The constraints are flagged, written and plain again.
   module _ (at count : ℕ) (ea : at ≡ constraintsAt ws) (ec : count ≡ length (s .constraints)) (s₁ : List ℕ)
       (e₁ : s₁ ≡ tabulate 0 (length scratch) (flagged (marksOf scratch) (nodeNumbers (marksOf scratch) (part at count ws)))) where
@@ -158,14 +156,14 @@ module _ (ws scratch out : List ℕ) (n : ℕ) (f : Finishing ws scratch out n) 
     among-are : flaggedAmong 0 n s₁ ≡ g .constraints
     among-are = ap (flaggedAmong 0 n) flags-are ∙ flagged-are scratch nums n marks-small nums-below nodes-few ∙ sym sorted-are
 
-    pub room-flagged : (n ≤ length s₁) × (n < 4294967296) × (4 + 5 * n + length (flaggedAmong 0 n s₁) ≤ length out)
-    room-flagged =
+    pub room-flagged : (to : ℕ) → to ≡ 4 + 5 * n → (n ≤ length s₁) × (n < 4294967296) × (to + length (flaggedAmong 0 n s₁) ≤ length out)
+    room-flagged to et =
         let l : length s₁ ≡ length scratch = ap length e₁ ∙ tabulate-length 0 (length scratch) _ in
         let k : length (flaggedAmong 0 n s₁) ≡ length (g .constraints) = ap length among-are in
         (omega (arith, nodes-few), omega (arith, nodes-small), omega (arith, fits))
 
-    module _ (s₂ out₁ : List ℕ) (next : ℕ) (e₂ : s₂ ≡ tabulate 0 (length s₁) (plainBelow n s₁)) (o₁ : out₁ ≡ put out (4 + 5 * n) (flaggedAmong 0 n s₁))
-        (q : next ≡ 4 + 5 * n + length (flaggedAmong 0 n s₁)) (from ints : ℕ) (ef : from ≡ at + count) (ei : ints ≡ length (s .interactions)) where
+    module _ (to : ℕ) (et : to ≡ 4 + 5 * n) (s₂ out₁ : List ℕ) (next : ℕ) (e₂ : s₂ ≡ tabulate 0 (length s₁) (plainBelow n s₁)) (o₁ : out₁ ≡ put out to (flaggedAmong 0 n s₁))
+        (q : next ≡ to + length (flaggedAmong 0 n s₁)) (from ints : ℕ) (ef : from ≡ at + count) (ei : ints ≡ length (s .interactions)) where
       plain : s₂ ≡ scratch
       plain = e₂ ∙ ap (λ (l : List ℕ). tabulate 0 (length l) (plainBelow n l)) flags-are ∙ plain-again scratch nums n marks-small nums-below nodes-few
 
@@ -183,10 +181,10 @@ module _ (ws scratch out : List ℕ) (n : ℕ) (f : Finishing ws scratch out n) 
           ∙ ap (flatMap interactionWords) (sym interactions-are)
 
       next-is : next ≡ 4 + 5 * n + length (g .constraints)
-      next-is = q ∙ ap (λ (l : List ℕ). 4 + 5 * n + length l) among-are
+      next-is = q ∙ λ i. et i + length (among-are i)
 
       out₁-is : out₁ ≡ put out (4 + 5 * n) (g .constraints)
-      out₁-is = o₁ ∙ ap (put out (4 + 5 * n)) among-are
+      out₁-is = o₁ ∙ λ i. put out (et i) (among-are i)
 
       out₁-length : length out₁ ≡ length out
       out₁-length = ap length out₁-is ∙ put-length out (4 + 5 * n) (g .constraints) (omega (arith, fits))
@@ -214,23 +212,24 @@ module _ (ws scratch out : List ℕ) (n : ℕ) (f : Finishing ws scratch out n) 
             let kn : n ≡ length (g .records) = nodes-count ∙ ap length (sym records-are) in
             omega (arith, next-is, encode-long g)
 
-        pub list-small : next - (4 + 5 * n) < 4294967296
-        list-small = omega (arith, next-is, sorted-few)
+        -- What the head asks.
+        pub head-asks : (4 ≤ length out₂) × (n < 2 ^ 32) × (next - to < 2 ^ 32) × (ints < 2 ^ 32)
+        head-asks = (omega (arith, fits, out₂-length), omega (arith, nodes-small), omega (arith, next-is, sorted-few), omega (arith, lists-small .1))
           where
             sorted-few : length (g .constraints) ≤ 1024
             sorted-few =
                 let k : length nums ≡ length (s .constraints) = length-map (s .constraints) (B .num) in
                 omega (arith, ap length sorted-are, sorted-length nums, lists-small .0)
 
-        pub graph-written : set (set (set (set out₂ 0 1) 1 n) 2 (next - (4 + 5 * n))) 3 ints ≡ graphOut (length out) ws
+        pub graph-written : sets out₂ 0 (1 ∷ n ∷ (next - to) ∷ ints ∷ []) ≡ graphOut (length out) ws
         graph-written =
             let N : ℕ = length (g .records) in
             let kn : n ≡ N = nodes-count ∙ ap length (sym records-are) in
-            let kc : next - (4 + 5 * n) ≡ length (g .constraints) = omega (arith, next-is) in
+            let kc : next - to ≡ length (g .constraints) = omega (arith, next-is) in
             let ki : ints ≡ length (g .interactions) = ei ∙ sym (length-map (s .interactions) (renamed (B .num))) ∙ ap length (sym interactions-are) in
             let kx : next ≡ 4 + 5 * N + length (g .constraints) = next-is ∙ ap (λ (m : ℕ). 4 + 5 * m + length (g .constraints)) kn in
             let ko : out ≡ nodesOut (length out) (g .records) = f .holds .out-is ∙ ap (nodesOut (length out)) (sym records-are) in
             let w : out₂ ≡ put (put (nodesOut (length out) (g .records)) (4 + 5 * N) (g .constraints)) (4 + 5 * N + length (g .constraints)) (flatMap interactionWords (g .interactions)) =
             o₂ ∙ (λ i. put (out₁-is i) (kx i) (renamed-now i)) ∙ (λ i. put (put (ko i) (4 + 5 * kn i) (g .constraints)) (4 + 5 * N + length (g .constraints)) (flatMap interactionWords (g .interactions))) in
-            (λ i. set (set (set (set (w i) 0 1) 1 (kn i)) 2 (kc i)) 3 (ki i))
+            (λ i. sets (w i) 0 (1 ∷ kn i ∷ kc i ∷ ki i ∷ []))
             ∙ graph-words (length out) g (unfold lengthOf in (omega (arith, graph-fits ws (f .checked), f .room)))

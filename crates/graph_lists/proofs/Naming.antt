@@ -5,10 +5,12 @@ use Prim.Native.Nat.{ℕ, suc, pred, _+_, _-_, _%_, _≤_, _<_}
 use native.Mathlib.Omega.{arith}
 use native.Mathlib.Nat.{mod-eq-of-lt}
 use lib.ListN.{length, getD, set, length-append, length-set, length-map}
-use Rattle.records.specs.Access.{part, messageLength, eachWords}
+use lib.Seq.{sets}
+use Rattle.records.specs.declared.Interaction.{Interaction}
+use Rattle.records.specs.Access.{part, messageLength, interactionFrom, eachWords}
 use Rattle.records.proofs.Parts.{part-more, part-length}
 use Rattle.graph_lists.specs.Lists.{put, nodeNumbers, marksOf, Named, NamedInteraction, NamedInteractions, renamedWords, renamedAll}
-use Rattle.graph_lists.proofs.Sweeps.{put-none, put-length, put-put, put-one, put-next, set-next}
+use Rattle.graph_lists.proofs.Sweeps.{put-none, put-length, put-put, put-one, put-sets, put-next, set-next}
 
 numbers-length : (ws : List ℕ) (at j : ℕ) (f : ℕ → ℕ) → at + j ≤ length ws → length (nodeNumbers f (part at j ws)) ≡ j
 numbers-length ws at j f h = length-map (part at j ws) (λ (x : ℕ). pred (f x)) ∙ part-length ws at j h
@@ -56,32 +58,73 @@ module _ (ws : List ℕ) (at : ℕ) (s : List ℕ) (h : NamedInteraction ws at s
   unfolding renamedWords
   renamed-length = simp length-append (omega (arith, one-count, all-message))
 
+  abbrev front : List ℕ
+  front = getD ws at 0 ∷ getD ws (at + 1) 0 ∷ []
+
   module _ (out : List ℕ) (to : ℕ) (room : to + (4 + messageLength ws at) ≤ length out) where
-    module _ (o₁ o₂ o₃ o₄ o₅ : List ℕ) (e₁ : o₁ ≡ set out to (getD ws at 0)) (e₂ : o₂ ≡ set o₁ (to + 1) (getD ws (at + 1) 0)) (e₃ : o₃ ≡ put o₂ (to + 2) count-nodes)
-        (e₄ : o₄ ≡ set o₃ (to + 3) (messageLength ws at)) (e₅ : o₅ ≡ put o₄ (to + 4) message-nodes) where
-      pub interaction-put : o₅ ≡ put out to (renamedWords ws s at)
-      unfolding renamedWords
-      interaction-put =
-          let w : List ℕ = getD ws at 0 ∷ [] in
-          let f₁ : o₁ ≡ put out to w = e₁ ∙ put-one out to (getD ws at 0) (omega arith) in
-          let f₂ : o₂ ≡ put out to (w ++ (getD ws (at + 1) 0 ∷ [])) = e₂ ∙ set-next out o₁ to w f₁ (to + 1) refl (getD ws (at + 1) 0) (omega arith) in
-          let f₃ : o₃ ≡ put out to (w ++ (getD ws (at + 1) 0 ∷ []) ++ count-nodes) =
-          e₃ ∙ put-next out o₂ to (w ++ (getD ws (at + 1) 0 ∷ [])) f₂ (to + 2) refl count-nodes (omega (arith, one-count)) in
-          let x : List ℕ = w ++ (getD ws (at + 1) 0 ∷ []) ++ count-nodes in
-          let lx : length x ≡ 3 = omega (arith, one-count) in
-          let f₄ : o₄ ≡ put out to (x ++ (messageLength ws at ∷ [])) = e₄ ∙ set-next out o₃ to x f₃ (to + 3) (omega arith) (messageLength ws at) (omega arith) in
-          let y : List ℕ = x ++ (messageLength ws at ∷ []) in
-          let ly : length y ≡ 4 = length-append x (messageLength ws at ∷ []) ∙ omega arith in
-          let f₅ : o₅ ≡ put out to (y ++ message-nodes) = e₅ ∙ put-next out o₄ to y f₄ (to + 4) (omega arith) message-nodes (omega (arith, all-message)) in
-          f₅ ∙ ap (put out to) (append-assoc x (messageLength ws at ∷ []) message-nodes ∙ append-assoc (w ++ (getD ws (at + 1) 0 ∷ [])) count-nodes ((messageLength ws at ∷ []) ++ message-nodes))
+    -- Behind the bus and the weight the count's node, the message's length and the nodes of its fields.
+    all-put : (o₂ o₃ o₅ : List ℕ) → o₂ ≡ sets out to front → o₃ ≡ put o₂ (to + 2) count-nodes → o₅ ≡ put (set o₃ (to + 3) (messageLength ws at)) (to + 4) message-nodes
+        → o₅ ≡ put out to (renamedWords ws s at)
+    unfolding renamedWords
+    all-put o₂ o₃ o₅ e₂ e₃ e₅ =
+        let f₂ : o₂ ≡ put out to front = e₂ ∙ put-sets out to front (omega arith) in
+        let f₃ : o₃ ≡ put out to (front ++ count-nodes) = e₃ ∙ put-next out o₂ to front f₂ (to + 2) refl count-nodes (omega (arith, one-count)) in
+        let x : List ℕ = front ++ count-nodes in
+        let lx : length x ≡ 3 = omega (arith, one-count) in
+        let y : List ℕ = x ++ (messageLength ws at ∷ []) in
+        let ly : length y ≡ 4 = length-append x (messageLength ws at ∷ []) ∙ omega arith in
+        let f₄ : set o₃ (to + 3) (messageLength ws at) ≡ put out to y = set-next out o₃ to x f₃ (to + 3) (omega arith) (messageLength ws at) (omega arith) in
+        let f₅ : o₅ ≡ put out to (y ++ message-nodes) =
+        e₅ ∙ put-next out (set o₃ (to + 3) (messageLength ws at)) to y f₄ (to + 4) (omega arith) message-nodes (omega (arith, all-message)) in
+        f₅ ∙ ap (put out to) (append-assoc x (messageLength ws at ∷ []) message-nodes ∙ append-assoc front count-nodes ((messageLength ws at ∷ []) ++ message-nodes))
 
-    -- The output keeps its length all along.
-    pub length-two : length (set (set out to (getD ws at 0)) (to + 1) (getD ws (at + 1) 0)) ≡ length out
-    length-two = length-set (set out to (getD ws at 0)) (to + 1) (getD ws (at + 1) 0) ∙ length-set out to (getD ws at 0)
+    -- At the places x of the sheet and y of the output.
+    module _ (x y : Interaction) (ex : x ≡ interactionFrom at (messageLength ws at)) (ey : y ≡ interactionFrom to (x .message)) where
+      y-is : y ≡ interactionFrom to (messageLength ws at)
+      y-is = ey ∙ ap (λ (z : Interaction). interactionFrom to (z .message)) ex
 
-    pub length-three : (o₃ : List ℕ) → o₃ ≡ put (set (set out to (getD ws at 0)) (to + 1) (getD ws (at + 1) 0)) (to + 2) count-nodes → length o₃ ≡ length out
-    length-three o₃ e =
-        ap length e ∙ put-length (set (set out to (getD ws at 0)) (to + 1) (getD ws (at + 1) 0)) (to + 2) count-nodes (omega (arith, one-count, length-two)) ∙ length-two
+      at-places : (P : Interaction → Interaction → Type 0) → P (interactionFrom at (messageLength ws at)) (interactionFrom to (messageLength ws at)) → P x y
+      at-places P f =
+          subst (P x) (sym y-is) (subst (λ (u : Interaction). P u (interactionFrom to (messageLength ws at))) (sym ex) f)
+
+      pub next-place : y .next ≡ to + (4 + messageLength ws at)
+      next-place = ap (λ (z : Interaction). z .next) y-is
+
+      module _ (o₂ : List ℕ) (e₂ : o₂ ≡ sets out to front) where
+        length-two : length o₂ ≡ length out
+        length-two = ap length (e₂ ∙ put-sets out to front (omega arith)) ∙ put-length out to front (omega arith)
+
+        pub count-asks : Named ws (x .count) 1 s × (y .count + 1 ≤ length o₂)
+        count-asks = at-places (λ u v. Named ws (u .count) 1 s × (v .count + 1 ≤ length o₂)) (h .count, omega (arith, length-two))
+
+        module _ (o₃ : List ℕ) (e₃ : o₃ ≡ put o₂ (y .count) (nodeNumbers (marksOf s) (part (x .count) 1 ws))) where
+          three-is : o₃ ≡ put o₂ (to + 2) count-nodes
+          three-is = e₃ ∙ λ i. put o₂ (y-is i .count) (nodeNumbers (marksOf s) (part (ex i .count) 1 ws))
+
+          length-three : length o₃ ≡ length out
+          length-three = ap length three-is ∙ put-length o₂ (to + 2) count-nodes (omega (arith, one-count, length-two)) ∙ length-two
+
+          pub length-fits : (x .length < length ws) × (y .length < length o₃)
+          length-fits =
+              at-places (λ u v. (u .length < length ws) × (v .length < length o₃))
+              (omega (arith, h .inside), omega (arith, length-three))
+
+          abbrev o₄ : List ℕ
+          o₄ = set o₃ (y .length) (getD ws (x .length) 0)
+
+          pub message-asks : Named ws (x .fields) (x .message) s × (y .fields + x .message ≤ length o₄)
+          message-asks =
+              let l : length o₄ ≡ length out = length-set o₃ (y .length) (getD ws (x .length) 0) ∙ length-three in
+              at-places (λ u v. Named ws (u .fields) (u .message) s × (v .fields + u .message ≤ length o₄)) (h .message, omega arith)
+
+          module _ (o₅ : List ℕ) (e₅ : o₅ ≡ put o₄ (y .fields) (nodeNumbers (marksOf s) (part (x .fields) (x .message) ws))) where
+            pub interaction-put : o₅ ≡ put out to (renamedWords ws s at)
+            interaction-put =
+                all-put o₂ o₃ o₅ e₂ three-is
+                (e₅ ∙ λ i. put (set o₃ (y-is i .length) (getD ws (ex i .length) 0)) (y-is i .fields) (nodeNumbers (marksOf s) (part (ex i .fields) (ex i .message) ws)))
+
+            pub interaction-length : length o₅ ≡ length out
+            interaction-length = ap length interaction-put ∙ put-length out to (renamedWords ws s at) (omega (arith, renamed-length))
 
 -- The loop over the interactions: what is written and what is left make the whole.
 pub record Written (ws s : List ℕ) (at count : ℕ) (out₀ : List ℕ) (to : ℕ) (out : List ℕ) (from next i : ℕ) : Type 0 where

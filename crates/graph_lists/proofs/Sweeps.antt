@@ -8,7 +8,7 @@ use native.Mathlib.Nat.{add-zero, zero-add}
 use native.Mathlib.Numerals.{add-one}
 use lib.Dec.{eqb, ltb, leb}
 use lib.ListN.{length, getD, set, take, drop, replicate, length-append, length-take, length-drop, length-replicate, take-append-drop, replicate-append-replicate}
-use lib.Seq.{set-split, take-at, drop-at, drop-drop, drop-append-add}
+use lib.Seq.{sets, sets-eq, set-split, take-at, drop-at, drop-drop, drop-append-add}
 use borrow.Author.Tests.{eqb-true, eqb-false, ltb-true, ltb-false, lt-ltb, le-ltb}
 use Rattle.semantics.specs.Graph.{setNum}
 use Rattle.semantics.specs.Call.{zeros, padded}
@@ -49,6 +49,9 @@ put-put out at xs ys h =
 
 pub put-one : (out : List ℕ) (at v : ℕ) → at < length out → set out at v ≡ put out at (v ∷ [])
 put-one out at v h = set-split out at v h ∙ ap (λ (k : ℕ). take at out ++ (v ∷ drop k out)) (sym (add-one at))
+
+pub put-sets : (out : List ℕ) (at : ℕ) (xs : List ℕ) → at + length xs ≤ length out → sets out at xs ≡ put out at xs
+put-sets out at xs h = sets-eq xs out at h ∙ append-assoc (take at out) xs (drop (at + length xs) out)
 
 -- Behind the written part of a padded slice.
 pub put-padded : (W xs : List ℕ) (lent : ℕ) → length W + length xs ≤ lent → put (padded W lent) (length W) xs ≡ padded (W ++ xs) lent

@@ -1,6 +1,6 @@
 // The lists of the finished graph, behind its nodes.
 ghost use mathlib.Core.Path.{_≡_};
-ghost use Prim.Native.Nat.{pred, _+_, _*_, _%_, _≤_, _<_};
+ghost use Prim.Native.Nat.{pred, _+_, _%_, _≤_, _<_};
 ghost use lib.Dec.{leb};
 ghost use lib.ListN.{length, getD, set};
 ghost use Rattle.semantics.specs.Check.{readSheet};
@@ -103,13 +103,15 @@ fn write_interaction(sheet: &[u32], at: usize, scratch: &[u32], out: &mut [u32],
     requires { ⌜ NamedInteraction (now sheet) at (now scratch) × (to + (4 + messageLength (now sheet) at) ≤ length (now out)) ⌝ }
     ensures { λ r. ⌜ (now (out .exit) ≡ put (now (out .entry)) to (renamedWords (now (sheet .entry)) (now (scratch .entry)) at)) × (r ≡ to + (4 + messageLength (now (sheet .entry)) at)) ⌝ }
 {
-    let count = records::wide(sheet[at + 3]);
-    out[to] = sheet[at];
-    out[to + 1] = sheet[at + 1];
-    write_names(sheet, at + 2, 1, scratch, out, to + 2);
-    out[to + 3] = sheet[at + 3];
-    write_names(sheet, at + 4, count, scratch, out, to + 4);
-    to + 4 + count
+    let x = records::interaction_at(sheet, at);
+    let y = records::interaction_from(to, x.message);
+    records::copy_bus_and_weight(sheet, at, out, to);
+    write_names(sheet, x.count, 1, scratch, out, y.count);
+    let from = x.length;
+    let length = y.length;
+    out[length] = sheet[from];
+    write_names(sheet, x.fields, x.message, scratch, out, y.fields);
+    y.next
 }
 
 // Writes the interactions that stand from `at` on, and hands back where the output goes on.
@@ -128,10 +130,10 @@ fn write_interactions(
     let mut next = to;
     let mut i = 0;
     while i < count {
-        let message = records::wide(sheet[from + 3]);
+        let x = records::interaction_at(sheet, from);
         let after = write_interaction(sheet, from, scratch, out, next);
         next = after;
-        from = from + 4 + message;
+        from = x.next;
         i += 1;
     }
     next
@@ -151,12 +153,9 @@ pub fn write_graph(
     ensures { λ r. ⌜ (now (out .exit) ≡ graphOut (length (now (out .entry))) (now (sheet .entry))) × (r ≡ graphLength (now (sheet .entry))) ⌝ }
 {
     flag_nodes(sheet, at, constraints, scratch);
-    let to = 4 + 5 * n;
+    let to = records::records_end(n);
     let next = write_flagged(scratch, n, out, to);
     let end = write_interactions(sheet, at + constraints, interactions, scratch, out, next);
-    out[0] = 1;
-    out[1] = n as u32;
-    out[2] = (next - to) as u32;
-    out[3] = interactions as u32;
+    records::put_head(out, n, next - to, interactions);
     end
 }

@@ -1,8 +1,8 @@
--- Adding a record, and a visit of one.
+-- Adding a record whose children are added.
 use mathlib.Core.Path.{_≡_, refl, sym, ap, subst, _∙_}
 use mathlib.Core.Bool.{false}
 use mathlib.Core.List.{List, _∷_}
-use Prim.Native.Nat.{ℕ, suc, _+_, _*_, _≤_, _<_}
+use Prim.Native.Nat.{ℕ, _+_, _*_, _≤_, _<_}
 use native.Mathlib.Omega.{arith}
 use lib.Dec.{eqb}
 use lib.ListN.{length}
@@ -12,20 +12,20 @@ use Rattle.semantics.specs.Answer.{good}
 use Rattle.semantics.specs.Sheet.{Record, Each, GoodRecord}
 use Rattle.semantics.specs.Check.{readSheet, check}
 use Rattle.semantics.specs.Value.{nodeOf}
-use Rattle.semantics.specs.Walk.{children, childrenAt, member, visit}
+use Rattle.semantics.specs.Walk.{children, member}
 use Rattle.semantics.specs.Graph as graph
 use Rattle.semantics.specs.Graph.{Built, setNum, takeIn, addRecord, build, find, intern}
 use Rattle.semantics.proofs.Basics.{cond-true}
-use Rattle.semantics.proofs.Members.{Mem, mem-here}
+use Rattle.semantics.proofs.Members.{mem-here}
 use Rattle.semantics.proofs.Records.{LowRecord, each-low}
 use Rattle.records.specs.Access.{recordsOf}
 use Rattle.records.specs.Orders.{Order, There}
-use Rattle.records.proofs.Steps.{order-more, child-inside, order-next}
+use Rattle.records.proofs.Steps.{order-more}
 use Rattle.nodes.specs.Nodes.{NoneBefore, aboveAll}
 use Rattle.nodes.specs.Memory.{builtOf, Holds}
 use Rattle.nodes.proofs.States as states
 use Rattle.nodes.proofs.Searches.{from-inside, from-none}
-use Rattle.graph_walk.specs.Walking.{Ready, Adding, pickOfRecord}
+use Rattle.graph_walk.specs.Walking.{pickOfRecord}
 
 -- The number that a record gets.
 module _ (b : Built) (r : ℕ) where
@@ -40,9 +40,6 @@ module _ (b : Built) (r : ℕ) where
 module _ (ws : List ℕ) (checked : check prime ws ≡ good (readSheet ws)) where
   abbrev E : ℕ
   E = length (recordsOf ws)
-
-  abbrev ch : ℕ → List ℕ
-  ch = childrenAt (recordsOf ws)
 
   module _ (r : ℕ) (l : r < E) where
     -- A record whose children are there.
@@ -81,30 +78,3 @@ module _ (ws : List ℕ) (checked : check prime ws ≡ good (readSheet ws)) wher
       -- Room for its node.
       pub room-more : (scratch out : List ℕ) (n : ℕ) → Holds ws done scratch out n → 4 + 5 * E ≤ length out → 4 + 5 * (n + 1) ≤ length out
       room-more scratch out n h room = omega (arith, h .count-is, states.few-nodes ws checked done r o l new)
-
-    -- What the calls ask: for a child, and for the record again when a child is visited.
-    pub ready-child : (scratch out : List ℕ) (n x : ℕ) → Mem x (ch r) → Ready ws r scratch out n → Ready ws x scratch out n
-    ready-child scratch out n x m p = record {
-      checked = p .checked;
-      inside = child-inside ws checked r l x m;
-      room = p .room;
-      done = p .done;
-      order = p .order;
-      holds = p .holds;
-    }
-
-    abbrev pub ready-after : (scratch out : List ℕ) (n x : ℕ) → Mem x (ch r) → Ready ws r scratch out n → (scratch′ out′ : List ℕ) (u : ℕ)
-        → length out′ ≡ length out
-        → ((done : List ℕ) → Order ws done → Holds ws done scratch out n → Holds ws (visit ch (suc x) done x) scratch′ out′ u)
-        → Ready ws r scratch′ out′ u
-    ready-after scratch out n x m p scratch′ out′ u k f = record {
-      checked = p .checked;
-      inside = p .inside;
-      room = subst (λ (j : ℕ). 4 + 5 * E ≤ j) (sym k) (p .room);
-      done = visit ch (suc x) (p .done) x;
-      order = order-next ws checked r l (p .done) x m (p .order);
-      holds = f (p .done) (p .order) (p .holds);
-    }
-
-    pub adding : (scratch out : List ℕ) (n : ℕ) (p : Ready ws r scratch out n) → member r (p .done) ≡ false → There ws r (p .done) → Adding ws r scratch out n
-    adding scratch out n p new there = record { ready = p; new = new; there = there }

@@ -1,11 +1,13 @@
 -- What adding records asks and changes.
 use mathlib.Core.Path.{_≡_}
-use mathlib.Core.Bool.{false}
+use mathlib.Core.Bool.{false, cond}
 use mathlib.Core.List.{List}
 use Prim.Native.Nat.{ℕ, _+_, _*_, _≤_, _<_}
+use lib.Dec.{eqb}
 use lib.ListN.{length}
 use Rattle.semantics.specs.Arithmetic.{prime}
 use Rattle.semantics.specs.Answer.{good}
+use Rattle.semantics.specs.Sheet.{Record}
 use Rattle.semantics.specs.Check.{readSheet, check}
 use Rattle.semantics.specs.Walk.{member}
 use Rattle.semantics.specs.Value.{nodeOf, recordAt}
@@ -31,6 +33,10 @@ pub record Adding (ws : List ℕ) (r : ℕ) (scratch out : List ℕ) (n : ℕ) :
 
 abbrev pub pickOfRecord : (ws : List ℕ) (r : ℕ) (done : List ℕ) → Pick
 pickOfRecord ws r done = pick prime (builtOf ws done) (recordAt (recordsOf ws) r) (nodeOf (recordAt (recordsOf ws) r))
+
+-- The children of a record that has some, first and second; a Neg's only one is both.
+abbrev pub childOf : Record → (i : ℕ) → ℕ
+childOf m i = cond (eqb i 0) (m .a) (cond (eqb (m .kind) 8) (m .a) (m .b))
 
 -- What adding records asks when none is said: a checked sheet, and room for as many nodes as records.
 pub record Walking (ws scratch out : List ℕ) (n : ℕ) : Type 0 where

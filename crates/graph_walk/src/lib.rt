@@ -12,7 +12,7 @@ ghost use Rattle.records.specs.Access.{nodeIn, recordsOf, part, fieldsAt, count
 ghost use Rattle.records.specs.Orders.{Order, There};
 ghost use Rattle.nodes.specs.Picks.{pickOf, viewOf};
 ghost use Rattle.nodes.specs.Memory.{Holds};
-ghost use Rattle.graph_walk.specs.Walking.{Ready, Adding, pickOfRecord, Walking, Walks};
+ghost use Rattle.graph_walk.specs.Walking.{Ready, Adding, pickOfRecord, childOf, Walking, Walks};
 use nodes::rules;
 use nodes::rules::Child;
 use nodes::rules::Pick;
@@ -78,7 +78,22 @@ fn add_record(sheet: &[u32], scratch: &mut [u32], out: &mut [u32], r: usize, n: 
     }
 }
 
+// The child to which the walk goes from a record with children: left at first, then right; a Neg's only one both times, which changes nothing the second time.
+fn child_at(sheet: &[u32], r: usize, i: usize) -> usize
+    requires { ⌜ 4 + 5 * r + 5 ≤ length (now sheet) ⌝ }
+    ensures { λ x. ⌜ x ≡ childOf (nodeIn (now (sheet .entry)) r) i ⌝ }
+{
+    if i == 0 {
+        return records::left_at(sheet, r);
+    }
+    if records::kind_at(sheet, r) == 8 {
+        return records::left_at(sheet, r);
+    }
+    records::right_at(sheet, r)
+}
+
 // Adds record r with all that it reaches, children first, left before right; hands back the number of nodes.
+// The call for a child stands once, in a loop: a second one would have room of its own in the stack of each level.
 fn add_expr(sheet: &[u32], scratch: &mut [u32], out: &mut [u32], r: usize, n: usize) -> usize
     requires { ⌜ Ready (now sheet) r (now scratch) (now out) n ⌝ }
     ensures { λ u. ⌜ ((done : List ℕ) → Order (now (sheet .entry)) done → Holds (now (sheet .entry)) done (now (scratch .entry)) (now (out .entry)) n → Holds (now (sheet .entry)) (visit (childrenAt (recordsOf (now (sheet .entry)))) (suc r) done r) (now (scratch .exit)) (now (out .exit)) u) ⌝ }
@@ -86,18 +101,17 @@ fn add_expr(sheet: &[u32], scratch: &mut [u32], out: &mut [u32], r: usize, n: us
     if scratch[r] != 0 {
         return n;
     }
-    let q = records::record_at(sheet, r);
-    if q.kind < 6 {
+    if records::kind_at(sheet, r) < 6 {
         return add_record(sheet, scratch, out, r, n);
     }
-    let left = records::wide(q.a);
-    let one = add_expr(sheet, scratch, out, left, n);
-    if q.kind == 8 {
-        return add_record(sheet, scratch, out, r, one);
+    let mut used = n;
+    let mut i: usize = 0;
+    while i < 2 {
+        let child = child_at(sheet, r, i);
+        used = add_expr(sheet, scratch, out, child, used);
+        i += 1;
     }
-    let right = records::wide(q.b);
-    let two = add_expr(sheet, scratch, out, right, one);
-    add_record(sheet, scratch, out, r, two)
+    add_record(sheet, scratch, out, r, used)
 }
 
 // Adds the records that the words from `at` on name.
@@ -133,9 +147,9 @@ fn add_interaction(
     requires { ⌜ Walking (now sheet) (now scratch) (now out) n × RootsInside (length (recordsOf (now sheet))) (now sheet) at ⌝ }
     ensures { λ u. ⌜ Walks (now (sheet .entry)) (fieldsAt (now (sheet .entry)) at ++ countAt (now (sheet .entry)) at) (now (scratch .entry)) (now (out .entry)) n (now (scratch .exit)) (now (out .exit)) u ⌝ }
 {
-    let message = records::wide(sheet[at + 3]);
-    let fields = add_names(sheet, at + 4, message, scratch, out, n);
-    add_names(sheet, at + 2, 1, scratch, out, fields)
+    let x = records::interaction_at(sheet, at);
+    let fields = add_names(sheet, x.fields, x.message, scratch, out, n);
+    add_names(sheet, x.count, 1, scratch, out, fields)
 }
 
 // Adds what the interactions from `at` on name.
@@ -154,9 +168,9 @@ pub fn add_interactions(
     let mut from = at;
     let mut i: usize = 0;
     while i < count {
-        let message = records::wide(sheet[from + 3]);
+        let x = records::interaction_at(sheet, from);
         used = add_interaction(sheet, from, scratch, out, used);
-        from = from + 4 + message;
+        from = x.next;
         i += 1;
     }
     used

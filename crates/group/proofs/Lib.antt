@@ -6,5 +6,6 @@ pub mod Headers
 pub mod Counting
 pub mod PoolLists
 pub mod RowTotals
+pub mod RowOffsets
 pub mod Placements
 pub mod RowVariables

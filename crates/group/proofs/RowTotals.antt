@@ -5,7 +5,7 @@ use Prim.Native.Nat.{ℕ, zero, suc, _+_, _*_, _-_, _≤_, _<_}
 use native.Mathlib.Numerals.{add-one}
 use native.Mathlib.Omega.{arith}
 use lib.ListN.{length, getD, take, drop, set, length-map, length-set, length-drop, drop-of-length-le}
-use lib.Seq.{drop-cons, take-suc-set, drop-set-lt, take-all, append-snoc, getD-set-other}
+use lib.Seq.{drop-cons, take-suc-set, drop-set-lt, take-all, append-snoc}
 use Rattle.semantics.specs.Group.{rows}
 use Rattle.semantics.proofs.Lists.{getD-map}
 use Rattle.group.specs.Grouped.{column, sum, totalled}
@@ -110,15 +110,3 @@ module _ (H₀ : List ℕ) (n to from : ℕ) (H : List ℕ) (total i : ℕ) (g :
             ∙ ap (λ (x : List (List ℕ)). take i R ++ totalled to from total x) (sym (rows-end n i H h)) ∙ g .whole,
         g .rest,
       )
-
--- Another word than the one written stays.
-pub words-totalled : (j to from start : ℕ) (rs : List (List ℕ)) → (j ≡ to → ⊥) → words j (totalled to from start rs) ≡ words j rs
-unfolding totalled
-words-totalled j to from start [] h = refl
-words-totalled j to from start (row ∷ rs) h =
-    ap (λ (x : ℕ). x ∷ words j (totalled to from (start + getD row from 0) rs)) (getD-set-other row to j start 0 h)
-    ∙ ap (λ (l : List ℕ). getD row j 0 ∷ l) (words-totalled j to from (start + getD row from 0) rs h)
-
-pub column-kept : (j to from n : ℕ) (H H′ : List ℕ) → (j ≡ to → ⊥) → rows 4 n H′ ≡ totalled to from 0 (rows 4 n H) → column j n H′ ≡ column j n H
-column-kept j to from n H H′ h e =
-    column-words j n H′ ∙ ap (words j) e ∙ words-totalled j to from 0 (rows 4 n H) h ∙ sym (column-words j n H)

@@ -1,4 +1,5 @@
 // Totals over the rows of the headers.
+use header_offsets::words;
 ghost use mathlib.Core.Path.{_≡_};
 ghost use Prim.Native.Nat.{_+_, _*_, _≤_, _<_};
 ghost use lib.ListN.{length, drop};
@@ -41,35 +42,26 @@ pub fn total_terms(headers: &[u32], n: usize) -> usize
     column_total(headers, n, 3)
 }
 
-// Word `to` of each row becomes the total of word `from` over the rows before it.
-fn run_totals(headers: &mut [u32], n: usize, to: usize, from: usize)
-    requires { ⌜ (to < from) × (from < 4) × (4 * n ≤ length (now headers)) × (sum (column from n (now headers)) ≤ 4294967295) ⌝ }
-    ensures { λ _. ⌜ (rows 4 n (now (headers .exit)) ≡ totalled to from 0 (rows 4 n (now (headers .entry)))) × (drop (4 * n) (now (headers .exit)) ≡ drop (4 * n) (now (headers .entry))) ⌝ }
+// The cursor of each row is set to where its first term goes: the total of the terms before it.
+pub fn start_terms(headers: &mut [u32], n: usize)
+    requires { ⌜ (4 * n ≤ length (now headers)) × (sum (column 3 n (now headers)) ≤ 4294967295) ⌝ }
+    ensures { λ _. ⌜ (rows 4 n (now (headers .exit)) ≡ totalled 1 3 0 (rows 4 n (now (headers .entry)))) × (drop (4 * n) (now (headers .exit)) ≡ drop (4 * n) (now (headers .entry))) ⌝ }
 {
     let mut total: u32 = 0;
     let mut i: usize = 0;
     while i < n {
         let row = 4 * i;
-        let word = headers[row + from];
-        headers[row + to] = total;
-        total += word;
+        let terms = headers[row + 3];
+        headers[row + 1] = total;
+        total += terms;
         i += 1;
     }
 }
 
-// The cursor of each row is set to where its first term goes.
-pub fn start_terms(headers: &mut [u32], n: usize)
-    requires { ⌜ (4 * n ≤ length (now headers)) × (sum (column 3 n (now headers)) ≤ 4294967295) ⌝ }
-    ensures { λ _. ⌜ (rows 4 n (now (headers .exit)) ≡ totalled 1 3 0 (rows 4 n (now (headers .entry)))) × (drop (4 * n) (now (headers .exit)) ≡ drop (4 * n) (now (headers .entry))) ⌝ }
-{
-    run_totals(headers, n, 1, 3)
-}
-
-// Both offsets of each row are set to the totals over the rows before it.
+// Both offsets of each row are set to the totals over the rows before it, in one pass over headers.
 pub fn fill_offsets(headers: &mut [u32], n: usize)
     requires { ⌜ (4 * n ≤ length (now headers)) × (sum (column 2 n (now headers)) ≤ 4294967295) × (sum (column 3 n (now headers)) ≤ 4294967295) ⌝ }
     ensures { λ _. ⌜ (rows 4 n (now (headers .exit)) ≡ totalled 1 3 0 (totalled 0 2 0 (rows 4 n (now (headers .entry))))) × (drop (4 * n) (now (headers .exit)) ≡ drop (4 * n) (now (headers .entry))) ⌝ }
 {
-    run_totals(headers, n, 0, 2);
-    run_totals(headers, n, 1, 3);
+    words::fill_words(headers, n)
 }

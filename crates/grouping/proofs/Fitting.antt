@@ -11,27 +11,29 @@ use lib.Seq.{take-append-seam}
 use borrow.Author.Tests.{le-leb, lt-leb}
 use Rattle.semantics.specs.Arithmetic.{prime}
 use Rattle.semantics.specs.Monomial.{Monomial, listAt}
-use Rattle.semantics.specs.Group.{Root, Item, itemsOf, items, Group, groups, headers, variables, terms, layout, rows}
+use Rattle.semantics.specs.Check.{readSheet}
+use Rattle.semantics.specs.Group.{Root, constraintRoots, countRoots, fieldRoots, Item, itemsOf, items, Group, groups, headers, variables, terms, layout, rows}
 use Rattle.semantics.specs.Call.{zeros, padded, firstShort}
 use Rattle.semantics.proofs.Basics.{cond-true, cond-false}
 use Rattle.semantics.proofs.Sorting.{All}
 use Rattle.semantics.proofs.Grouping.{headers-length, terms-length}
 use Rattle.records.specs.Access.{recordsOf}
+use Rattle.group.specs.declared.Tallied.{Tallied}
 use Rattle.group.specs.declared.Tallied.the-variants.{Headers, Full}
 use Rattle.grouping.specs.declared.Lengths.{Lengths}
 use Rattle.grouping.specs.declared.Grouped.{Grouped}
 use Rattle.grouping.specs.declared.Grouped.the-variants.{Written, Short}
 use Rattle.group.specs.Grouped.{Tally, tallyAll, total, tallied, Rows, Counted, select, countOf, placed, Room, column, sum, listOf, InPool, Rooted, varsNamed, termOf, widthOf, Placing, Places, varsIn, headersOf}
-use Rattle.grouping.specs.Families.{ToTally, ToPlaceRoots, Standing, Grouping, Measured, Front, Laid}
+use Rattle.grouping.specs.Families.{ToTally, ToPlaceRoots, Standing, Grouping, groupsOf, Measured, Front, Laid}
 use Rattle.group.proofs.Gathering.{gathered}
 use Rattle.group.proofs.Tallies.{counted, counted-gathered, gathered-whole, count-all}
-use Rattle.group.proofs.Labels.{Labels, groups-gathered, list-ascends}
+use Rattle.group.proofs.Labels.{Labels, constraint-labels, count-labels, field-labels, groups-gathered, list-ascends}
 use Rattle.group.proofs.Places.{placed-all, padded-is}
 use Rattle.group.proofs.Headers.{tallied-length}
 use Rattle.group.proofs.PoolLists.{stored-list, stored-in}
 use Rattle.group.proofs.Placements.{term-wide}
 use Rattle.grouping.proofs.Finished.{total-is, vars-total, family-small}
-use Rattle.grouping.proofs.RootItems.{nodesOf, items-named}
+use Rattle.grouping.proofs.RootItems.{nodesOf, items-named, constraints-few, counts-few, fields-few}
 
 -- Groups as tallies.
 headers-are : (v t : ℕ) (gs : List Group) → headersOf v t (map counted gs) ≡ headers v t gs
@@ -99,20 +101,45 @@ padded-starts words slice e =
     let l = ap length p ∙ length-append words (zeros (length slice - length words)) in
     (omega arith, ap (take (length words)) p ∙ take-append-seam words (zeros (length slice - length words)))
 
--- Counted rows of a family.
-pub record Rowed (n : ℕ) (H P : List ℕ) (roots : List Root) : Type 0 where
+-- A family of roots whose lists stand in the pool.
+pub record Family (ws P : List ℕ) (roots : List Root) : Type 0 where
+  pub grouping : Grouping ws P roots
+  pub labels : Labels roots
+  pub few : length roots ≤ 65536
+
+-- Before its names are counted: the headers are zeros.
+pub record Begun (ws P : List ℕ) (roots : List Root) (H names : List ℕ) : Type 0 where
+  pub family : Family ws P roots
+  pub size : ℕ
+  pub clear : H ≡ replicate size 0
+  pub names-are : names ≡ nodesOf roots
+
+-- Its rows are counted.
+pub record Rowed (ws P : List ℕ) (roots : List Root) (n : ℕ) (H : List ℕ) : Type 0 where
+  pub family : Family ws P roots
   pub rows-are : Rows n H P
   pub tallies-are : tallied n H P ≡ tallyAll (varsNamed P (nodesOf roots)) []
   pub total-small : total (tallied n H P) ≤ 16777216
   pub rows-few : n ≤ 16777216
 
-module _ (ws P : List ℕ) (roots : List Root) (labels : Labels roots) (g : Grouping ws P roots) (few : length roots ≤ 65536) where
+-- There is room for all.
+pub record Fits (ws P : List ℕ) (roots : List Root) (b : Bool) (n : ℕ) (H W T : List ℕ) (c : Lengths) : Type 0 where
+  pub rowed : Rowed ws P roots n H
+  pub measured : Measured n (widthOf b) (sum (column 2 n H)) (sum (column 3 n H)) (length W) (length T) (Written c)
+
+-- Headers and terms are ready for the terms of the roots, as the words name them.
+pub record Started (ws P : List ℕ) (roots : List Root) (b : Bool) (n : ℕ) (H W T : List ℕ) (c : Lengths) (H₁ T₁ : List ℕ) (named : List Root) : Type 0 where
+  pub fits : Fits ws P roots b n H W T c
+  pub placing : Placing b (tallied n H P) n H₁ P T₁ []
+  pub roots-are : named ≡ roots
+
+module _ {ws P : List ℕ} {roots : List Root} (f : Family ws P roots) where
   abbrev list : ℕ → List Monomial
   list = listAt prime (recordsOf ws)
 
   rooted : All (Rooted P) (nodesOf roots)
   unfolding nodesOf
-  rooted = go roots (g .lists)
+  rooted = go roots (f .grouping .lists)
     where
       go : (rs : List Root) → All (λ (r : Root). Standing list P (r .node)) rs → All (Rooted P) (map (λ (r : Root). r .node) rs)
       go [] h = tt
@@ -125,7 +152,7 @@ module _ (ws P : List ℕ) (roots : List Root) (labels : Labels roots) (g : Grou
       )
 
   in-pool : All (λ (r : Root). InPool P (r .node)) roots
-  in-pool = go roots (g .lists)
+  in-pool = go roots (f .grouping .lists)
     where
       go : (rs : List Root) → All (λ (r : Root). Standing list P (r .node)) rs → All (λ (r : Root). InPool P (r .node)) rs
       go [] h = tt
@@ -134,7 +161,7 @@ module _ (ws P : List ℕ) (roots : List Root) (labels : Labels roots) (g : Grou
   -- The lists in the pool are the finished ones.
   agree : items list roots ≡ items (listOf P) roots
   unfolding items flatMap
-  agree = go roots (g .lists)
+  agree = go roots (f .grouping .lists)
     where
       go : (rs : List Root) → All (λ (r : Root). Standing list P (r .node)) rs → items list rs ≡ items (listOf P) rs
       go [] h = refl
@@ -142,13 +169,13 @@ module _ (ws P : List ℕ) (roots : List Root) (labels : Labels roots) (g : Grou
 
   nodes-few : length (nodesOf roots) ≤ 65536
   unfolding nodesOf
-  nodes-few = let e = length-map roots (λ (r : Root). r .node) in omega arith
+  nodes-few = let e = length-map roots (λ (r : Root). r .node) in omega (arith, f .few)
 
   abbrev tallies : List Tally
   tallies = tallyAll (varsNamed P (nodesOf roots)) []
 
   groups-are : groups list roots ≡ gathered (items (listOf P) roots)
-  groups-are = groups-gathered list (list-ascends prime (recordsOf ws)) roots labels ∙ ap gathered agree
+  groups-are = groups-gathered list (list-ascends prime (recordsOf ws)) roots (f .labels) ∙ ap gathered agree
 
   counted-are : map counted (groups list roots) ≡ tallies
   counted-are =
@@ -162,127 +189,148 @@ module _ (ws P : List ℕ) (roots : List Root) (labels : Labels roots) (g : Grou
       let e = ap (λ (l : List (List ℕ)). countOf v (tallyAll l [])) (sym (items-named P roots)) ∙ count-all v (items (listOf P) roots) in
       omega arith
 
-  -- Counting starts with no rows.
-  pub fit-start : (H names : List ℕ) (k : ℕ) → H ≡ replicate k 0 → names ≡ nodesOf roots → ToTally 0 H P names
-  fit-start H names k e q =
-      let r = rows-none H P k e in
+-- Counting starts with no rows.
+module _ {ws P : List ℕ} {roots : List Root} {H names : List ℕ} (g : Begun ws P roots H names) where
+  pub fit-start : ToTally 0 H P names
+  fit-start =
+      let r = rows-none H P (g .size) (g .clear) in
       let t = ap total (r .1) ∙ total-none in
-      let l = ap length q in
-      let f = nodes-few in
-      record { rows-are = r .0; lists = subst (All (Rooted P)) (sym q) rooted; small = omega arith }
+      let l = ap length (g .names-are) in
+      let k = nodes-few (g .family) in
+      record { rows-are = r .0; lists = subst (All (Rooted P)) (sym (g .names-are)) (rooted (g .family)); small = omega arith }
 
-  module _ (H₁ names : List ℕ) (k : ℕ) (e : H₁ ≡ replicate k 0) (q : names ≡ nodesOf roots) where
-    counted-from : tallyAll (varsNamed P names) (tallied 0 H₁ P) ≡ tallies
-    counted-from = λ i. tallyAll (varsNamed P (q i)) (rows-none H₁ P k e .1 i)
+  counted-from : tallyAll (varsNamed P names) (tallied 0 H P) ≡ tallyAll (varsNamed P (nodesOf roots)) []
+  counted-from = λ i. tallyAll (varsNamed P (g .names-are i)) (rows-none H P (g .size) (g .clear) .1 i)
 
-    pub fit-full : (b : Bool) (H W T : List ℕ) → Counted H P (tallyAll (varsNamed P names) (tallied 0 H₁ P)) Full → Laid (termOf b) (groups list roots) H W T (Short 1)
-    fit-full b H W T h =
-        let s = headers-size in
+  module _ (H′ : List ℕ) (u : Tallied) (c : Counted H′ P (tallyAll (varsNamed P names) (tallied 0 H P)) u) where
+    pub fit-full : u ≡ Full → (b : Bool) (W T : List ℕ) → Laid (termOf b) (groupsOf ws roots) H′ W T (Short 1)
+    fit-full e b W T =
+        let d = subst (Counted H′ P (tallyAll (varsNamed P names) (tallied 0 H P))) e c in
+        let s = headers-size (g .family) in
         let l = ap length counted-from in
-        (short-one (termOf b) (groups list roots) (length H) (length W) (length T) (omega arith), λ z. absurd (omega arith))
+        (short-one (termOf b) (groupsOf ws roots) (length H′) (length W) (length T) (omega arith), λ z. absurd (omega arith))
 
-    pub fit-rows : (H : List ℕ) (n : ℕ) → Counted H P (tallyAll (varsNamed P names) (tallied 0 H₁ P)) (Headers n) → Rowed n H P roots
-    fit-rows H n h =
-        let t = h .1 ∙ counted-from in
-        let s = family-small n H P (nodesOf roots) t rooted nodes-few in
-        record { rows-are = h .0; tallies-are = t; total-small = s .0; rows-few = s .1 }
+    pub fit-rows : {n : ℕ} → u ≡ Headers n → Rowed ws P roots n H′
+    fit-rows {n} e =
+        let d = subst (Counted H′ P (tallyAll (varsNamed P names) (tallied 0 H P))) e c in
+        let t = d .1 ∙ counted-from in
+        let s = family-small n H′ P (nodesOf roots) t (rooted (g .family)) (nodes-few (g .family)) in
+        record { family = g .family; rows-are = d .0; tallies-are = t; total-small = s .0; rows-few = s .1 }
 
-  -- The rows are counted.
-  module _ (b : Bool) (n : ℕ) (H : List ℕ) (r : Rowed n H P roots) where
-    pub fit-room : (4 * n ≤ length H) × (n ≤ 16777216) × (sum (column 3 n H) ≤ 16777216)
-    fit-room =
-        let t = total-is n H P (r .rows-are) in
-        let s = r .total-small in
-        (r .rows-are .room, r .rows-few, omega arith)
+-- The rows are counted.
+module _ {ws P : List ℕ} {roots : List Root} {n : ℕ} {H : List ℕ} (r : Rowed ws P roots n H) where
+  pub fit-room : (4 * n ≤ length H) × (n ≤ 16777216) × (sum (column 3 n H) ≤ 16777216)
+  fit-room =
+      let t = total-is n H P (r .rows-are) in
+      let s = r .total-small in
+      (r .rows-are .room, r .rows-few, omega arith)
 
-    sizes : (length (headers 0 0 (groups list roots)) ≡ 4 * n) × (length (variables (groups list roots)) ≡ sum (column 2 n H))
-        × (length (terms (termOf b) (groups list roots)) ≡ widthOf b * sum (column 3 n H))
-    sizes =
-        let l = sym (tallied-length n H P) ∙ ap length (r .tallies-are) in
-        let h = headers-size in (
-          omega arith,
-          ap length (sym (vars-are (groups list roots)) ∙ ap varsIn (counted-are ∙ sym (r .tallies-are))) ∙ sym (vars-total n H P (r .rows-are)),
-          terms-count b (groups list roots) ∙ ap (λ (l : List Tally). widthOf b * total l) (counted-are ∙ sym (r .tallies-are))
-              ∙ ap (λ (k : ℕ). widthOf b * k) (sym (total-is n H P (r .rows-are))),
-        )
+  sizes : (b : Bool)
+      → (length (headers 0 0 (groupsOf ws roots)) ≡ 4 * n) × (length (variables (groupsOf ws roots)) ≡ sum (column 2 n H))
+      × (length (terms (termOf b) (groupsOf ws roots)) ≡ widthOf b * sum (column 3 n H))
+  sizes b =
+      let l = sym (tallied-length n H P) ∙ ap length (r .tallies-are) in
+      let h = headers-size (r .family) in
+      let k = counted-are (r .family) ∙ sym (r .tallies-are) in (
+        omega arith,
+        ap length (sym (vars-are (groupsOf ws roots)) ∙ ap varsIn k) ∙ sym (vars-total n H P (r .rows-are)),
+        terms-count b (groupsOf ws roots) ∙ ap (λ (l : List Tally). widthOf b * total l) k
+            ∙ ap (λ (k : ℕ). widthOf b * k) (sym (total-is n H P (r .rows-are))),
+      )
+
+  module _ (b : Bool) (W T : List ℕ) (u : Grouped) (m : Measured n (widthOf b) (sum (column 2 n H)) (sum (column 3 n H)) (length W) (length T) u) where
+    pub fit-fits : {c : Lengths} → u ≡ Written c → Fits ws P roots b n H W T c
+    fit-fits e = record {
+      rowed = r;
+      measured = subst (Measured n (widthOf b) (sum (column 2 n H)) (sum (column 3 n H)) (length W) (length T)) e m;
+    }
 
     -- Variables or terms have no room.
-    pub fit-short : (W T : List ℕ) (u : Grouped) → Measured n (widthOf b) (sum (column 2 n H)) (sum (column 3 n H)) (length W) (length T) u
-        → (k : ℕ) → u ≡ Short k → Laid (termOf b) (groups list roots) H W T u
-    fit-short W T u m k e =
-        subst (Laid (termOf b) (groups list roots) H W T) (sym e)
+    pub fit-short : {k : ℕ} → u ≡ Short k → Laid (termOf b) (groupsOf ws roots) H W T u
+    fit-short {k} e =
+        subst (Laid (termOf b) (groupsOf ws roots) H W T) (sym e)
         (go (subst (Measured n (widthOf b) (sum (column 2 n H)) (sum (column 3 n H)) (length W) (length T)) e m))
       where
         go : ((k ≡ 2) × (length W < sum (column 2 n H))) ⊎ ((k ≡ 3) × (sum (column 2 n H) ≤ length W) × (length T < widthOf b * sum (column 3 n H)))
-            → Laid (termOf b) (groups list roots) H W T (Short k)
+            → Laid (termOf b) (groupsOf ws roots) H W T (Short k)
         go (inl h) =
-            let s = sizes in
+            let s = sizes b in
             let o = r .rows-are .room in (
-              short-two (termOf b) (groups list roots) (length H) (length W) (length T) (omega (arith, s .0)) (omega (arith, s .1, h .1)) ∙ sym (h .0),
+              short-two (termOf b) (groupsOf ws roots) (length H) (length W) (length T) (omega (arith, s .0)) (omega (arith, s .1, h .1)) ∙ sym (h .0),
               λ z. absurd (omega (arith, h .0)),
             )
         go (inr h) =
-            let s = sizes in
+            let s = sizes b in
             let o = r .rows-are .room in (
-              short-three (termOf b) (groups list roots) (length H) (length W) (length T) (omega (arith, s .0)) (omega (arith, s .1, h .1)) (omega (arith, s .2, h .2))
+              short-three (termOf b) (groupsOf ws roots) (length H) (length W) (length T) (omega (arith, s .0)) (omega (arith, s .1, h .1)) (omega (arith, s .2, h .2))
                   ∙ sym (h .0),
               λ z. absurd (omega (arith, h .0)),
             )
 
-    module _ (W T : List ℕ) (u : Grouped) (m : Measured n (widthOf b) (sum (column 2 n H)) (sum (column 3 n H)) (length W) (length T) u)
-        (c : Lengths) (e : u ≡ Written c) where
-      there : Measured n (widthOf b) (sum (column 2 n H)) (sum (column 3 n H)) (length W) (length T) (Written c)
-      there = subst (Measured n (widthOf b) (sum (column 2 n H)) (sum (column 3 n H)) (length W) (length T)) e m
+pub fit-terms : {ws P : List ℕ} {roots : List Root} {b : Bool} {n : ℕ} {H W T : List ℕ} {c : Lengths} → Fits ws P roots b n H W T c
+    → widthOf b * total (tallied n H P) ≤ length T
+fit-terms {ws} {P} {roots} {b} {n} {H} {W} {T} g = subst (λ (k : ℕ). widthOf b * k ≤ length T) (total-is n H P (g .rowed .rows-are)) (g .measured .4)
 
-      pub fit-terms : widthOf b * total (tallied n H P) ≤ length T
-      fit-terms = subst (λ (k : ℕ). widthOf b * k ≤ length T) (total-is n H P (r .rows-are)) (there .4)
+-- The terms are placed.
+module _ {ws P : List ℕ} {roots : List Root} {b : Bool} {n : ℕ} {H W T : List ℕ} {c : Lengths} {H₁ T₁ : List ℕ} {named : List Root}
+    (g : Started ws P roots b n H W T c H₁ T₁ named) where
+  abbrev r : Rowed ws P roots n H
+  r = g .fits .rowed
 
-      -- The terms are placed.
-      module _ (H₁ T₁ : List ℕ) (p : Placing b (tallied n H P) n H₁ P T₁ []) (roots′ : List Root) (q : roots′ ≡ roots) where
-        room-now : Room (tallied n H P) (items (listOf P) roots′)
-        room-now = λ v. subst (λ (l : List Tally). length (select v (items (listOf P) roots′)) ≤ countOf v l) (sym (r .tallies-are))
-            (subst (λ (l : List Root). length (select v (items (listOf P) l)) ≤ countOf v tallies) (sym q) (room-is v))
+  room-now : Room (tallied n H P) (items (listOf P) named)
+  room-now = λ v. subst (λ (l : List Tally). length (select v (items (listOf P) named)) ≤ countOf v l) (sym (r .tallies-are))
+      (subst (λ (l : List Root). length (select v (items (listOf P) l)) ≤ countOf v (tallyAll (varsNamed P (nodesOf roots)) [])) (sym (g .roots-are)) (room-is (r .family) v))
 
-        pub fit-place : ToPlaceRoots b n H₁ P T₁ roots′
-        fit-place = record {
-          to-place = record { gs = tallied n H P; done = []; placing = p; room = room-now };
-          lists = subst (All (λ (x : Root). InPool P (x .node))) (sym q) in-pool;
-        }
+  pub fit-place : ToPlaceRoots b n H₁ P T₁ named
+  fit-place = record {
+    to-place = record { gs = tallied n H P; done = []; placing = g .placing; room = room-now };
+    lists = subst (All (λ (x : Root). InPool P (x .node))) (sym (g .roots-are)) (in-pool (r .family));
+  }
 
-        module _ (H₂ T₂ : List ℕ) (f : Places b n P H₁ T₁ H₂ T₂ (items (listOf P) roots′)) where
-          placed-now : Placing b (tallied n H P) n H₂ P T₂ (items (listOf P) roots′)
-          placed-now = f (tallied n H P) [] p room-now
+  module _ (H₂ T₂ : List ℕ) (p : Places b n P H₁ T₁ H₂ T₂ (items (listOf P) named)) where
+    placed-now : Placing b (tallied n H P) n H₂ P T₂ (items (listOf P) named)
+    placed-now = p (tallied n H P) [] (g .placing) room-now
 
-          pub fit-finish : Rows n H₂ P × (n ≤ 16777216) × (total (tallied n H₂ P) ≤ 16777216) × (length (varsIn (tallied n H₂ P)) ≤ length W)
-          fit-finish =
-              let t = placed-now .tallies-are in
-              let a = ap total t in
-              let d = ap (λ (l : List Tally). length (varsIn l)) t in
-              let v = vars-total n H P (r .rows-are) in
-              let s = r .total-small in
-              (placed-now .rows-are, r .rows-few, omega arith, omega (arith, there .3))
+    pub fit-finish : Rows n H₂ P × (n ≤ 16777216) × (total (tallied n H₂ P) ≤ 16777216) × (length (varsIn (tallied n H₂ P)) ≤ length W)
+    fit-finish =
+        let t = placed-now .tallies-are in
+        let a = ap total t in
+        let d = ap (λ (l : List Tally). length (varsIn l)) t in
+        let v = vars-total n H P (r .rows-are) in
+        let s = r .total-small in
+        (placed-now .rows-are, r .rows-few, omega arith, omega (arith, g .fits .measured .3))
 
-          -- All is written.
-          pub fit-written : (H₃ W₃ : List ℕ) → length H₃ ≡ length H → length W₃ ≡ length W → length T₂ ≡ length T
-              → Front (headersOf 0 0 (tallied n H₂ P)) H₃ → Front (varsIn (tallied n H₂ P)) W₃ → Laid (termOf b) (groups list roots) H₃ W₃ T₂ (Written c)
-          fit-written H₃ W₃ lh lv lt x y =
-              let s = sizes in
-              let o = r .rows-are .room in
-              let t : tallied n H₂ P ≡ map counted (groups list roots) = placed-now .tallies-are ∙ r .tallies-are ∙ sym counted-are in
-              let hs = ap (headersOf 0 0) t ∙ headers-are 0 0 (groups list roots) in
-              let vw = ap varsIn t ∙ vars-are (groups list roots) in
-              let its : items (listOf P) roots′ ≡ items (listOf P) roots = ap (items (listOf P)) q in
-              let ts : placed (termOf b) (widthOf b) (tallied n H P) (items (listOf P) roots′) ≡ terms (termOf b) (groups list roots) =
-              (λ i. placed (termOf b) (widthOf b) ((r .tallies-are ∙ sym counted-are ∙ ap (map counted) groups-are) i) (its i))
-              ∙ placed-all (termOf b) (widthOf b) (term-wide b) (gathered (items (listOf P) roots)) (items (listOf P) roots) (gathered-whole (items (listOf P) roots))
-              ∙ ap (terms (termOf b)) (sym groups-are) in
-              let h = there in (
-                short-none (termOf b) (groups list roots) (length H₃) (length W₃) (length T₂)
-                    (omega (arith, s .0)) (omega (arith, s .1, h .3)) (omega (arith, s .2, h .4)),
-                subst (λ (w : List ℕ). Front w H₃) hs x,
-                subst (λ (w : List ℕ). Front w W₃) vw y,
-                subst (λ (w : List ℕ). Front w T₂) ts (padded-starts (placed (termOf b) (widthOf b) (tallied n H P) (items (listOf P) roots′)) T₂ (placed-now .terms-are)),
-                h .0 ∙ sym (s .0),
-                h .1 ∙ sym (s .1),
-                h .2 ∙ sym (s .2),
-              )
+    -- All is written.
+    pub fit-written : (H₃ W₃ : List ℕ) → length H₃ ≡ length H → length W₃ ≡ length W → length T₂ ≡ length T
+        → Front (headersOf 0 0 (tallied n H₂ P)) H₃ → Front (varsIn (tallied n H₂ P)) W₃ → Laid (termOf b) (groupsOf ws roots) H₃ W₃ T₂ (Written c)
+    fit-written H₃ W₃ lh lv lt x y =
+        let s = sizes r b in
+        let o = r .rows-are .room in
+        let h = g .fits .measured in
+        let gs : List Group = groupsOf ws roots in
+        let t : tallied n H₂ P ≡ map counted gs = placed-now .tallies-are ∙ r .tallies-are ∙ sym (counted-are (r .family)) in
+        let hs = ap (headersOf 0 0) t ∙ headers-are 0 0 gs in
+        let vw = ap varsIn t ∙ vars-are gs in
+        let its : items (listOf P) named ≡ items (listOf P) roots = ap (items (listOf P)) (g .roots-are) in
+        let ts : placed (termOf b) (widthOf b) (tallied n H P) (items (listOf P) named) ≡ terms (termOf b) gs =
+        (λ i. placed (termOf b) (widthOf b) ((r .tallies-are ∙ sym (counted-are (r .family)) ∙ ap (map counted) (groups-are (r .family))) i) (its i))
+        ∙ placed-all (termOf b) (widthOf b) (term-wide b) (gathered (items (listOf P) roots)) (items (listOf P) roots) (gathered-whole (items (listOf P) roots))
+        ∙ ap (terms (termOf b)) (sym (groups-are (r .family))) in (
+          short-none (termOf b) gs (length H₃) (length W₃) (length T₂) (omega (arith, s .0)) (omega (arith, s .1, h .3)) (omega (arith, s .2, h .4)),
+          subst (λ (w : List ℕ). Front w H₃) hs x,
+          subst (λ (w : List ℕ). Front w W₃) vw y,
+          subst (λ (w : List ℕ). Front w T₂) ts (padded-starts (placed (termOf b) (widthOf b) (tallied n H P) (items (listOf P) named)) T₂ (placed-now .terms-are)),
+          h .0 ∙ sym (s .0),
+          h .1 ∙ sym (s .1),
+          h .2 ∙ sym (s .2),
+        )
+
+-- The three families of a checked sheet.
+pub constraint-family : {ws P : List ℕ} → Grouping ws P (constraintRoots (readSheet ws)) → Family ws P (constraintRoots (readSheet ws))
+constraint-family {ws} g = record { grouping = g; labels = constraint-labels (readSheet ws); few = constraints-few ws (g .checked) }
+
+pub count-family : {ws P : List ℕ} → Grouping ws P (countRoots (readSheet ws)) → Family ws P (countRoots (readSheet ws))
+count-family {ws} g = record { grouping = g; labels = count-labels (readSheet ws); few = counts-few ws (g .checked) }
+
+pub field-family : {ws P : List ℕ} → Grouping ws P (fieldRoots (readSheet ws)) → Family ws P (fieldRoots (readSheet ws))
+field-family {ws} g = record { grouping = g; labels = field-labels (readSheet ws); few = fields-few ws (g .checked) }

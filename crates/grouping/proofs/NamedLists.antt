@@ -6,10 +6,13 @@ use native.Mathlib.Omega.{arith}
 use lib.ListN.{length, getD, take, drop, length-append}
 use lib.Seq.{drop-cons}
 use Rattle.semantics.proofs.Sorting.{All}
-use Rattle.records.specs.Access.{recordsOf, part, messageLength, eachWords, RootsInside, AllRootsInside}
+use Rattle.records.specs.declared.Interaction.{Interaction}
+use Rattle.records.specs.Access.{recordsOf, part, messageLength, eachWords, countAt, fieldsAt, NamesInside, RootsInside, AllRootsInside}
+use Rattle.records.proofs.Rooting.{count-inside, message-inside}
+use Rattle.group.specs.declared.Tallied.{Tallied}
 use Rattle.group.specs.declared.Tallied.the-variants.{Headers, Full}
 use Rattle.group.specs.Grouped.{tallyAll, total, tallied, Rows, Counted, nonZero, listOf, InPool, Rooted, varsNamed}
-use Rattle.grouping.specs.Families.{ToTally}
+use Rattle.grouping.specs.Families.{ToTally, interactionIn}
 use Rattle.group.proofs.Tallies.{tallyAll-append, tallyAll-grows, total-all}
 use Rattle.group.proofs.PoolLists.{nonZero-length}
 
@@ -37,11 +40,37 @@ part-first ws at count =
     let b : count - 0 ≡ count = omega arith in
     λ i. part (a i) (b i) ws
 
+pub part-one : (ws : List ℕ) (at : ℕ) → at < length ws → part at 1 ws ≡ getD ws at 0 ∷ []
+part-one ws at h = ap (take 1) (drop-cons ws at 0 h)
+
 pub part-end : (ws : List ℕ) (at count j : ℕ) → count ≤ j → part (at + j) (count - j) ws ≡ []
 part-end ws at count j h = let z : count - j ≡ 0 = omega arith in ap (λ (n : ℕ). take n (drop (at + j) ws)) z
 
--- The next interaction, and the end.
-pub each-next : (one : ℕ → List ℕ) (ws : List ℕ) (from count i from′ : ℕ) → i < count → from′ ≡ from + (4 + messageLength ws from)
+-- The interactions that a loop has not passed yet: those from `from` on.
+pub record Rest (ws : List ℕ) (count from i : ℕ) : Type 0 where
+  pub upto : i ≤ count
+  pub inside : AllRootsInside (length (recordsOf ws)) ws from (count - i)
+
+pub rest-start : {ws : List ℕ} {at count : ℕ} → AllRootsInside (length (recordsOf ws)) ws at count → Rest ws count at 0
+rest-start {ws} {at} {count} h =
+    let b : count - 0 ≡ count = omega arith in
+    record { upto = omega arith; inside = subst (AllRootsInside (length (recordsOf ws)) ws at) (sym b) h }
+
+module _ {ws : List ℕ} {count from i : ℕ} (g : Rest ws count from i) (h : i < count) where
+  now : AllRootsInside (length (recordsOf ws)) ws from (suc (count - (i + 1)))
+  now = let k : count - i ≡ suc (count - (i + 1)) = omega arith in subst (AllRootsInside (length (recordsOf ws)) ws from) k (g .inside)
+
+  pub rest-next : RootsInside (length (recordsOf ws)) ws from
+  rest-next = now .0
+
+  pub rest-more : {from′ : ℕ} → from′ ≡ interactionIn ws from .next → Rest ws count from′ (i + 1)
+  rest-more e = record {
+    upto = omega arith;
+    inside = subst (λ (a : ℕ). AllRootsInside (length (recordsOf ws)) ws a (count - (i + 1))) (sym e) (now .1);
+  }
+
+-- The names of the next interaction, and the end.
+pub each-next : (one : ℕ → List ℕ) (ws : List ℕ) (from count i from′ : ℕ) → i < count → from′ ≡ interactionIn ws from .next
     → eachWords one ws from (count - i) ≡ one from ++ eachWords one ws from′ (count - (i + 1))
 unfolding eachWords
 each-next one ws from count i from′ h e =
@@ -54,6 +83,25 @@ each-first one ws at count = let b : count - 0 ≡ count = omega arith in ap (ea
 pub each-end : (one : ℕ → List ℕ) (ws : List ℕ) (from count i : ℕ) → count ≤ i → eachWords one ws from (count - i) ≡ []
 unfolding eachWords
 each-end one ws from count i h = let z : count - i ≡ 0 = omega arith in ap (eachWords one ws from) z
+
+-- What is taken of an interaction: so many words of it from a place on, which name records.
+pub record Taken (one : ℕ → List ℕ) (ws : List ℕ) (place size : Interaction → ℕ) : Type 0 where
+  pub words : (at : ℕ) → let x = interactionIn ws at in one at ≡ part (place x) (size x) ws
+  pub inside : (at : ℕ) → RootsInside (length (recordsOf ws)) ws at → let x = interactionIn ws at in NamesInside ws (place x) (size x)
+
+-- The count, and the fields.
+pub count-taken : (ws : List ℕ) → Taken (countAt ws) ws (λ (x : Interaction). x .count) (λ (x : Interaction). 1)
+count-taken ws = record { words = λ at. refl; inside = λ at h. count-inside ws at h }
+
+pub fields-taken : (ws : List ℕ) → Taken (fieldsAt ws) ws (λ (x : Interaction). x .fields) (λ (x : Interaction). x .message)
+fields-taken ws = record { words = λ at. refl; inside = λ at h. message-inside ws at h (messageLength ws at) refl }
+
+module _ {one : ℕ → List ℕ} {ws : List ℕ} {place size : Interaction → ℕ} (t : Taken one ws place size) {from : ℕ} {x : Interaction} (e : x ≡ interactionIn ws from) where
+  pub taken-words : part (place x) (size x) ws ≡ one from
+  taken-words = ap (λ (y : Interaction). part (place y) (size y) ws) e ∙ sym (t .words from)
+
+  pub taken-inside : RootsInside (length (recordsOf ws)) ws from → place x + size x ≤ length ws
+  taken-inside h = subst (λ (y : Interaction). place y + size y ≤ length ws) (sym e) (t .inside from h .inside)
 
 module _ (P : List ℕ) where
   pub vars-append : (xs ys : List ℕ) → varsNamed P (xs ++ ys) ≡ varsNamed P xs ++ varsNamed P ys
@@ -83,10 +131,10 @@ pub record NamesLeft (H₀ : List ℕ) (n : ℕ) (P names H : List ℕ) (rows : 
   pub long : length H ≡ length H₀
   pub same : tallyAll (varsNamed P left) (tallied rows H P) ≡ tallyAll (varsNamed P names) (tallied n H₀ P)
 
-pub names-start : (H : List ℕ) (n : ℕ) (P names left : List ℕ) → ToTally n H P names → left ≡ names → NamesLeft H n P names H n left
-names-start H n P names left t e = subst (NamesLeft H n P names H n) (sym e) (record { ready = t; long = refl; same = refl })
+pub names-start : {H : List ℕ} {n : ℕ} {P names left : List ℕ} → ToTally n H P names → left ≡ names → NamesLeft H n P names H n left
+names-start {H} {n} {P} {names} t e = subst (NamesLeft H n P names H n) (sym e) (record { ready = t; long = refl; same = refl })
 
-module _ (H₀ : List ℕ) (n : ℕ) (P names H : List ℕ) (rows : ℕ) (left : List ℕ) (g : NamesLeft H₀ n P names H rows left) where
+module _ {H₀ : List ℕ} {n : ℕ} {P names H : List ℕ} {rows : ℕ} {left : List ℕ} (g : NamesLeft H₀ n P names H rows left) where
   pub names-done : left ≡ [] → Counted H P (tallyAll (varsNamed P names) (tallied n H₀ P)) (Headers rows)
   unfolding varsNamed flatMap tallyAll
   names-done e = (g .ready .rows-are, sym (ap (λ (l : List ℕ). tallyAll (varsNamed P l) (tallied rows H P)) e) ∙ g .same)
@@ -107,114 +155,94 @@ module _ (H₀ : List ℕ) (n : ℕ) (P names H : List ℕ) (rows : ℕ) (left :
         ∙ ap (λ (l : List (List ℕ)). tallyAll l (tallied rows H P)) (sym (vars-append P xs ys) ∙ ap (varsNamed P) (sym e))
         ∙ g .same
 
-    pub names-more : (H′ : List ℕ) (k : ℕ) → length H′ ≡ length H → Counted H′ P (tallyAll (varsNamed P xs) (tallied rows H P)) (Headers k)
-        → NamesLeft H₀ n P names H′ k ys
-    names-more H′ k z c =
-        let s = g .ready .small in
-        let l = ap length e ∙ length-append xs ys in
-        let t = ap total (c .1) ∙ total-all (varsNamed P xs) (tallied rows H P) in
-        let v = vars-length P xs (all-front (Rooted P) xs ys lists-are) in
-        record {
-          ready = record { rows-are = c .0; lists = all-back (Rooted P) xs ys lists-are; small = omega arith };
-          long = z ∙ g .long;
-          same = ap (tallyAll (varsNamed P ys)) (c .1) ∙ both;
-        }
+    -- What counting the next names answers.
+    module _ (H′ : List ℕ) (u : Tallied) (c : Counted H′ P (tallyAll (varsNamed P xs) (tallied rows H P)) u) where
+      pub names-more : length H′ ≡ length H → {k : ℕ} → u ≡ Headers k → NamesLeft H₀ n P names H′ k ys
+      names-more z q =
+          let d = subst (Counted H′ P (tallyAll (varsNamed P xs) (tallied rows H P))) q c in
+          let s = g .ready .small in
+          let l = ap length e ∙ length-append xs ys in
+          let t = ap total (d .1) ∙ total-all (varsNamed P xs) (tallied rows H P) in
+          let v = vars-length P xs (all-front (Rooted P) xs ys lists-are) in
+          record {
+            ready = record { rows-are = d .0; lists = all-back (Rooted P) xs ys lists-are; small = omega arith };
+            long = z ∙ g .long;
+            same = ap (tallyAll (varsNamed P ys)) (d .1) ∙ both;
+          }
 
-    -- However much more comes, the slice stays too short.
-    pub names-full : (H′ : List ℕ) → Counted H′ P (tallyAll (varsNamed P xs) (tallied rows H P)) Full
-        → Counted H′ P (tallyAll (varsNamed P names) (tallied n H₀ P)) Full
-    names-full H′ c =
-        let w = tallyAll-grows (varsNamed P ys) (tallyAll (varsNamed P xs) (tallied rows H P)) in
-        let q = ap length both in
-        omega arith
+      -- However much more comes, the slice stays too short.
+      pub names-full : u ≡ Full → Counted H′ P (tallyAll (varsNamed P names) (tallied n H₀ P)) Full
+      names-full q =
+          let d = subst (Counted H′ P (tallyAll (varsNamed P xs) (tallied rows H P))) q c in
+          let w = tallyAll-grows (varsNamed P ys) (tallyAll (varsNamed P xs) (tallied rows H P)) in
+          let b = ap length both in
+          omega arith
 
 -- The words from `at` on name the records; j of them are passed.
 pub record NamesAt (ws : List ℕ) (at count : ℕ) (H₀ : List ℕ) (n : ℕ) (P H : List ℕ) (rows j : ℕ) : Type 0 where
   pub upto : j ≤ count
   pub left : NamesLeft H₀ n P (part at count ws) H rows (part (at + j) (count - j) ws)
 
-module _ (ws : List ℕ) (at count : ℕ) (H₀ : List ℕ) (n : ℕ) (P : List ℕ) where
-  pub at-start : ToTally n H₀ P (part at count ws) → NamesAt ws at count H₀ n P H₀ n 0
-  at-start t = record { upto = omega arith; left = names-start H₀ n P (part at count ws) _ t (part-first ws at count) }
+pub at-start : {ws : List ℕ} {at count : ℕ} {H : List ℕ} {n : ℕ} {P : List ℕ} → ToTally n H P (part at count ws) → NamesAt ws at count H n P H n 0
+at-start {ws} {at} {count} t = record { upto = omega arith; left = names-start t (part-first ws at count) }
 
-  module _ (H : List ℕ) (rows j : ℕ) (g : NamesAt ws at count H₀ n P H rows j) where
-    pub at-done : count ≤ j → Counted H P (tallyAll (varsNamed P (part at count ws)) (tallied n H₀ P)) (Headers rows)
-    at-done h = names-done H₀ n P (part at count ws) H rows _ (g .left) (part-end ws at count j h)
+module _ {ws : List ℕ} {at count : ℕ} {H₀ : List ℕ} {n : ℕ} {P H : List ℕ} {rows j : ℕ} (g : NamesAt ws at count H₀ n P H rows j) where
+  pub at-done : count ≤ j → Counted H P (tallyAll (varsNamed P (part at count ws)) (tallied n H₀ P)) (Headers rows)
+  at-done h = names-done (g .left) (part-end ws at count j h)
 
-    module _ (h : j < count) (l : at + count ≤ length ws) (r : ℕ) (e : r ≡ getD ws (at + j) 0) where
-      abbrev rest : List ℕ
-      rest = part (at + (j + 1)) (count - (j + 1)) ws
+  module _ (h : j < count) (l : at + count ≤ length ws) {r : ℕ} (e : r ≡ getD ws (at + j) 0) where
+    abbrev rest : List ℕ
+    rest = part (at + (j + 1)) (count - (j + 1)) ws
 
-      next-is : part (at + j) (count - j) ws ≡ (r ∷ []) ++ rest
-      next-is = part-next ws at count j h l ∙ ap (λ (x : ℕ). x ∷ rest) (sym e)
+    next-is : part (at + j) (count - j) ws ≡ (r ∷ []) ++ rest
+    next-is = part-next ws at count j h l ∙ ap (λ (x : ℕ). x ∷ rest) (sym e)
 
-      pub at-ready : Rows rows H P × InPool P r × (total (tallied rows H P) + length (listOf P r) ≤ 4294967295)
-      at-ready =
-          let t = names-next H₀ n P (part at count ws) H rows _ (g .left) (r ∷ []) rest next-is in
-          let s = t .small in
-          let f = t .lists .0 .few in
-          (t .rows-are, t .lists .0 .inPool, omega arith)
+    pub at-ready : Rows rows H P × InPool P r × (total (tallied rows H P) + length (listOf P r) ≤ 4294967295)
+    at-ready =
+        let t = names-next (g .left) (r ∷ []) rest next-is in
+        let s = t .small in
+        let f = t .lists .0 .few in
+        (t .rows-are, t .lists .0 .inPool, omega arith)
 
-      pub at-more : (H′ : List ℕ) (k : ℕ) → length H′ ≡ length H → Counted H′ P (tallyAll (nonZero (listOf P r)) (tallied rows H P)) (Headers k)
-          → NamesAt ws at count H₀ n P H′ k (j + 1)
-      at-more H′ k z c = record {
-        upto = omega arith;
-        left = names-more H₀ n P (part at count ws) H rows _ (g .left) (r ∷ []) rest next-is H′ k z
-            (subst (λ (v : List (List ℕ)). Counted H′ P (tallyAll v (tallied rows H P)) (Headers k)) (sym (vars-one P r)) c);
-      }
+    module _ (H′ : List ℕ) (u : Tallied) (c : Counted H′ P (tallyAll (nonZero (listOf P r)) (tallied rows H P)) u) where
+      named : Counted H′ P (tallyAll (varsNamed P (r ∷ [])) (tallied rows H P)) u
+      named = subst (λ (v : List (List ℕ)). Counted H′ P (tallyAll v (tallied rows H P)) u) (sym (vars-one P r)) c
 
-      pub at-full : (H′ : List ℕ) → Counted H′ P (tallyAll (nonZero (listOf P r)) (tallied rows H P)) Full
-          → Counted H′ P (tallyAll (varsNamed P (part at count ws)) (tallied n H₀ P)) Full
-      at-full H′ c =
-          names-full H₀ n P (part at count ws) H rows _ (g .left) (r ∷ []) rest next-is H′
-          (subst (λ (v : List (List ℕ)). Counted H′ P (tallyAll v (tallied rows H P)) Full) (sym (vars-one P r)) c)
+      pub at-more : length H′ ≡ length H → {k : ℕ} → u ≡ Headers k → NamesAt ws at count H₀ n P H′ k (j + 1)
+      at-more z q = record { upto = omega arith; left = names-more (g .left) (r ∷ []) rest next-is H′ u named z q }
+
+      pub at-full : u ≡ Full → Counted H′ P (tallyAll (varsNamed P (part at count ws)) (tallied n H₀ P)) Full
+      at-full q = names-full (g .left) (r ∷ []) rest next-is H′ u named q
 
 -- The same for interactions: `one` is what is taken of each, and i of them are passed.
 pub record EachAt (one : ℕ → List ℕ) (ws : List ℕ) (at count : ℕ) (H₀ : List ℕ) (n : ℕ) (P H : List ℕ) (rows from i : ℕ) : Type 0 where
-  pub upto : i ≤ count
-  pub inside : AllRootsInside (length (recordsOf ws)) ws from (count - i)
+  pub rest : Rest ws count from i
   pub left : NamesLeft H₀ n P (eachWords one ws at count) H rows (eachWords one ws from (count - i))
 
-module _ (one : ℕ → List ℕ) (ws : List ℕ) (at count : ℕ) (H₀ : List ℕ) (n : ℕ) (P : List ℕ) where
-  pub each-start : AllRootsInside (length (recordsOf ws)) ws at count → ToTally n H₀ P (eachWords one ws at count) → EachAt one ws at count H₀ n P H₀ n at 0
-  each-start h t =
-      let b : count - 0 ≡ count = omega arith in
-      record {
-        upto = omega arith;
-        inside = subst (AllRootsInside (length (recordsOf ws)) ws at) (sym b) h;
-        left = names-start H₀ n P (eachWords one ws at count) _ t (each-first one ws at count);
+pub each-start : {one : ℕ → List ℕ} {ws : List ℕ} {at count : ℕ} {H : List ℕ} {n : ℕ} {P : List ℕ}
+    → AllRootsInside (length (recordsOf ws)) ws at count → ToTally n H P (eachWords one ws at count) → EachAt one ws at count H n P H n at 0
+each-start {one} {ws} {at} {count} h t = record { rest = rest-start h; left = names-start t (each-first one ws at count) }
+
+module _ {one : ℕ → List ℕ} {ws : List ℕ} {at count : ℕ} {H₀ : List ℕ} {n : ℕ} {P H : List ℕ} {rows from i : ℕ} (g : EachAt one ws at count H₀ n P H rows from i) where
+  pub each-done : count ≤ i → Counted H P (tallyAll (varsNamed P (eachWords one ws at count)) (tallied n H₀ P)) (Headers rows)
+  each-done h = names-done (g .left) (each-end one ws from count i h)
+
+  module _ (h : i < count) {place size : Interaction → ℕ} (t : Taken one ws place size) {x : Interaction} (e : x ≡ interactionIn ws from) where
+    abbrev behind : List ℕ
+    behind = eachWords one ws (x .next) (count - (i + 1))
+
+    next-each : eachWords one ws from (count - i) ≡ part (place x) (size x) ws ++ behind
+    next-each = each-next one ws from count i (x .next) h (ap (λ (y : Interaction). y .next) e) ∙ ap (λ (l : List ℕ). l ++ behind) (sym (taken-words t e))
+
+    pub each-ready : (place x + size x ≤ length ws) × ToTally rows H P (part (place x) (size x) ws)
+    each-ready = (taken-inside t e (rest-next (g .rest) h), names-next (g .left) (part (place x) (size x) ws) behind next-each)
+
+    module _ (H′ : List ℕ) (u : Tallied) (c : Counted H′ P (tallyAll (varsNamed P (part (place x) (size x) ws)) (tallied rows H P)) u) where
+      pub each-more : length H′ ≡ length H → {k : ℕ} → u ≡ Headers k → EachAt one ws at count H₀ n P H′ k (x .next) (i + 1)
+      each-more z q = record {
+        rest = rest-more (g .rest) h (ap (λ (y : Interaction). y .next) e);
+        left = names-more (g .left) (part (place x) (size x) ws) behind next-each H′ u c z q;
       }
 
-  module _ (H : List ℕ) (rows from i : ℕ) (g : EachAt one ws at count H₀ n P H rows from i) where
-    pub each-done : count ≤ i → Counted H P (tallyAll (varsNamed P (eachWords one ws at count)) (tallied n H₀ P)) (Headers rows)
-    each-done h = names-done H₀ n P (eachWords one ws at count) H rows _ (g .left) (each-end one ws from count i h)
-
-    module _ (h : i < count) where
-      inside-now : AllRootsInside (length (recordsOf ws)) ws from (suc (count - (i + 1)))
-      inside-now = let k : count - i ≡ suc (count - (i + 1)) = omega arith in subst (AllRootsInside (length (recordsOf ws)) ws from) k (g .inside)
-
-      pub each-inside : RootsInside (length (recordsOf ws)) ws from
-      each-inside = inside-now .0
-
-      abbrev rest-from : ℕ → List ℕ
-      rest-from a = eachWords one ws a (count - (i + 1))
-
-      pub each-ready : ToTally rows H P (one from)
-      each-ready =
-          names-next H₀ n P (eachWords one ws at count) H rows _ (g .left) (one from) (rest-from (from + (4 + messageLength ws from)))
-          (each-next one ws from count i _ h refl)
-
-      pub each-more : (H′ : List ℕ) (k from′ : ℕ) → length H′ ≡ length H → from′ ≡ from + (4 + messageLength ws from)
-          → Counted H′ P (tallyAll (varsNamed P (one from)) (tallied rows H P)) (Headers k) → EachAt one ws at count H₀ n P H′ k from′ (i + 1)
-      each-more H′ k from′ z e c = record {
-        upto = omega arith;
-        inside = subst (λ (a : ℕ). AllRootsInside (length (recordsOf ws)) ws a (count - (i + 1))) (sym e) (inside-now .1);
-        left = names-more H₀ n P (eachWords one ws at count) H rows _ (g .left) (one from) (rest-from from′)
-            (each-next one ws from count i from′ h e) H′ k z c;
-      }
-
-      pub each-full : (H′ : List ℕ) → Counted H′ P (tallyAll (varsNamed P (one from)) (tallied rows H P)) Full
-          → Counted H′ P (tallyAll (varsNamed P (eachWords one ws at count)) (tallied n H₀ P)) Full
-      each-full H′ c =
-          names-full H₀ n P (eachWords one ws at count) H rows _ (g .left) (one from) (rest-from (from + (4 + messageLength ws from)))
-          (each-next one ws from count i _ h refl) H′ c
+      pub each-full : u ≡ Full → Counted H′ P (tallyAll (varsNamed P (eachWords one ws at count)) (tallied n H₀ P)) Full
+      each-full q = names-full (g .left) (part (place x) (size x) ws) behind next-each H′ u c q

@@ -13,17 +13,18 @@ use Rattle.semantics.specs.Check.{readSheet, check}
 use Rattle.semantics.specs.Monomial.{Monomial}
 use Rattle.semantics.specs.Group.{Root, labelled, constraintRoots, countRoots, fieldRoots, Item, itemsOf, items}
 use Rattle.semantics.proofs.Sorting.{All}
-use Rattle.records.specs.Access.{recordsOf, constraintsAt, interactionsAt, part, messageLength, countWords, fieldWords, RootsInside, AllRootsInside}
-use Rattle.records.proofs.Reading.{count-word, message-is, next-stands, first-stands, head-counts, counts-small, constraints-are, constraints-inside, interactions-stand, interactions-inside, counts-are, fields-are}
+use Rattle.records.specs.declared.Interaction as places
+use Rattle.records.specs.Access.{recordsOf, constraintsAt, interactionsAt, part, countAt, fieldsAt, countWords, fieldWords, RootsInside, AllRootsInside}
+use Rattle.records.proofs.Reading.{count-word, message-is, next-stands, first-stands, counts-small, constraints-are, constraints-inside, interactions-stand, interactions-inside, counts-are, fields-are}
 use Rattle.records.proofs.Steps.{inside}
 use Rattle.semantics.proofs.GraphSheets.{interaction-facts}
 use Rattle.group.specs.Grouped.{Room, listOf, InPool, itemsAt, Placing, ToPlace, Places, varsNamed}
-use Rattle.grouping.specs.Families.{constraintRoot, fieldRoot, eachRoots, countRootAt, fieldRootsAt, ToPlaceRoots}
+use Rattle.grouping.specs.Families.{constraintRoot, fieldRoot, interactionIn, eachRoots, countRootAt, fieldRootsAt, ToPlaceRoots}
 use Rattle.group.proofs.Tallies.{varsOf}
 use Rattle.group.proofs.Placements.{room-front}
 use Rattle.group.proofs.PoolLists.{items-vars}
 use Rattle.grouping.proofs.Finished.{items-label}
-use Rattle.grouping.proofs.NamedLists.{all-front, all-back, part-next, part-first, part-end}
+use Rattle.grouping.proofs.NamedLists.{all-front, all-back, part-next, part-first, part-one, part-end, Rest, rest-start, rest-next, rest-more, Taken, count-taken, fields-taken, taken-words, taken-inside}
 
 module _ (list : ℕ → List Monomial) where
   pub items-append : (rs ss : List Root) → items list (rs ++ ss) ≡ items list rs ++ items list ss
@@ -72,13 +73,12 @@ pub record RootsLeft (b : Bool) (n : ℕ) (P H₀ T₀ : List ℕ) (roots : List
   pub headers-long : length H ≡ length H₀
   pub terms-long : length T ≡ length T₀
 
-pub roots-start : (b : Bool) (n : ℕ) (P H T : List ℕ) (roots left : List Root) → ToPlaceRoots b n H P T roots → left ≡ roots
-    → RootsLeft b n P H T roots H T left
-roots-start b n P H T roots left t e =
+pub roots-start : {b : Bool} {n : ℕ} {P H T : List ℕ} {roots left : List Root} → ToPlaceRoots b n H P T roots → left ≡ roots → RootsLeft b n P H T roots H T left
+roots-start {b} {n} {P} {H} {T} {roots} t e =
     subst (RootsLeft b n P H T roots H T) (sym e)
     (record { ready = t; passed = []; places = places-none b n P H T; whole = refl; headers-long = refl; terms-long = refl })
 
-module _ (b : Bool) (n : ℕ) (P H₀ T₀ : List ℕ) (roots : List Root) (H T : List ℕ) (left : List Root) (g : RootsLeft b n P H₀ T₀ roots H T left) where
+module _ {b : Bool} {n : ℕ} {P H₀ T₀ : List ℕ} {roots : List Root} {H T : List ℕ} {left : List Root} (g : RootsLeft b n P H₀ T₀ roots H T left) where
   pub roots-done : left ≡ [] → Places b n P H₀ T₀ H T (items (listOf P) roots)
   unfolding items flatMap
   roots-done e =
@@ -108,9 +108,9 @@ module _ (b : Bool) (n : ℕ) (P H₀ T₀ : List ℕ) (roots : List Root) (H T 
       lists = all-front (λ (r : Root). InPool P (r .node)) xs ys lists-are;
     }
 
-    pub roots-more : (H′ T′ : List ℕ) → length H′ ≡ length H → length T′ ≡ length T → Places b n P H T H′ T′ (items (listOf P) xs)
+    pub roots-more : {H′ T′ : List ℕ} → length H′ ≡ length H → length T′ ≡ length T → Places b n P H T H′ T′ (items (listOf P) xs)
         → RootsLeft b n P H₀ T₀ roots H′ T′ ys
-    roots-more H′ T′ lh lt f = record {
+    roots-more {H′} {T′} lh lt f = record {
       ready = record {
         to-place = record {
           gs = g .ready .to-place .gs;
@@ -129,110 +129,116 @@ module _ (b : Bool) (n : ℕ) (P H₀ T₀ : List ℕ) (roots : List Root) (H T 
       terms-long = lt ∙ g .terms-long;
     }
 
--- One root.
-module _ (b : Bool) (n : ℕ) (P H T : List ℕ) (r s : Root) (q : r ≡ s) where
-  one-is : items (listOf P) (r ∷ []) ≡ itemsAt (s .index) (s .field) (listOf P (s .node))
-  one-is = items-one (listOf P) r ∙ ap (λ (x : Root). itemsAt (x .index) (x .field) (listOf P (x .node))) q
-
-  pub one-ready : ToPlaceRoots b n H P T (r ∷ []) → ToPlace b n H P T (itemsAt (s .index) (s .field) (listOf P (s .node))) × InPool P (s .node)
-  one-ready t = (subst (ToPlace b n H P T) one-is (t .to-place), subst (λ (x : Root). InPool P (x .node)) q (t .lists .0))
-
-  pub one-placed : (H′ T′ : List ℕ) → Places b n P H T H′ T′ (itemsAt (s .index) (s .field) (listOf P (s .node)))
-      → Places b n P H T H′ T′ (items (listOf P) (r ∷ []))
-  one-placed H′ T′ p = subst (Places b n P H T H′ T′) (sym one-is) p
-
 -- The words from `at` on name the records of roots, one each; j of them are passed.
 pub record RootsAt (f : ℕ → ℕ → Root) (b : Bool) (ws : List ℕ) (at count n : ℕ) (P H₀ T₀ H T : List ℕ) (j : ℕ) : Type 0 where
   pub upto : j ≤ count
   pub left : RootsLeft b n P H₀ T₀ (labelled (λ i c. f i c ∷ []) 0 (part at count ws)) H T (labelled (λ i c. f i c ∷ []) j (part (at + j) (count - j) ws))
 
-module _ (f : ℕ → ℕ → Root) (b : Bool) (ws : List ℕ) (at count n : ℕ) (P H₀ T₀ : List ℕ) where
+pub roots-at-start : {f : ℕ → ℕ → Root} {b : Bool} {ws : List ℕ} {at count n : ℕ} {P H T : List ℕ}
+    → ToPlaceRoots b n H P T (labelled (λ i c. f i c ∷ []) 0 (part at count ws)) → RootsAt f b ws at count n P H T H T 0
+roots-at-start {f} {b} {ws} {at} {count} t = record {
+  upto = omega arith;
+  left = roots-start t (ap (labelled (λ i c. f i c ∷ []) 0) (part-first ws at count));
+}
+
+module _ {f : ℕ → ℕ → Root} {b : Bool} {ws : List ℕ} {at count n : ℕ} {P H₀ T₀ H T : List ℕ} {j : ℕ} (g : RootsAt f b ws at count n P H₀ T₀ H T j) where
   abbrev rootsFrom : ℕ → List ℕ → List Root
   rootsFrom j xs = labelled (λ i c. f i c ∷ []) j xs
 
-  pub roots-at-start : ToPlaceRoots b n H₀ P T₀ (rootsFrom 0 (part at count ws)) → RootsAt f b ws at count n P H₀ T₀ H₀ T₀ 0
-  roots-at-start t = record {
-    upto = omega arith;
-    left = roots-start b n P H₀ T₀ (rootsFrom 0 (part at count ws)) _ t (ap (rootsFrom 0) (part-first ws at count));
-  }
+  pub roots-at-done : count ≤ j → Places b n P H₀ T₀ H T (items (listOf P) (rootsFrom 0 (part at count ws)))
+  unfolding labelled
+  roots-at-done h = roots-done (g .left) (ap (rootsFrom j) (part-end ws at count j h))
 
-  module _ (H T : List ℕ) (j : ℕ) (g : RootsAt f b ws at count n P H₀ T₀ H T j) where
-    pub roots-at-done : count ≤ j → Places b n P H₀ T₀ H T (items (listOf P) (rootsFrom 0 (part at count ws)))
+  module _ (h : j < count) (l : at + count ≤ length ws) {r : ℕ} (e : r ≡ getD ws (at + j) 0) where
+    abbrev rest : List Root
+    rest = rootsFrom (j + 1) (part (at + (j + 1)) (count - (j + 1)) ws)
+
+    next-is : rootsFrom j (part (at + j) (count - j) ws) ≡ (f j r ∷ []) ++ rest
     unfolding labelled
-    roots-at-done h = roots-done b n P H₀ T₀ _ H T _ (g .left) (ap (rootsFrom j) (part-end ws at count j h))
+    next-is =
+        ap (rootsFrom j) (part-next ws at count j h l ∙ ap (λ (x : ℕ). x ∷ part (at + (j + 1)) (count - (j + 1)) ws) (sym e))
+        ∙ ap (λ (k : ℕ). f j r ∷ rootsFrom k (part (at + (j + 1)) (count - (j + 1)) ws)) (sym (add-one j))
 
-    module _ (h : j < count) (l : at + count ≤ length ws) (r : ℕ) (e : r ≡ getD ws (at + j) 0) where
-      abbrev rest : List Root
-      rest = rootsFrom (j + 1) (part (at + (j + 1)) (count - (j + 1)) ws)
+    one-is : items (listOf P) (f j r ∷ []) ≡ itemsAt (f j r .index) (f j r .field) (listOf P (f j r .node))
+    one-is = items-one (listOf P) (f j r)
 
-      next-is : rootsFrom j (part (at + j) (count - j) ws) ≡ (f j r ∷ []) ++ rest
-      unfolding labelled
-      next-is =
-          ap (rootsFrom j) (part-next ws at count j h l ∙ ap (λ (x : ℕ). x ∷ part (at + (j + 1)) (count - (j + 1)) ws) (sym e))
-          ∙ ap (λ (k : ℕ). f j r ∷ rootsFrom k (part (at + (j + 1)) (count - (j + 1)) ws)) (sym (add-one j))
+    pub roots-at-ready : ToPlace b n H P T (itemsAt (f j r .index) (f j r .field) (listOf P (f j r .node))) × InPool P (f j r .node)
+    roots-at-ready =
+        let t = roots-next (g .left) (f j r ∷ []) rest next-is in
+        (subst (ToPlace b n H P T) one-is (t .to-place), t .lists .0)
 
-      pub roots-at-ready : (s : Root) → f j r ≡ s → ToPlace b n H P T (itemsAt (s .index) (s .field) (listOf P (s .node))) × InPool P (s .node)
-      roots-at-ready s q = one-ready b n P H T (f j r) s q (roots-next b n P H₀ T₀ _ H T _ (g .left) (f j r ∷ []) rest next-is)
+    pub roots-at-more : {H′ T′ : List ℕ} → length H′ ≡ length H → length T′ ≡ length T
+        → Places b n P H T H′ T′ (itemsAt (f j r .index) (f j r .field) (listOf P (f j r .node))) → RootsAt f b ws at count n P H₀ T₀ H′ T′ (j + 1)
+    roots-at-more {H′} {T′} lh lt p = record {
+      upto = omega arith;
+      left = roots-more (g .left) (f j r ∷ []) rest next-is lh lt (subst (Places b n P H T H′ T′) (sym one-is) p);
+    }
 
-      pub roots-at-more : (H′ T′ : List ℕ) (s : Root) → f j r ≡ s → length H′ ≡ length H → length T′ ≡ length T
-          → Places b n P H T H′ T′ (itemsAt (s .index) (s .field) (listOf P (s .node))) → RootsAt f b ws at count n P H₀ T₀ H′ T′ (j + 1)
-      roots-at-more H′ T′ s q lh lt p = record {
-        upto = omega arith;
-        left = roots-more b n P H₀ T₀ _ H T _ (g .left) (f j r ∷ []) rest next-is H′ T′ lh lt (one-placed b n P H T (f j r) s q H′ T′ p);
-      }
+-- The roots of an interaction: `one` gives them from the names that are taken of it.
+pub record TakenRoots (one : ℕ → ℕ → List Root) (ws : List ℕ) (place size : places.Interaction → ℕ) : Type 0 where
+  pub names : ℕ → List ℕ
+  pub taken : Taken names ws place size
+  pub roots : (i at : ℕ) → RootsInside (length (recordsOf ws)) ws at → one i at ≡ labelled (fieldRoot i) 0 (names at)
 
--- The same for interactions: `one` gives the roots of each, and i of them are passed.
+-- Of a count, and of the fields.
+pub count-root-taken : (ws : List ℕ) → TakenRoots (countRootAt ws) ws (λ (x : places.Interaction). x .count) (λ (x : places.Interaction). 1)
+unfolding labelled
+count-root-taken ws = record {
+  names = countAt ws;
+  taken = count-taken ws;
+  roots = λ i at h.
+      let l = count-taken ws .inside at h .inside in
+      ap (labelled (fieldRoot i) 0) (sym (part-one ws (interactionIn ws at .count) (omega arith)));
+}
+
+pub field-roots-taken : (ws : List ℕ) → TakenRoots (fieldRootsAt ws) ws (λ (x : places.Interaction). x .fields) (λ (x : places.Interaction). x .message)
+field-roots-taken ws = record { names = fieldsAt ws; taken = fields-taken ws; roots = λ i at h. refl }
+
+-- The roots of interactions; i of them are passed.
 pub record EachRoots (one : ℕ → ℕ → List Root) (b : Bool) (ws : List ℕ) (at count n : ℕ) (P H₀ T₀ H T : List ℕ) (from i : ℕ) : Type 0 where
-  pub upto : i ≤ count
-  pub inside : AllRootsInside (length (recordsOf ws)) ws from (count - i)
+  pub rest : Rest ws count from i
   pub left : RootsLeft b n P H₀ T₀ (eachRoots one ws 0 at count) H T (eachRoots one ws i from (count - i))
 
-module _ (one : ℕ → ℕ → List Root) (b : Bool) (ws : List ℕ) (at count n : ℕ) (P H₀ T₀ : List ℕ) where
-  pub each-roots-start : AllRootsInside (length (recordsOf ws)) ws at count → ToPlaceRoots b n H₀ P T₀ (eachRoots one ws 0 at count)
-      → EachRoots one b ws at count n P H₀ T₀ H₀ T₀ at 0
-  each-roots-start h t =
-      let z : count - 0 ≡ count = omega arith in
-      record {
-        upto = omega arith;
-        inside = subst (AllRootsInside (length (recordsOf ws)) ws at) (sym z) h;
-        left = roots-start b n P H₀ T₀ (eachRoots one ws 0 at count) _ t (ap (eachRoots one ws 0 at) z);
-      }
+pub each-roots-start : {one : ℕ → ℕ → List Root} {b : Bool} {ws : List ℕ} {at count n : ℕ} {P H T : List ℕ}
+    → AllRootsInside (length (recordsOf ws)) ws at count → ToPlaceRoots b n H P T (eachRoots one ws 0 at count) → EachRoots one b ws at count n P H T H T at 0
+each-roots-start {one} {b} {ws} {at} {count} h t =
+    let z : count - 0 ≡ count = omega arith in
+    record { rest = rest-start h; left = roots-start t (ap (eachRoots one ws 0 at) z) }
 
-  module _ (H T : List ℕ) (from i : ℕ) (g : EachRoots one b ws at count n P H₀ T₀ H T from i) where
-    pub each-roots-done : count ≤ i → Places b n P H₀ T₀ H T (items (listOf P) (eachRoots one ws 0 at count))
+module _ {one : ℕ → ℕ → List Root} {b : Bool} {ws : List ℕ} {at count n : ℕ} {P H₀ T₀ H T : List ℕ} {from i : ℕ}
+    (g : EachRoots one b ws at count n P H₀ T₀ H T from i) where
+  pub each-roots-done : count ≤ i → Places b n P H₀ T₀ H T (items (listOf P) (eachRoots one ws 0 at count))
+  unfolding eachRoots
+  each-roots-done h =
+      let z : count - i ≡ 0 = omega arith in
+      roots-done (g .left) (ap (eachRoots one ws i from) z)
+
+  module _ (h : i < count) {place size : places.Interaction → ℕ} (t : TakenRoots one ws place size) {x : places.Interaction} (e : x ≡ interactionIn ws from) where
+    abbrev now : List Root
+    now = labelled (fieldRoot i) 0 (part (place x) (size x) ws)
+
+    abbrev behind : List Root
+    behind = eachRoots one ws (i + 1) (x .next) (count - (i + 1))
+
+    now-is : one i from ≡ now
+    now-is = t .roots i from (rest-next (g .rest) h) ∙ ap (labelled (fieldRoot i) 0) (sym (taken-words (t .taken) e))
+
+    next-each : eachRoots one ws i from (count - i) ≡ now ++ behind
     unfolding eachRoots
-    each-roots-done h =
-        let z : count - i ≡ 0 = omega arith in
-        roots-done b n P H₀ T₀ _ H T _ (g .left) (ap (eachRoots one ws i from) z)
+    next-each =
+        let k : count - i ≡ suc (count - (i + 1)) = omega arith in
+        ap (eachRoots one ws i from) k
+        ∙ (λ z. now-is z ++ eachRoots one ws (sym (add-one i) z) (sym (ap (λ (y : places.Interaction). y .next) e) z) (count - (i + 1)))
 
-    module _ (h : i < count) where
-      inside-now : AllRootsInside (length (recordsOf ws)) ws from (suc (count - (i + 1)))
-      inside-now = let k : count - i ≡ suc (count - (i + 1)) = omega arith in subst (AllRootsInside (length (recordsOf ws)) ws from) k (g .inside)
+    pub each-roots-ready : (place x + size x ≤ length ws) × ToPlaceRoots b n H P T now
+    each-roots-ready = (taken-inside (t .taken) e (rest-next (g .rest) h), roots-next (g .left) now behind next-each)
 
-      pub each-roots-inside : RootsInside (length (recordsOf ws)) ws from
-      each-roots-inside = inside-now .0
-
-      abbrev rest-from : ℕ → List Root
-      rest-from a = eachRoots one ws (i + 1) a (count - (i + 1))
-
-      next-each : (from′ : ℕ) → from′ ≡ from + (4 + messageLength ws from) → eachRoots one ws i from (count - i) ≡ one i from ++ rest-from from′
-      unfolding eachRoots
-      next-each from′ e =
-          let k : count - i ≡ suc (count - (i + 1)) = omega arith in
-          ap (eachRoots one ws i from) k
-          ∙ (λ z. one i from ++ eachRoots one ws (sym (add-one i) z) (sym e z) (count - (i + 1)))
-
-      pub each-roots-ready : ToPlaceRoots b n H P T (one i from)
-      each-roots-ready =
-          roots-next b n P H₀ T₀ _ H T _ (g .left) (one i from) (rest-from (from + (4 + messageLength ws from))) (next-each _ refl)
-
-      pub each-roots-more : (H′ T′ : List ℕ) (from′ : ℕ) → length H′ ≡ length H → length T′ ≡ length T → from′ ≡ from + (4 + messageLength ws from)
-          → Places b n P H T H′ T′ (items (listOf P) (one i from)) → EachRoots one b ws at count n P H₀ T₀ H′ T′ from′ (i + 1)
-      each-roots-more H′ T′ from′ lh lt e p = record {
-        upto = omega arith;
-        inside = subst (λ (a : ℕ). AllRootsInside (length (recordsOf ws)) ws a (count - (i + 1))) (sym e) (inside-now .1);
-        left = roots-more b n P H₀ T₀ _ H T _ (g .left) (one i from) (rest-from from′) (next-each from′ e) H′ T′ lh lt p;
-      }
+    pub each-roots-more : {H′ T′ : List ℕ} → length H′ ≡ length H → length T′ ≡ length T → Places b n P H T H′ T′ (items (listOf P) now)
+        → EachRoots one b ws at count n P H₀ T₀ H′ T′ (x .next) (i + 1)
+    each-roots-more lh lt p = record {
+      rest = rest-more (g .rest) h (ap (λ (y : places.Interaction). y .next) e);
+      left = roots-more (g .left) now behind next-each lh lt p;
+    }
 
 -- A checked sheet's roots are those that its words name.
 module _ (rest ws : List ℕ) (one : ℕ → ℕ → List Root) (f : ℕ → Interaction → List Root)
@@ -242,7 +248,7 @@ module _ (rest ws : List ℕ) (one : ℕ → ℕ → List Root) (f : ℕ → Int
   each-labelled i at [] e = refl
   each-labelled i at (x ∷ xs) e =
       let g = first-stands rest ws at x xs e in
-      let ih = each-labelled (suc i) (at + (4 + messageLength ws at)) xs (next-stands ws at x (flatMap interactionWords xs ++ rest) g) in
+      let ih = each-labelled (suc i) (interactionIn ws at .next) xs (next-stands ws at x (flatMap interactionWords xs ++ rest) g) in
       λ k. same i at x (flatMap interactionWords xs ++ rest) g k ++ ih k
 
 module _ (ws : List ℕ) (checked : check prime ws ≡ good (readSheet ws)) where
@@ -340,44 +346,36 @@ module _ (ws : List ℕ) (checked : check prime ws ≡ good (readSheet ws)) wher
       0 0 (readSheet ws .interactions) (inside ws checked .interactions) in
       omega (arith, counts-small ws checked .2)
 
-  -- The words of the constraints, from where they start on and as many as the head says.
-  module _ (at count : ℕ) (a : at ≡ constraintsAt ws) (c : count ≡ getD ws 2 0) where
-    constraint-count : count ≡ length (readSheet ws .constraints)
-    constraint-count = c ∙ head-counts ws checked .1
-
+  -- The words of the constraints, from where they start on.
+  module _ {at count : ℕ} (a : at ≡ constraintsAt ws) (c : count ≡ length (readSheet ws .constraints)) where
     pub constraint-span : (at + count ≤ length ws) × (count ≤ 4294967295)
     constraint-span =
-        let e = constraint-count in
         let i = constraints-inside ws checked .inside in
         (omega arith, omega (arith, counts-small ws checked .1))
 
     pub constraint-names : part at count ws ≡ nodesOf (constraintRoots (readSheet ws))
-    constraint-names = (λ i. part (a i) (constraint-count i) ws) ∙ sym (constraint-nodes ws checked)
+    constraint-names = (λ i. part (a i) (c i) ws) ∙ sym (constraint-nodes ws checked)
 
     pub constraint-labelled : labelled constraintRoot 0 (part at count ws) ≡ constraintRoots (readSheet ws)
-    constraint-labelled = (λ i. labelled constraintRoot 0 (part (a i) (constraint-count i) ws)) ∙ sym (constraint-roots ws checked)
+    constraint-labelled = (λ i. labelled constraintRoot 0 (part (a i) (c i) ws)) ∙ sym (constraint-roots ws checked)
 
   -- The same for the interactions.
-  module _ (at count : ℕ) (a : at ≡ interactionsAt ws) (c : count ≡ getD ws 3 0) where
-    interaction-count : count ≡ length (readSheet ws .interactions)
-    interaction-count = c ∙ head-counts ws checked .2
-
+  module _ {at count : ℕ} (a : at ≡ interactionsAt ws) (c : count ≡ length (readSheet ws .interactions)) where
     pub interaction-span : AllRootsInside (length (recordsOf ws)) ws at count × (count ≤ 4294967295)
-    interaction-span =
-        let e = interaction-count in (
-          subst (λ (x : ℕ). AllRootsInside (length (recordsOf ws)) ws x count) (sym a)
-              (subst (AllRootsInside (length (recordsOf ws)) ws (interactionsAt ws)) (sym e) (interactions-inside ws checked)),
-          omega (arith, counts-small ws checked .2),
-        )
+    interaction-span = (
+      subst (λ (x : ℕ). AllRootsInside (length (recordsOf ws)) ws x count) (sym a)
+          (subst (AllRootsInside (length (recordsOf ws)) ws (interactionsAt ws)) (sym c) (interactions-inside ws checked)),
+      omega (arith, counts-small ws checked .2),
+    )
 
     pub count-names : countWords ws at count ≡ nodesOf (countRoots (readSheet ws))
-    count-names = (λ i. countWords ws (a i) (interaction-count i)) ∙ sym (count-nodes ws checked)
+    count-names = (λ i. countWords ws (a i) (c i)) ∙ sym (count-nodes ws checked)
 
     pub count-labelled : eachRoots (countRootAt ws) ws 0 at count ≡ countRoots (readSheet ws)
-    count-labelled = (λ i. eachRoots (countRootAt ws) ws 0 (a i) (interaction-count i)) ∙ sym (count-roots ws checked)
+    count-labelled = (λ i. eachRoots (countRootAt ws) ws 0 (a i) (c i)) ∙ sym (count-roots ws checked)
 
     pub field-names : fieldWords ws at count ≡ nodesOf (fieldRoots (readSheet ws))
-    field-names = (λ i. fieldWords ws (a i) (interaction-count i)) ∙ sym (field-nodes ws checked)
+    field-names = (λ i. fieldWords ws (a i) (c i)) ∙ sym (field-nodes ws checked)
 
     pub field-labelled : eachRoots (fieldRootsAt ws) ws 0 at count ≡ fieldRoots (readSheet ws)
-    field-labelled = (λ i. eachRoots (fieldRootsAt ws) ws 0 (a i) (interaction-count i)) ∙ sym (field-roots ws checked)
+    field-labelled = (λ i. eachRoots (fieldRootsAt ws) ws 0 (a i) (c i)) ∙ sym (field-roots ws checked)

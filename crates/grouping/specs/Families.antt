@@ -13,7 +13,8 @@ use Rattle.semantics.specs.Expand.{listSize}
 use Rattle.semantics.specs.Group.{Root, labelled, Item, items, Group, groups, headers, variables, terms, layout}
 use Rattle.semantics.specs.Call.{firstShort}
 use Rattle.semantics.proofs.Sorting.{All}
-use Rattle.records.specs.Access.{recordsOf, messageLength, fieldsAt}
+use Rattle.records.specs.declared.Interaction.{Interaction}
+use Rattle.records.specs.Access.{recordsOf, messageLength, interactionFrom, fieldsAt}
 use Rattle.monomial.specs.Words.{Stored}
 use Rattle.grouping.specs.declared.Grouped.{Grouped}
 use Rattle.grouping.specs.declared.Grouped.the-variants.{Written, Short}
@@ -32,14 +33,18 @@ constraintRoot j c = record { node = c; index = j; field = 0 } ∷ []
 abbrev pub fieldRoot : (i j c : ℕ) → List Root
 fieldRoot i j c = record { node = c; index = i; field = j } ∷ []
 
+-- Where the words of the interaction at `at` stand.
+abbrev pub interactionIn : (ws : List ℕ) (at : ℕ) → Interaction
+interactionIn ws at = interactionFrom at (messageLength ws at)
+
 -- The roots of n interactions from `at` on, numbered from i; `one` gives those of each.
 unfoldable pub eachRoots : (one : (i at : ℕ) → List Root) (ws : List ℕ) (i at n : ℕ) → List Root
 eachRoots one ws i at zero = []
-eachRoots one ws i at (suc n) = one i at ++ eachRoots one ws (suc i) (at + (4 + messageLength ws at)) n
+eachRoots one ws i at (suc n) = one i at ++ eachRoots one ws (suc i) (interactionIn ws at .next) n
 
 -- The root of a count, and of the fields.
 abbrev pub countRootAt : (ws : List ℕ) (i at : ℕ) → List Root
-countRootAt ws i at = record { node = getD ws (at + 2) 0; index = i; field = 0 } ∷ []
+countRootAt ws i at = record { node = getD ws (interactionIn ws at .count) 0; index = i; field = 0 } ∷ []
 
 abbrev pub fieldRootsAt : (ws : List ℕ) (i at : ℕ) → List Root
 fieldRootsAt ws i at = labelled (fieldRoot i) 0 (fieldsAt ws at)

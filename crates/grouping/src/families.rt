@@ -1,5 +1,4 @@
 // The families of roots: the lists of the records that words name are counted, and their terms are placed under the roots' labels.
-ghost use mathlib.Core.Path.{_≡_};
 ghost use mathlib.Core.Bool.{true, false};
 ghost use Prim.Native.Nat.{_+_, _≤_};
 ghost use lib.ListN.{length};
@@ -9,12 +8,6 @@ ghost use Rattle.group.specs.Grouped.{tallyAll, tallied, Counted, listOf, varsN
 ghost use Rattle.grouping.specs.Families.{ToTally, constraintRoot, fieldRoot, eachRoots, countRootAt, fieldRootsAt, ToPlaceRoots};
 use group::Tallied;
 use group::place;
-
-fn wide(w: u32) -> usize
-    ensures { λ r. ⌜ (r ≡ w) × (r ≤ 4294967295) ⌝ }
-{
-    w as usize
-}
 
 // Counts the lists of the records that the words from `at` on name.
 pub fn tally_names(
@@ -58,13 +51,13 @@ pub fn tally_counts(
     let mut from = at;
     let mut i: usize = 0;
     while i < count {
-        let message = records::wide(sheet[from + 3]);
-        let answer = tally_names(sheet, from + 2, 1, headers, rows, pool);
+        let x = records::interaction_at(sheet, from);
+        let answer = tally_names(sheet, x.count, 1, headers, rows, pool);
         let Tallied::Headers(next) = answer else {
             return Tallied::Full;
         };
         rows = next;
-        from = from + 4 + message;
+        from = x.next;
         i += 1;
     }
     Tallied::Headers(rows)
@@ -86,13 +79,13 @@ pub fn tally_fields(
     let mut from = at;
     let mut i: usize = 0;
     while i < count {
-        let message = records::wide(sheet[from + 3]);
-        let answer = tally_names(sheet, from + 4, message, headers, rows, pool);
+        let x = records::interaction_at(sheet, from);
+        let answer = tally_names(sheet, x.fields, x.message, headers, rows, pool);
         let Tallied::Headers(next) = answer else {
             return Tallied::Full;
         };
         rows = next;
-        from = from + 4 + message;
+        from = x.next;
         i += 1;
     }
     Tallied::Headers(rows)
@@ -119,8 +112,8 @@ pub fn place_constraints(
     }
 }
 
-// Places the terms of the fields of one interaction.
-fn place_message(
+// Places the terms of the records that the words from `at` on name: the fields of interaction `index`, or its count.
+fn place_names(
     sheet: &[u32],
     at: usize,
     count: usize,
@@ -157,10 +150,9 @@ pub fn place_counts(
     let mut from = at;
     let mut i: usize = 0;
     while i < count {
-        let message = records::wide(sheet[from + 3]);
-        let r = records::wide(sheet[from + 2]);
-        place::place_root(headers, n, pool, r, true, i as u32, 0, terms);
-        from = from + 4 + message;
+        let x = records::interaction_at(sheet, from);
+        place_names(sheet, x.count, 1, i as u32, headers, n, pool, terms);
+        from = x.next;
         i += 1;
     }
 }
@@ -181,9 +173,18 @@ pub fn place_fields(
     let mut from = at;
     let mut i: usize = 0;
     while i < count {
-        let message = wide(sheet[from + 3]);
-        place_message(sheet, from + 4, message, i as u32, headers, n, pool, terms);
-        from = from + 4 + message;
+        let x = records::interaction_at(sheet, from);
+        place_names(
+            sheet,
+            x.fields,
+            x.message,
+            i as u32,
+            headers,
+            n,
+            pool,
+            terms,
+        );
+        from = x.next;
         i += 1;
     }
 }

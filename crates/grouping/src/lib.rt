@@ -1,8 +1,7 @@
 // The families of a checked sheet, grouped: headers, variables and terms, or the first slice that is too short.
-ghost use mathlib.Core.Path.{_≡_};
-ghost use mathlib.Core.Bool.{Bool, true, false};
-ghost use mathlib.Core.List.{List, []};
-ghost use Prim.Native.Nat.{_+_, _*_, _≤_};
+ghost use mathlib.Core.Bool.{Bool};
+ghost use mathlib.Core.List.{[]};
+ghost use Prim.Native.Nat.{_*_, _≤_};
 ghost use lib.ListN.{length};
 ghost use Rattle.semantics.specs.Check.{readSheet};
 ghost use Rattle.semantics.specs.Group.{constraintRoots, countRoots, fieldRoots, constraintTerm, interactionTerm};
@@ -79,7 +78,7 @@ pub fn group_constraints(
 {
     slices::zero_all(headers);
     let at = records::constraints_at(sheet);
-    let count = records::wide(sheet[2]);
+    let count = records::num_constraints(sheet);
     let counted = families::tally_names(sheet, at, count, headers, 0, pool);
     let Tallied::Headers(n) = counted else {
         return Grouped::Short(1);
@@ -107,7 +106,7 @@ pub fn group_counts(
 {
     slices::zero_all(headers);
     let at = records::interactions_at(sheet);
-    let count = records::wide(sheet[3]);
+    let count = records::num_interactions(sheet);
     let counted = families::tally_counts(sheet, at, count, headers, 0, pool);
     let Tallied::Headers(n) = counted else {
         return Grouped::Short(1);
@@ -135,7 +134,7 @@ pub fn group_fields(
 {
     slices::zero_all(headers);
     let at = records::interactions_at(sheet);
-    let count = records::wide(sheet[3]);
+    let count = records::num_interactions(sheet);
     let counted = families::tally_fields(sheet, at, count, headers, 0, pool);
     let Tallied::Headers(n) = counted else {
         return Grouped::Short(1);

@@ -1,13 +1,13 @@
 -- The nodes in the output, and the search for one.
 use mathlib.Core.Path.{_≡_, refl, sym, _∙_, ap, subst}
 use mathlib.Core.Logic.{⊎-elim}
-use mathlib.Core.Bool.{Bool, true, false, _&&_}
+use mathlib.Core.Bool.{Bool, true, false}
 use mathlib.Core.List.{List, [], _∷_, _++_, flatMap, append-assoc, append-nil}
 use Prim.Native.Nat.{ℕ, zero, suc, _+_, _*_, _-_, _≤_, _<_}
 use native.Mathlib.Nat.{eq-or-lt-of-le, sub-zero}
 use native.Mathlib.Omega.{arith}
-use lib.Dec.{eqb, ltb}
-use lib.ListN.{length, getD, drop, replicate, set, length-append, length-replicate}
+use lib.Dec.{ltb}
+use lib.ListN.{length, getD, drop, replicate, length-append, length-replicate}
 use lib.Seq.{getD-append-add, drop-append-add, take-at, sets, sets-eq}
 use borrow.Author.Tests.{ltb-true, ltb-false, lt-ltb, le-ltb}
 use Rattle.semantics.specs.Sheet.{Record, recordOf, recordWords}
@@ -23,15 +23,6 @@ use Rattle.nodes.specs.Picks.{viewOf}
 use Rattle.nodes.specs.Memory.{nodesOut}
 use Rattle.nodes.specs.Nodes.{NoneBefore, FirstEqual}
 use Rattle.nodes.proofs.RuleLaws.{seen}
-
--- Equal in all five words, word by word.
-and-assoc : (s t u : Bool) → (s && t) && u ≡ s && (t && u)
-and-assoc true t u = refl
-and-assoc false t u = refl
-
-pub equal-words : (q m : Record) → equalRecords q m ≡ eqb (q .kind) (m .kind) && (eqb (q .a) (m .a) && (eqb (q .b) (m .b) && (eqb (q .c) (m .c) && eqb (q .d) (m .d))))
-unfolding equalRecords
-equal-words q m = simp and-assoc
 
 -- Where the words of the nodes stand.
 record-wide : (r : Record) → length (recordWords r) ≡ 5
@@ -67,16 +58,6 @@ flat-snoc : (ns : List Record) (q : Record) → flatMap recordWords (ns ++ (q �
 unfolding flatMap
 flat-snoc [] q = append-nil (recordWords q)
 flat-snoc (m ∷ ns) q = ap (λ (l : List ℕ). recordWords m ++ l) (flat-snoc ns q) ∙ sym (append-assoc (recordWords m) (flatMap recordWords ns) (recordWords q))
-
--- The stores of a node's words.
-pub five-stores : (ws : List ℕ) (at k a b c d : ℕ)
-    → set (set (set (set (set ws at k) (at + 1) a) (at + 2) b) (at + 3) c) (at + 4) d ≡ sets ws at (k ∷ a ∷ b ∷ c ∷ d ∷ [])
-five-stores ws at k a b c d =
-    let e₁ : at + 1 ≡ suc at = omega arith in
-    let e₂ : at + 2 ≡ suc (suc at) = omega arith in
-    let e₃ : at + 3 ≡ suc (suc (suc at)) = omega arith in
-    let e₄ : at + 4 ≡ suc (suc (suc (suc at))) = omega arith in
-    rw (e₁, e₂, e₃, e₄)
 
 drop-zeros : (j m : ℕ) → drop j (zeros m) ≡ zeros (m - j)
 unfolding zeros

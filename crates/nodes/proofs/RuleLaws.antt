@@ -1,6 +1,6 @@
 -- The rules look only at the kind and the word a of a child's node.
 use mathlib.Core.Path.{_≡_, refl, sym, _∙_, ap}
-use mathlib.Core.Bool.{Bool, true, false, cond, true≢false, _&&_, _||_}
+use mathlib.Core.Bool.{Bool, true, false, cond, _&&_, _||_}
 use Prim.Native.Nat.{ℕ}
 use lib.Dec.{eqb}
 use borrow.Author.Tests.{eqb-true}
@@ -169,12 +169,3 @@ module _ {X : Type 0} {b t : Bool} (x y : X) (e : b ≡ t) where
 
   pub passed : {z : X} → b ≡ false → z ≡ y → z ≡ cond t x y
   passed h k = k ∙ sym (cond-false t x y (sym e ∙ h))
-
--- Tests in a row: one that fails decides, and behind one that holds the rest does.
-pub and-fails : (s t : Bool) → s ≡ false → false ≡ s && t
-and-fails true t e = absurd (true≢false e)
-and-fails false t e = refl
-
-pub and-goes : (s t : Bool) {u : Bool} → s ≡ true → u ≡ t → u ≡ s && t
-and-goes true t e h = h
-and-goes false t e h = absurd (true≢false (sym e))

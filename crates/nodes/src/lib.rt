@@ -1,14 +1,12 @@
-// The nodes in the output: five words each, behind the four words of the head.
+// The nodes in the output, which are the records of the graph.
 ghost use mathlib.Core.Path.{_≡_};
 ghost use mathlib.Core.List.{List};
 ghost use Prim.Native.Nat.{_+_, _*_, _≤_};
 ghost use lib.ListN.{length};
-ghost use lib.Seq.{sets};
 ghost use Rattle.semantics.specs.Sheet as semantics;
-ghost use Rattle.semantics.specs.Sheet.{recordWords};
 ghost use Rattle.semantics.specs.Value.{nodeOf};
 ghost use Rattle.semantics.specs.Walk.{children};
-ghost use Rattle.semantics.specs.Graph.{equalRecords, find, intern};
+ghost use Rattle.semantics.specs.Graph.{find, intern};
 ghost use Rattle.records.specs.Access.{fiveWords, nodeIn};
 ghost use Rattle.nodes.specs.Memory.{nodesOut};
 ghost use Rattle.nodes.specs.Nodes.{NoneBefore, FirstEqual, aboveAll};
@@ -29,33 +27,12 @@ pub fn child(out: &[u32], number: u32) -> Child
     requires { ⌜ 4 + 5 * number + 5 ≤ length (now out) ⌝ }
     ensures { λ x. ⌜ (x .number ≡ number) × (x .kind ≡ nodeIn (now (out .entry)) number .kind) × (x .a ≡ nodeIn (now (out .entry)) number .a) ⌝ }
 {
-    let at = 4 + 5 * records::wide(number);
+    let m = records::record_at(out, records::wide(number));
     Child {
         number: number,
-        kind: out[at],
-        a: out[at + 1],
+        kind: m.kind,
+        a: m.a,
     }
-}
-
-// Whether node i is equal in all five words.
-pub fn same_node(out: &[u32], i: usize, r: Record) -> bool
-    requires { ⌜ 4 + 5 * i + 5 ≤ length (now out) ⌝ }
-    ensures { λ x. ⌜ x ≡ equalRecords (fiveWords r) (nodeIn (now (out .entry)) i) ⌝ }
-{
-    let at = 4 + 5 * i;
-    if r.kind != out[at] {
-        return false;
-    }
-    if r.a != out[at + 1] {
-        return false;
-    }
-    if r.b != out[at + 2] {
-        return false;
-    }
-    if r.c != out[at + 3] {
-        return false;
-    }
-    r.d == out[at + 4]
 }
 
 // Where the search for a node begins: above its children.
@@ -84,25 +61,12 @@ fn find_node(out: &[u32], n: usize, from: usize, r: Record) -> usize
 {
     let mut i = from;
     while i < n {
-        if same_node(out, i, r) {
+        if records::same_record(out, i, r) {
             return i;
         }
         i += 1;
     }
     i
-}
-
-// Writes node i.
-fn put_node(out: &mut [u32], i: usize, r: Record)
-    requires { ⌜ 4 + 5 * i + 5 ≤ length (now out) ⌝ }
-    ensures { λ _. ⌜ now (out .exit) ≡ sets (now (out .entry)) (4 + 5 * i) (recordWords (fiveWords r)) ⌝ }
-{
-    let at = 4 + 5 * i;
-    out[at] = r.kind;
-    out[at + 1] = r.a;
-    out[at + 2] = r.b;
-    out[at + 3] = r.c;
-    out[at + 4] = r.d;
 }
 
 // The node equal to r, which no node below `from` is; appended where there is none.
@@ -117,7 +81,7 @@ pub fn intern_node(out: &mut [u32], n: usize, from: usize, r: Record) -> Interne
             count: n,
         };
     }
-    put_node(out, n, r);
+    records::put_record(out, n, r);
     Interned {
         index: n,
         count: n + 1,

@@ -1,5 +1,8 @@
 pub mod Parts
 pub mod Steps
 pub mod Visits
+pub mod Children
 pub mod Rooting
+pub mod Interactions
 pub mod Reading
+pub mod Writing

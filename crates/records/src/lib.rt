@@ -1,10 +1,14 @@
 // Record access: the one place that knows where a record's words, the constraints and the interactions stand in a sheet.
 ghost use mathlib.Core.Path.{_≡_};
+ghost use mathlib.Core.List.{[], _∷_};
 ghost use Prim.Native.Nat.{_+_, _*_, _^_, _≤_, _<_};
-ghost use lib.ListN.{length};
+ghost use lib.ListN.{length, getD};
+ghost use lib.Seq.{sets};
 ghost use Rattle.semantics.specs.Arithmetic.{prime};
 ghost use Rattle.semantics.specs.Answer.{good};
+ghost use Rattle.semantics.specs.Sheet.{recordWords};
 ghost use Rattle.semantics.specs.Check.{readSheet, check};
+ghost use Rattle.semantics.specs.Graph.{equalRecords};
 ghost use Rattle.records.specs.Access.{fiveWords, nodeIn, constraintsAt, interactionsAt, messageLength, interactionFrom};
 
 // A record as five words.
@@ -20,6 +24,14 @@ pub fn wide(w: u32) -> usize
     ensures { λ r. ⌜ r ≡ w ⌝ }
 {
     w as usize
+}
+
+// Where the first n records end, and record n starts.
+pub fn records_end(n: usize) -> usize
+    requires { ⌜ 4 + 5 * n < 2 ^ 63 ⌝ }
+    ensures { λ r. ⌜ r ≡ 4 + 5 * n ⌝ }
+{
+    4 + 5 * n
 }
 
 // The five words of record r.
@@ -61,6 +73,51 @@ pub fn right_at(sheet: &[u32], r: usize) -> usize
     wide(sheet[4 + 5 * r + 2])
 }
 
+// Whether record r is equal to q in all five words.
+pub fn same_record(out: &[u32], r: usize, q: Record) -> bool
+    requires { ⌜ 4 + 5 * r + 5 ≤ length (now out) ⌝ }
+    ensures { λ x. ⌜ x ≡ equalRecords (fiveWords q) (nodeIn (now (out .entry)) r) ⌝ }
+{
+    let m = record_at(out, r);
+    if q.kind != m.kind {
+        return false;
+    }
+    if q.a != m.a {
+        return false;
+    }
+    if q.b != m.b {
+        return false;
+    }
+    if q.c != m.c {
+        return false;
+    }
+    q.d == m.d
+}
+
+// Writes q as record r.
+pub fn put_record(out: &mut [u32], r: usize, q: Record)
+    requires { ⌜ 4 + 5 * r + 5 ≤ length (now out) ⌝ }
+    ensures { λ _. ⌜ now (out .exit) ≡ sets (now (out .entry)) (4 + 5 * r) (recordWords (fiveWords q)) ⌝ }
+{
+    let at = records_end(r);
+    out[at] = q.kind;
+    out[at + 1] = q.a;
+    out[at + 2] = q.b;
+    out[at + 3] = q.c;
+    out[at + 4] = q.d;
+}
+
+// Writes the head of a sheet with so many records, constraints and interactions.
+pub fn put_head(out: &mut [u32], records: usize, constraints: usize, interactions: usize)
+    requires { ⌜ (4 ≤ length (now out)) × (records < 2 ^ 32) × (constraints < 2 ^ 32) × (interactions < 2 ^ 32) ⌝ }
+    ensures { λ _. ⌜ now (out .exit) ≡ sets (now (out .entry)) 0 (1 ∷ records ∷ constraints ∷ interactions ∷ []) ⌝ }
+{
+    out[0] = 1;
+    out[1] = records as u32;
+    out[2] = constraints as u32;
+    out[3] = interactions as u32;
+}
+
 // How many constraints a checked sheet has.
 pub fn num_constraints(sheet: &[u32]) -> usize
     requires { ⌜ check prime (now sheet) ≡ good (readSheet (now sheet)) ⌝ }
@@ -82,7 +139,7 @@ pub fn constraints_at(sheet: &[u32]) -> usize
     requires { ⌜ check prime (now sheet) ≡ good (readSheet (now sheet)) ⌝ }
     ensures { λ r. ⌜ r ≡ constraintsAt (now (sheet .entry)) ⌝ }
 {
-    4 + 5 * wide(sheet[1])
+    records_end(wide(sheet[1]))
 }
 
 // Where its interactions start.
@@ -122,4 +179,13 @@ pub fn interaction_at(sheet: &[u32], at: usize) -> Interaction
     ensures { λ x. ⌜ x ≡ interactionFrom at (messageLength (now (sheet .entry)) at) ⌝ }
 {
     interaction_from(at, wide(sheet[at + 3]))
+}
+
+// Copies the bus and the weight of the interaction that starts at `at` to the one that starts at `to`.
+pub fn copy_bus_and_weight(sheet: &[u32], at: usize, out: &mut [u32], to: usize)
+    requires { ⌜ (at + 2 ≤ length (now sheet)) × (to + 2 ≤ length (now out)) ⌝ }
+    ensures { λ _. ⌜ now (out .exit) ≡ sets (now (out .entry)) to (getD (now (sheet .entry)) at 0 ∷ getD (now (sheet .entry)) (at + 1) 0 ∷ []) ⌝ }
+{
+    out[to] = sheet[at];
+    out[to + 1] = sheet[at + 1];
 }

@@ -6,7 +6,7 @@ use Prim.Native.Nat.{ℕ, suc, _+_, _*_, _-_, _≤_, _<_, max}
 use native.Mathlib.Omega.{arith}
 use native.Mathlib.Nat.{add-zero, sub-zero}
 use lib.Dec.{eqb}
-use lib.ListN.{length, getD, drop}
+use lib.ListN.{length, drop}
 use lib.Seq.{getD-drop, drop-drop}
 use Rattle.semantics.specs.Answer.{good}
 use Rattle.semantics.specs.Sheet.{Sheet, headWords, lengthOf}
@@ -14,6 +14,7 @@ use Rattle.semantics.specs.Check.{readRecord, readRecords, check}
 use Rattle.semantics.specs.Graph.{rotation, maxRotation}
 use Rattle.semantics.proofs.Encoding.{records-back, sheet-length}
 use Rattle.semantics.proofs.Access.{words-are, words-long}
+use Rattle.records.specs.Access.{nodeIn}
 use Rattle.sheet.specs.declared.Head.{Head}
 use Rattle.sheet.specs.Scans.{headOf}
 use Rattle.sheet_calls.specs.Replies.{largest}
@@ -29,14 +30,14 @@ Largest ws n i most = (i ≤ n) × (max most (left ws n i) ≡ largest (readReco
 pub largest-none : (ws : List ℕ) (n : ℕ) → Largest ws n 0 0
 largest-none ws n = (omega arith, omega (arith, ap (λ (m : ℕ). largest (readRecords m (drop 4 ws))) (sub-zero n)))
 
-next : (ws : List ℕ) (n i : ℕ) → i < n → left ws n i ≡ max (cond (eqb (getD ws (4 + 5 * i) 0) 1) (getD ws (4 + 5 * i + 3) 0) 0) (left ws n (i + 1))
+next : (ws : List ℕ) (n i : ℕ) → i < n → left ws n i ≡ max (cond (eqb (nodeIn ws i .kind) 1) (nodeIn ws i .c) 0) (left ws n (i + 1))
 unfolding largest readRecords readRecord rotation
 next ws n i h =
     let m : n - i ≡ suc (n - (i + 1)) = omega arith in
     let k : 4 + 5 * i + 5 ≡ 4 + 5 * (i + 1) = omega arith in
     rw (m, drop-drop 5 (4 + 5 * i) ws, k, getD-drop (4 + 5 * i) ws 0 0, getD-drop (4 + 5 * i) ws 3 0, add-zero)
 
-pub largest-more : (ws : List ℕ) (n i most : ℕ) {x y : ℕ} → i < n → y ≡ cond (eqb (getD ws (4 + 5 * i) 0) 1) (getD ws (4 + 5 * i + 3) 0) 0 → x ≡ max most y
+pub largest-more : (ws : List ℕ) (n i most : ℕ) {x y : ℕ} → i < n → y ≡ cond (eqb (nodeIn ws i .kind) 1) (nodeIn ws i .c) 0 → x ≡ max most y
     → Largest ws n i most → Largest ws n (i + 1) x
 largest-more ws n i most h e f g = (omega arith, omega (arith, next ws n i h, g .1))
 

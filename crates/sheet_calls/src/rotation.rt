@@ -12,7 +12,7 @@ fn offset_of(kind: u32, c: u32) -> usize
     ensures { λ r. ⌜ r ≡ cond (eqb kind 1) c 0 ⌝ }
 {
     if kind == 1 {
-        return c as usize;
+        return records::wide(c);
     }
     0
 }
@@ -34,8 +34,8 @@ pub fn largest_offset(s: &[u32], records: usize) -> usize
     let mut most = 0;
     let mut i = 0;
     while i < records {
-        let at = 4 + 5 * i;
-        most = larger(most, offset_of(s[at], s[at + 3]));
+        let q = records::record_at(s, i);
+        most = larger(most, offset_of(q.kind, q.c));
         i += 1;
     }
     most

@@ -14,11 +14,11 @@ use Rattle.listing.specs.Families.{widthOf, familyLines, HeadersInside}
 use Rattle.listing.proofs.Steps.{constraintsOf, interactionsOf, step-on, constraint-prints, interaction-prints}
 use Rattle.listing.proofs.Handing.{constraints-handed, numerators-handed, denominators-handed}
 use Rattle.grouping.specs.declared.Lengths.{Lengths}
-use Rattle.expansion.specs.declared.ConstraintLists.{ConstraintLists}
-use Rattle.expansion.specs.declared.ConstraintLists.the-variants as constraint
-use Rattle.expansion.specs.declared.InteractionLengths.{InteractionLengths}
-use Rattle.expansion.specs.declared.InteractionLists.{InteractionLists}
-use Rattle.expansion.specs.declared.InteractionLists.the-variants as interaction
+use Rattle.constraint_lists.specs.declared.ConstraintLists.{ConstraintLists}
+use Rattle.constraint_lists.specs.declared.ConstraintLists.the-variants as constraint
+use Rattle.interaction_lists.specs.declared.InteractionLengths.{InteractionLengths}
+use Rattle.interaction_lists.specs.declared.InteractionLists.{InteractionLists}
+use Rattle.interaction_lists.specs.declared.InteractionLists.the-variants as interaction
 use Rattle.expansion.specs.Answers.{constraintOutcome, interactionOutcome}
 use Rattle.sheet_listing.specs.Fronts.{frontLines, Fronts}
 use Rattle.sheet_listing.proofs.Sounds.{Sound, constraint-sound, interaction-sound, refused-line}

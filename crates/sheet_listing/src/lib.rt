@@ -9,10 +9,10 @@ ghost use Rattle.semantics.specs.Sheetlist.{line, endText, consText, interText,
 ghost use Rattle.listing.specs.declared.headers.Family.the-variants.{Numerators, Denominators};
 ghost use Rattle.listing.specs.Putting.{Room, Puts};
 ghost use Rattle.sheet_listing.specs.Fronts.{frontLines, Fronts, numberOf};
-use expansion::ConstraintLists;
-use expansion::InteractionLengths;
-use expansion::InteractionLists;
+use constraint_lists::ConstraintLists;
 use grouping::Lengths;
+use interaction_lists::InteractionLengths;
+use interaction_lists::InteractionLists;
 use libc::STDOUT_FILENO;
 use listing::headers;
 use listing::headers::Family;

@@ -4,59 +4,59 @@ ghost use mathlib.Core.List.{[]};
 ghost use lib.ListN.{length, getD};
 ghost use Rattle.semantics.specs.Arithmetic.{prime};
 ghost use Rattle.semantics.specs.Sheet.{recordOf};
-ghost use Rattle.semantics.specs.Call.{blockCheckCall, packCall, unpackCall, checkCall, maxRotationCall, numConstraintsCall, conversionCall, readerCall, writerCall, builderCall};
-ghost use Rattle.suhkelva.specs.Fields.{packedFields, recordFields, blockFields, sheetFields, numberFields, writtenFields};
-
-pub mod fields;
-
-use fields::SuhkelvaBlock;
-use fields::SuhkelvaNumber;
-use fields::SuhkelvaPacked;
-use fields::SuhkelvaRecord;
-use fields::SuhkelvaSheet;
-use fields::SuhkelvaWritten;
+ghost use Rattle.semantics.specs.Call.{blockCheckCall, packCall, unpackCall, checkCall, maxRotationCall, numConstraintsCall, conversionCall, readerCall, writerCall, builderCall, constraintCall, interactionCall};
+ghost use Rattle.c_replies.specs.Fields.{packedFields, recordFields, blockFields, sheetFields, numberFields, writtenFields};
+ghost use Rattle.c_list_replies.specs.Fields.{listFields, interactionListFields};
+use c_list_replies::SuhkelvaInteractionLists;
+use c_list_replies::SuhkelvaLists;
+use c_replies::SuhkelvaBlock;
+use c_replies::SuhkelvaNumber;
+use c_replies::SuhkelvaPacked;
+use c_replies::SuhkelvaRecord;
+use c_replies::SuhkelvaSheet;
+use c_replies::SuhkelvaWritten;
 use packed_var::PackedVar;
 
 #[no_mangle]
 pub extern "C" fn suhkelva_pack(kind: u32, a: u32, b: u32, c: u32, d: u32) -> SuhkelvaPacked
     ensures { λ r. ⌜ r ≡ packedFields (packCall (recordOf kind a b c d) .reply) ⌝ }
 {
-    fields::packed_fields(packing::pack(kind, a, b, c, d))
+    c_replies::packed_fields(packing::pack(kind, a, b, c, d))
 }
 
 #[no_mangle]
 pub extern "C" fn suhkelva_unpack(packed: u32) -> SuhkelvaRecord
     ensures { λ r. ⌜ r ≡ recordFields (unpackCall packed .reply) ⌝ }
 {
-    fields::record_fields(packing::unpack(PackedVar(packed)))
+    c_replies::record_fields(packing::unpack(PackedVar(packed)))
 }
 
 #[no_mangle]
 pub extern "C" fn suhkelva_block_check(bytes: &[u8], number: u32) -> SuhkelvaBlock
     ensures { λ r. ⌜ r ≡ blockFields (blockCheckCall (now (bytes .entry)) number .reply) ⌝ }
 {
-    fields::block_fields(block::block_check(bytes, number))
+    c_replies::block_fields(block::block_check(bytes, number))
 }
 
 #[no_mangle]
 pub extern "C" fn suhkelva_check_sheet(s: &[u32]) -> SuhkelvaSheet
     ensures { λ r. ⌜ r ≡ sheetFields (checkCall prime (now (s .entry)) .reply) ⌝ }
 {
-    fields::sheet_fields(sheet::check_sheet(s))
+    c_replies::sheet_fields(sheet::check_sheet(s))
 }
 
 #[no_mangle]
 pub extern "C" fn suhkelva_max_rotation(s: &[u32]) -> SuhkelvaNumber
     ensures { λ r. ⌜ r ≡ numberFields (maxRotationCall prime (now (s .entry)) .reply) ⌝ }
 {
-    fields::number_fields(sheet_calls::max_rotation(s))
+    c_replies::number_fields(sheet_calls::max_rotation(s))
 }
 
 #[no_mangle]
 pub extern "C" fn suhkelva_num_constraints(s: &[u32]) -> SuhkelvaNumber
     ensures { λ r. ⌜ r ≡ numberFields (numConstraintsCall prime (now (s .entry)) .reply) ⌝ }
 {
-    fields::number_fields(sheet_calls::num_constraints(s))
+    c_replies::number_fields(sheet_calls::num_constraints(s))
 }
 
 #[no_mangle]
@@ -64,7 +64,7 @@ pub extern "C" fn suhkelva_convert(s: &[u32], out: &mut [u32]) -> SuhkelvaWritte
     ensures reply { λ r. ⌜ r ≡ writtenFields (conversionCall prime (now (s .entry)) (length (now (out .entry))) .reply) ⌝ }
     ensures words { λ r. ⌜ now (out .exit) ≡ getD (conversionCall prime (now (s .entry)) (length (now (out .entry))) .slices) 0 [] ⌝ }
 {
-    fields::written_fields(sheet_calls::convert(s, out))
+    c_replies::written_fields(sheet_calls::convert(s, out))
 }
 
 #[no_mangle]
@@ -72,7 +72,7 @@ pub extern "C" fn suhkelva_read_blocks(bytes: &[u8], out: &mut [u32]) -> Suhkelv
     ensures reply { λ r. ⌜ r ≡ writtenFields (readerCall (now (bytes .entry)) (length (now (out .entry))) .reply) ⌝ }
     ensures words { λ r. ⌜ now (out .exit) ≡ getD (readerCall (now (bytes .entry)) (length (now (out .entry))) .slices) 0 [] ⌝ }
 {
-    fields::written_fields(block_reader::read_blocks(bytes, out))
+    c_replies::written_fields(block_reader::read_blocks(bytes, out))
 }
 
 #[no_mangle]
@@ -80,7 +80,7 @@ pub extern "C" fn suhkelva_write_blocks(s: &[u32], out: &mut [u8]) -> SuhkelvaWr
     ensures reply { λ r. ⌜ r ≡ writtenFields (writerCall prime (now (s .entry)) (length (now (out .entry))) .reply) ⌝ }
     ensures words { λ r. ⌜ now (out .exit) ≡ getD (writerCall prime (now (s .entry)) (length (now (out .entry))) .slices) 0 [] ⌝ }
 {
-    fields::written_fields(block_writer::write_blocks(s, out))
+    c_replies::written_fields(block_writer::write_blocks(s, out))
 }
 
 #[no_mangle]
@@ -89,5 +89,61 @@ pub extern "C" fn suhkelva_build(s: &[u32], scratch: &mut [u32], out: &mut [u32]
     ensures scratch_words { λ r. ⌜ now (scratch .exit) ≡ getD (builderCall prime (now (s .entry)) (length (now (scratch .entry))) (length (now (out .entry))) .slices) 0 [] ⌝ }
     ensures words { λ r. ⌜ now (out .exit) ≡ getD (builderCall prime (now (s .entry)) (length (now (scratch .entry))) (length (now (out .entry))) .slices) 1 [] ⌝ }
 {
-    fields::written_fields(dag::build(s, scratch, out))
+    c_replies::written_fields(dag::build(s, scratch, out))
+}
+
+#[no_mangle]
+pub extern "C" fn suhkelva_expand_constraints(
+    s: &[u32],
+    work: &mut [u32],
+    pool: &mut [u32],
+    headers: &mut [u32],
+    variables: &mut [u32],
+    terms: &mut [u32],
+) -> SuhkelvaLists
+    ensures reply { λ r. ⌜ r ≡ listFields (constraintCall prime (now (s .entry)) (length (now (work .entry))) (length (now (pool .entry))) (length (now (headers .entry))) (length (now (variables .entry))) (length (now (terms .entry))) .reply) ⌝ }
+    ensures work_words { λ r. ⌜ now (work .exit) ≡ getD (constraintCall prime (now (s .entry)) (length (now (work .entry))) (length (now (pool .entry))) (length (now (headers .entry))) (length (now (variables .entry))) (length (now (terms .entry))) .slices) 0 [] ⌝ }
+    ensures pool_words { λ r. ⌜ now (pool .exit) ≡ getD (constraintCall prime (now (s .entry)) (length (now (work .entry))) (length (now (pool .entry))) (length (now (headers .entry))) (length (now (variables .entry))) (length (now (terms .entry))) .slices) 1 [] ⌝ }
+    ensures header_words { λ r. ⌜ now (headers .exit) ≡ getD (constraintCall prime (now (s .entry)) (length (now (work .entry))) (length (now (pool .entry))) (length (now (headers .entry))) (length (now (variables .entry))) (length (now (terms .entry))) .slices) 2 [] ⌝ }
+    ensures variable_words { λ r. ⌜ now (variables .exit) ≡ getD (constraintCall prime (now (s .entry)) (length (now (work .entry))) (length (now (pool .entry))) (length (now (headers .entry))) (length (now (variables .entry))) (length (now (terms .entry))) .slices) 3 [] ⌝ }
+    ensures term_words { λ r. ⌜ now (terms .exit) ≡ getD (constraintCall prime (now (s .entry)) (length (now (work .entry))) (length (now (pool .entry))) (length (now (headers .entry))) (length (now (variables .entry))) (length (now (terms .entry))) .slices) 4 [] ⌝ }
+{
+    let lists = expansion::expand_constraints(s, work, pool, headers, variables, terms);
+    c_list_replies::list_fields(lists)
+}
+
+#[no_mangle]
+pub extern "C" fn suhkelva_expand_interactions(
+    s: &[u32],
+    work: &mut [u32],
+    pool: &mut [u32],
+    headers: &mut [u32],
+    variables: &mut [u32],
+    terms: &mut [u32],
+    denom_headers: &mut [u32],
+    denom_variables: &mut [u32],
+    denom_terms: &mut [u32],
+) -> SuhkelvaInteractionLists
+    ensures reply { λ r. ⌜ r ≡ interactionListFields (interactionCall prime (now (s .entry)) (length (now (work .entry))) (length (now (pool .entry))) (length (now (headers .entry))) (length (now (variables .entry))) (length (now (terms .entry))) (length (now («denom_headers» .entry))) (length (now («denom_variables» .entry))) (length (now («denom_terms» .entry))) .reply) ⌝ }
+    ensures work_words { λ r. ⌜ now (work .exit) ≡ getD (interactionCall prime (now (s .entry)) (length (now (work .entry))) (length (now (pool .entry))) (length (now (headers .entry))) (length (now (variables .entry))) (length (now (terms .entry))) (length (now («denom_headers» .entry))) (length (now («denom_variables» .entry))) (length (now («denom_terms» .entry))) .slices) 0 [] ⌝ }
+    ensures pool_words { λ r. ⌜ now (pool .exit) ≡ getD (interactionCall prime (now (s .entry)) (length (now (work .entry))) (length (now (pool .entry))) (length (now (headers .entry))) (length (now (variables .entry))) (length (now (terms .entry))) (length (now («denom_headers» .entry))) (length (now («denom_variables» .entry))) (length (now («denom_terms» .entry))) .slices) 1 [] ⌝ }
+    ensures header_words { λ r. ⌜ now (headers .exit) ≡ getD (interactionCall prime (now (s .entry)) (length (now (work .entry))) (length (now (pool .entry))) (length (now (headers .entry))) (length (now (variables .entry))) (length (now (terms .entry))) (length (now («denom_headers» .entry))) (length (now («denom_variables» .entry))) (length (now («denom_terms» .entry))) .slices) 2 [] ⌝ }
+    ensures variable_words { λ r. ⌜ now (variables .exit) ≡ getD (interactionCall prime (now (s .entry)) (length (now (work .entry))) (length (now (pool .entry))) (length (now (headers .entry))) (length (now (variables .entry))) (length (now (terms .entry))) (length (now («denom_headers» .entry))) (length (now («denom_variables» .entry))) (length (now («denom_terms» .entry))) .slices) 3 [] ⌝ }
+    ensures term_words { λ r. ⌜ now (terms .exit) ≡ getD (interactionCall prime (now (s .entry)) (length (now (work .entry))) (length (now (pool .entry))) (length (now (headers .entry))) (length (now (variables .entry))) (length (now (terms .entry))) (length (now («denom_headers» .entry))) (length (now («denom_variables» .entry))) (length (now («denom_terms» .entry))) .slices) 4 [] ⌝ }
+    ensures denom_header_words { λ r. ⌜ now («denom_headers» .exit) ≡ getD (interactionCall prime (now (s .entry)) (length (now (work .entry))) (length (now (pool .entry))) (length (now (headers .entry))) (length (now (variables .entry))) (length (now (terms .entry))) (length (now («denom_headers» .entry))) (length (now («denom_variables» .entry))) (length (now («denom_terms» .entry))) .slices) 5 [] ⌝ }
+    ensures denom_variable_words { λ r. ⌜ now («denom_variables» .exit) ≡ getD (interactionCall prime (now (s .entry)) (length (now (work .entry))) (length (now (pool .entry))) (length (now (headers .entry))) (length (now (variables .entry))) (length (now (terms .entry))) (length (now («denom_headers» .entry))) (length (now («denom_variables» .entry))) (length (now («denom_terms» .entry))) .slices) 6 [] ⌝ }
+    ensures denom_term_words { λ r. ⌜ now («denom_terms» .exit) ≡ getD (interactionCall prime (now (s .entry)) (length (now (work .entry))) (length (now (pool .entry))) (length (now (headers .entry))) (length (now (variables .entry))) (length (now (terms .entry))) (length (now («denom_headers» .entry))) (length (now («denom_variables» .entry))) (length (now («denom_terms» .entry))) .slices) 7 [] ⌝ }
+{
+    let lists = expansion::expand_interactions(
+        s,
+        work,
+        pool,
+        headers,
+        variables,
+        terms,
+        denom_headers,
+        denom_variables,
+        denom_terms,
+    );
+    c_list_replies::interaction_list_fields(lists)
 }

@@ -17,8 +17,7 @@ const USAGE: &str = "usage:
   driver plain-vs-rust [SHEETS] [SEED]   random sheets: the plain Rust written from document 01 against the Rust
   driver examples                        the examples of document 01 and of the known differences, likewise
   driver sheetlist                       what sheetlist prints for standard input, by the plain Rust
-  driver sample graphs                   sheets of all shapes with the Rust's graphs and numbers, and refused ones
-  driver sample lists                    sheets of all shapes with the Rust's lists, and refused ones";
+  driver sample                          sheets of all shapes with the Rust's graphs and lists, and refusals";
 
 fn main() -> ExitCode {
     let arguments: Vec<String> = std::env::args().skip(1).collect();
@@ -34,8 +33,7 @@ fn main() -> ExitCode {
         }
         (["examples"], ..) => Box::new(|| all_examples(&Plain)),
         (["sheetlist"], ..) => Box::new(list_input),
-        (["sample", "graphs"], ..) => Box::new(|| print_sample(sample::graphs())),
-        (["sample", "lists"], ..) => Box::new(|| print_sample(sample::lists())),
+        (["sample"], ..) => Box::new(|| print_sample(sample::sample())),
         _ => {
             eprintln!("{USAGE}");
             return ExitCode::from(2);

@@ -1,7 +1,5 @@
-//! Samples of answers for programs that replay them: sheets with the Rust's graph and numbers, sheets with the Rust's lists, and
-//! refusals. The formats stand in oracle/README.md.
-
-use std::fmt::Write;
+//! A sample of answers for the program that replays them: sheets with the Rust's graphs and lists, and refusals. Its form stands in
+//! oracle/README.md.
 
 use plain::calls::{Family, WORK};
 use plain::Sheet;
@@ -71,30 +69,16 @@ fn refused() -> Vec<Vec<u32>> {
     refused
 }
 
-/// Sheets with graphs.
-pub fn graphs() -> String {
-    let mut text = String::from(HEAD);
-    for (sheet, spare) in sheets() {
-        accepted(&mut text, &sheet, spare);
-    }
-    accepted(&mut text, &negatives(4_096), 0);
-    for words in refused() {
-        line(&mut text, "sheet", &words);
-        let refusal = Sheet::decode(&words).expect_err("no sheet");
-        line(&mut text, "refused", &[refusal.number, refusal.place]);
-    }
-    text
-}
-
-/// Sheets with lists: those above and their graphs, and of each row of the edges of the walk the first ones.
-pub fn lists() -> String {
-    let mut entries = vec![];
+/// Sheets of all shapes, their graphs, the first sheets of each row of the edges of the walk, and words that are no sheet, each with
+/// calls of the builder and of both expansions.
+pub fn sample() -> String {
+    let mut items = vec![];
     for (sheet, spare) in sheets().into_iter().chain([(negatives(400), 0)]) {
         let graph = rust::sheet_of(&rust::build(&sheet));
         let other = graph != sheet;
-        entries.extend(sheet_with_lists(&sheet, spare));
+        items.extend(sheet_with_calls(&sheet, spare));
         if other {
-            entries.extend(sheet_with_lists(&graph, 0));
+            items.extend(sheet_with_calls(&graph, 0));
         }
     }
     let mut rows = vec![];
@@ -102,82 +86,113 @@ pub fn lists() -> String {
         // its last record named by a constraint, a count and a field
         if rows.iter().filter(|&&row| row == edge.row).count() < 3 {
             rows.push(edge.row);
-            entries.extend(sheet_with_lists(&edge.sheet, 0));
+            items.extend(sheet_with_calls(&edge.sheet, 0));
         }
     }
     for words in refused() {
-        let call = |family: Family| {
+        items.push(sheet_item(&words));
+        items.push(refused_build(&words, 100, 100).expect("no sheet"));
+        for family in FAMILIES {
             let lent = vec![9; outputs(family)];
-            refused_call(family, &words, WORK, 100, &lent)
-        };
-        let [constraints, interactions] = FAMILIES.map(call);
-        entries.push(entry(&words, &[vec![constraints], vec![interactions]]));
+            items.push(refused_call(family, &words, WORK, 100, &lent));
+        }
     }
-    let count = entries.len();
-    format!("{count}\n{}", entries.concat())
+    let count = items.len();
+    format!("{count}\n{}", items.concat())
 }
 
-/// A sheet and its calls of each expansion: the Rust's lists where it is accepted, and refusals; none where it goes beyond what the
-/// sample may ask for.
-fn sheet_with_lists(sheet: &Sheet, spare: usize) -> Option<String> {
+fn sheet_item(words: &[u32]) -> String {
+    format!("0 {}", counted(words))
+}
+
+/// A sheet and its calls: the Rust's graph and, where they are accepted, its lists; and refusals. None where a call goes beyond what
+/// the sample may ask for.
+fn sheet_with_calls(sheet: &Sheet, spare: usize) -> Vec<String> {
     let words = with_spare(sheet, spare);
-    let mut calls = vec![];
+    let mut items = vec![sheet_item(&words)];
+    items.extend(builds(sheet, &words));
     for family in FAMILIES {
         let needs = needs(family, sheet);
         let pool = needs.pool;
         let lent = needs.outputs.clone().unwrap_or(vec![7; outputs(family)]);
         let small = words.len() <= MOST_WORDS && pool <= MOST_POOL;
         if !small || lent.iter().any(|&length| length > MOST_OUTPUT) {
-            return None;
+            return vec![];
         }
         let refused = |work, pool, lent: &[usize]| refused_call(family, &words, work, pool, lent);
-        let mut of_family = vec![match needs.outputs {
+        items.push(match needs.outputs {
             Ok(_) => {
                 let rust = rust_lists(family, sheet).expect("lists, as document 01 gives some");
-                accepted_call(pool, &lent, rust)
+                accepted_call(family, pool, &lent, rust)
             }
             Err(_) => refused(WORK, pool, &lent),
-        }];
-        of_family.push(refused(WORK - 1, pool, &lent));
+        });
+        items.push(refused(WORK - 1, pool, &lent));
         if let Some(short) = (2 * sheet.records.len()).checked_sub(1) {
-            of_family.push(refused(WORK, short, &lent));
+            items.push(refused(WORK, short, &lent));
         }
         let stored = &needs.stored;
         for &(_, total) in [stored.first(), stored.get(stored.len() / 2)]
             .into_iter()
             .flatten()
         {
-            of_family.push(refused(WORK, total - 1, &lent));
+            items.push(refused(WORK, total - 1, &lent));
         }
         if needs.outputs.is_ok() {
             for k in (0..lent.len()).filter(|&k| lent[k] > 0) {
                 let mut short = lent.clone();
                 short[k] -= 1;
-                of_family.push(refused(WORK, pool, &short));
+                items.push(refused(WORK, pool, &short));
             }
         }
-        calls.push(of_family);
     }
-    Some(entry(&words, &calls))
+    items
 }
 
-/// Words, and the calls of each family behind their number.
-fn entry(words: &[u32], calls: &[Vec<String>]) -> String {
-    let mut text = counted(words);
-    for of_family in calls {
-        text += &format!("{}\n{}", of_family.len(), of_family.concat());
+/// The Rust's graph, and the refusals where scratch or output is one short.
+fn builds(sheet: &Sheet, words: &[u32]) -> Vec<String> {
+    let graph = rust::sheet_of(&rust::build(sheet)).encode();
+    let (records, length) = (sheet.records.len(), sheet.length());
+    let lent = decimal(&[1, records as u32, length as u32, 0, 0]);
+    let mut items = vec![lent + &counted(&graph)];
+    for (scratch, out) in [(records.saturating_sub(1), length), (records, length - 1)] {
+        items.extend(refused_build(words, scratch, out));
     }
-    text
+    items
 }
 
-fn lent_words(work: usize, pool: usize, lent: &[usize]) -> Vec<u32> {
+/// A call of the builder, if it is refused.
+fn refused_build(words: &[u32], scratch: usize, out: usize) -> Option<String> {
+    let refusal = Plain.builder(words, scratch, out).refusal()?;
+    let lent = [1, scratch as u32, out as u32];
+    Some(decimal(
+        &[&lent[..], &[refusal.number, refusal.place]].concat(),
+    ))
+}
+
+/// The calls of a family have this number in the sample.
+fn kind(family: Family) -> u32 {
+    match family {
+        Family::Constraints => 2,
+        Family::Interactions => 3,
+    }
+}
+
+/// A call's kind, and what is lent.
+fn lent_words(family: Family, work: usize, pool: usize, lent: &[usize]) -> Vec<u32> {
     let lengths = [&[work, pool], lent].concat();
-    lengths.into_iter().map(|length| length as u32).collect()
+    let lengths = lengths.into_iter().map(|length| length as u32);
+    [kind(family)].into_iter().chain(lengths).collect()
 }
 
-/// A call that is accepted: what is lent, 0, 0, each list behind its length, and the further numbers.
-fn accepted_call(pool: usize, lent: &[usize], (lists, numbers): Lists) -> String {
-    let mut text = decimal(&[&lent_words(WORK, pool, lent)[..], &[0, 0]].concat());
+/// A call that is accepted: its kind, what is lent, 0, 0, each list behind its length, and the further numbers.
+fn accepted_call(
+    family: Family,
+    pool: usize,
+    lent: &[usize],
+    (lists, numbers): Lists,
+) -> String {
+    let mut text = decimal(&[&lent_words(family, WORK, pool, lent)[..], &[0, 0]].concat());
     for list in &lists {
         text += &counted(list);
     }
@@ -187,12 +202,12 @@ fn accepted_call(pool: usize, lent: &[usize], (lists, numbers): Lists) -> String
     text
 }
 
-/// A call that is refused: what is lent, number and place.
+/// A call that is refused: its kind, what is lent, number and place.
 fn refused_call(family: Family, words: &[u32], work: usize, pool: usize, lent: &[usize]) -> String {
     let outcome = Plain.expand(family, words, work, pool, lent);
     let refusal = outcome.refusal().expect("a refusal");
     let refusal = [refusal.number, refusal.place];
-    decimal(&[&lent_words(work, pool, lent)[..], &refusal].concat())
+    decimal(&[&lent_words(family, work, pool, lent)[..], &refusal].concat())
 }
 
 /// A line of numbers behind how many they are.
@@ -205,42 +220,12 @@ fn decimal(numbers: &[u32]) -> String {
     numbers.join(" ") + "\n"
 }
 
-const HEAD: &str = "\
-# Sheets with their graphs, and refused ones: written by `driver sample graphs`, described in oracle/README.md.
-";
-
 /// A chain of negatives.
 fn negatives(count: u32) -> Sheet {
     Sheet {
         records: Records::negatives(count).0,
         constraints: vec![count - 1],
         interactions: vec![],
-    }
-}
-
-/// A sheet: the Rust's numbers and graph, and the refusals where scratch or output is one short.
-fn accepted(text: &mut String, sheet: &Sheet, spare: usize) {
-    let words = with_spare(sheet, spare);
-    line(text, "sheet", &words);
-    let source = rust::expression_dag(sheet);
-    let rotation = source.max_rotation();
-    let constraints = source.num_constraints();
-    line(text, "numbers", &[rotation as u32, constraints as u32]);
-
-    let dag = rust::build(sheet);
-    let graph = rust::sheet_of(&dag).encode();
-    let (records, length) = (sheet.records.len(), sheet.length());
-    line(text, "lent", &[records as u32, length as u32]);
-    line(text, "graph", &graph);
-    let rotation = dag.constraints.max_rotation();
-    let constraints = dag.constraints.num_constraints();
-    line(text, "numbers", &[rotation as u32, constraints as u32]);
-
-    for (scratch, out) in [(records.saturating_sub(1), length), (records, length - 1)] {
-        if let Some(refusal) = Plain.builder(&words, scratch, out).refusal() {
-            line(text, "lent", &[scratch as u32, out as u32]);
-            line(text, "refused", &[refusal.number, refusal.place]);
-        }
     }
 }
 
@@ -253,12 +238,4 @@ fn by(edge: Edge, number: u32) -> Option<Vec<u32>> {
         }
         _ => None,
     }
-}
-
-fn line(text: &mut String, name: &str, numbers: &[u32]) {
-    text.push_str(name);
-    for number in numbers {
-        write!(text, " {number:x}").expect("text takes any length");
-    }
-    text.push('\n');
 }

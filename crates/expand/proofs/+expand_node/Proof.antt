@@ -1,475 +1,254 @@
-use mathlib.Core.Path.{subst}
+use mathlib.Core.Path.{_≡_, sym, subst, _∙_}
+use Prim.Native.Nat.{ℕ, _≤_, _<_}
 use native.Mathlib.Omega.{arith}
 use borrow.Author.Needs.{needs}
-use Prim.Native.Nat.{ℕ, _<_}
-use Rattle.records.proofs.Visits.{record-inside}
-use Rattle.expand.proofs.Expanding.{visits-seen, finishing-none, visits-none, left-low, ready-left, left-refused, finishing-one, visits-one, right-low, ready-right, right-refused, finishing-two, visits-two}
 use borrow.Fn.Kinds.{In}
 use borrow.Fn.PlainCycle.{Measures, is, falls, and}
+use Rattle.records.specs.Access.{nodeIn}
+use Rattle.records.proofs.Visits.{record-inside}
+use Rattle.records.proofs.kind_at.Reads as kind-at-reads
+use Rattle.records.proofs.left_at.Reads as left-at-reads
+use Rattle.records.proofs.right_at.Reads as right-at-reads
+use Rattle.expand.proofs.Expanding.{visits-seen, Fresh, finishing-none, visits-none, left-low, ready-left, Left, left-refused, finishing-one, visits-one, right-low, ready-right, Right, right-refused, finishing-two, visits-two}
 use Rattle.expand.proofs.expand_node.Reads as expand-node
 use Rattle.expand.proofs.expand_node.Kinds as expand-node-kinds
-use Rattle.expand.proofs.+expand_node.Lts-expand_node as expand-node-lts
+use Rattle.expand.proofs.+expand_node.Lts-expand_node as lts
 use Rattle.expand.proofs.finish_record.Reads as finish-record-reads
-use Rattle.records.proofs.record_at.Reads as record-at-reads
-use Rattle.records.proofs.wide.Reads as wide-reads
 use Rattle.expand.proofs.+expand_node.{statement}
 use Rattle.expand.proofs.+expand_node.Tie.{close}
 
-abbrev μ-expand-node : Measures 3 expand-node-kinds.ps ℕ
-μ-expand-node κs a = a .1 .1 .1 .0
+abbrev μ : Measures 3 expand-node-kinds.ps ℕ
+μ κs a = a .1 .1 .1 .0
 
-abbrev expand-node-at : ℕ → In 3 expand-node-kinds.ps
-expand-node-at t =
-    and 3 expand-node-kinds.ps (is 3 expand-node-kinds.ps μ-expand-node t) expand-node.Pre
+abbrev At : ℕ → In 3 expand-node-kinds.ps
+At t = and 3 expand-node-kinds.ps (is 3 expand-node-kinds.ps μ t) expand-node.Pre
 
-abbrev expand-node-below : ℕ → In 3 expand-node-kinds.ps
-expand-node-below t =
-    and 3 expand-node-kinds.ps (falls 3 expand-node-kinds.ps _<_ μ-expand-node t) expand-node.Pre
+abbrev Below : ℕ → In 3 expand-node-kinds.ps
+Below t = and 3 expand-node-kinds.ps (falls 3 expand-node-kinds.ps _<_ μ t) expand-node.Pre
 
--- src/expand.rt:63:13
-expand-node-mul-if1 : (t : ℕ) → expand-node-lts.Need-mul-if1 (
-  record-at-reads.Asked,
-  record-at-reads.Learnt,
+abbrev claims : ℕ → lts.Claims
+claims t = (
+  kind-at-reads.Asked,
+  kind-at-reads.Learnt,
   finish-record-reads.Asked,
   finish-record-reads.Learnt,
-  wide-reads.Asked,
-  wide-reads.Learnt,
-  expand-node-below t,
+  left-at-reads.Asked,
+  left-at-reads.Learnt,
+  Below t,
   expand-node.Post,
-) (expand-node-at t) expand-node.Post
-expand-node-mul-if1 t c = search needs
+  right-at-reads.Asked,
+  right-at-reads.Learnt,
+)
 
--- src/expand.rt:63:8
-expand-node-mul-if1-2 : (t : ℕ) → expand-node-lts.Need-mul-if1-2 (
-  record-at-reads.Asked,
-  record-at-reads.Learnt,
-  finish-record-reads.Asked,
-  finish-record-reads.Learnt,
-  wide-reads.Asked,
-  wide-reads.Learnt,
-  expand-node-below t,
-  expand-node.Post,
-) (expand-node-at t) expand-node.Post
-expand-node-mul-if1-2 t c = search needs
+module _ (t : ℕ) where
+  -- The places where the record is not expanded yet, and where each child's answer is there.
+  abbrev IsNew : Type 0
+  IsNew = lts.Else1 (claims t) (At t) expand-node.Post
 
--- src/expand.rt:63:8
-expand-node-slice-read-if1 : (t : ℕ) → expand-node-lts.Need-slice-read-if1 (
-  record-at-reads.Asked,
-  record-at-reads.Learnt,
-  finish-record-reads.Asked,
-  finish-record-reads.Learnt,
-  wide-reads.Asked,
-  wide-reads.Learnt,
-  expand-node-below t,
-  expand-node.Post,
-) (expand-node-at t) expand-node.Post
-expand-node-slice-read-if1 t c = search needs
+  abbrev IsParent : Type 0
+  IsParent = lts.Else2 (claims t) (At t) expand-node.Post
 
--- src/expand.rt:64:9
-expand-node-returns : (t : ℕ) → expand-node-lts.Need-returns (
-  record-at-reads.Asked,
-  record-at-reads.Learnt,
-  finish-record-reads.Asked,
-  finish-record-reads.Learnt,
-  wide-reads.Asked,
-  wide-reads.Learnt,
-  expand-node-below t,
-  expand-node.Post,
-) (expand-node-at t) expand-node.Post
-expand-node-returns t c = visits-seen (c .before .before .before .before .before .args .sheet .now) (c .before .before .before .before .before .args .r) (c .before .before .before .before .before .args .work .now) (c .before .before .before .before .before .args .pool .now) (c .before .before .before .before .before .args .used) (c .before .before .before .before .before .pre .1) (c .if1 .taken)
+  abbrev HasTwo : Type 0
+  HasTwo = lts.Else3 (claims t) (At t) expand-node.Post
 
--- src/expand.rt:66:9
-expand-node-record-at-requires : (t : ℕ) → expand-node-lts.Need-record-at-requires (
-  record-at-reads.Asked,
-  record-at-reads.Learnt,
-  finish-record-reads.Asked,
-  finish-record-reads.Learnt,
-  wide-reads.Asked,
-  wide-reads.Learnt,
-  expand-node-below t,
-  expand-node.Post,
-) (expand-node-at t) expand-node.Post
-expand-node-record-at-requires t c κs = record-inside (c .before .before .before .before .before .args .sheet .now) (c .before .before .before .before .before .pre .1 .walking .checked) (c .before .before .before .before .before .args .r) (c .before .before .before .before .before .pre .1 .inside)
+  abbrev HasLeft : Type 0
+  HasLeft = lts.After-expand-node (claims t) (At t) expand-node.Post
 
--- src/expand.rt:68:9
-expand-node-finish-record-requires : (t : ℕ) → expand-node-lts.Need-finish-record-requires (
-  record-at-reads.Asked,
-  record-at-reads.Learnt,
-  finish-record-reads.Asked,
-  finish-record-reads.Learnt,
-  wide-reads.Asked,
-  wide-reads.Learnt,
-  expand-node-below t,
-  expand-node.Post,
-) (expand-node-at t) expand-node.Post
-expand-node-finish-record-requires t c κs = finishing-none (c .before .before .before .before .before .before .before .before .before .before .args .sheet .now) (c .before .before .before .before .before .before .before .before .before .before .args .r) (c .before .before .before .before .before .before .before .before .before .before .args .work .now) (c .before .before .before .before .before .before .before .before .before .before .args .pool .now) (c .before .before .before .before .before .before .before .before .before .before .args .used) (c .before .before .before .before .before .before .before .before .before .before .pre .1) (c .before .before .before .before .before .if1 .left) (c .before .before .before .before .record-at .result) (c .before .before .before .before .record-at .ensures) (c .before .before .if2 .taken)
+  abbrev HasRight : Type 0
+  HasRight = lts.After-expand-node2 (claims t) (At t) expand-node.Post
 
--- src/expand.rt:68:9
-expand-node-same-length : (t : ℕ) → expand-node-lts.Need-same-length (
-  record-at-reads.Asked,
-  record-at-reads.Learnt,
-  finish-record-reads.Asked,
-  finish-record-reads.Learnt,
-  wide-reads.Asked,
-  wide-reads.Learnt,
-  expand-node-below t,
-  expand-node.Post,
-) (expand-node-at t) expand-node.Post
-expand-node-same-length t c = search needs
+  abbrev start : IsNew → lts.Start (claims t) (At t) expand-node.Post
+  start c = c .before .before .before .before .before
 
--- src/expand.rt:68:9
-expand-node-same-length-2 : (t : ℕ) → expand-node-lts.Need-same-length-2 (
-  record-at-reads.Asked,
-  record-at-reads.Learnt,
-  finish-record-reads.Asked,
-  finish-record-reads.Learnt,
-  wide-reads.Asked,
-  wide-reads.Learnt,
-  expand-node-below t,
-  expand-node.Post,
-) (expand-node-at t) expand-node.Post
-expand-node-same-length-2 t c = search needs
+  fresh : (c : IsNew) → let a = start c .args in Fresh (a .sheet .now) (a .r) (a .work .now) (a .pool .now) (a .used)
+  fresh c = record { ready = start c .pre .1; free = c .if1 .left }
 
--- src/expand.rt:68:9
-expand-node-returns-2 : (t : ℕ) → expand-node-lts.Need-returns-2 (
-  record-at-reads.Asked,
-  record-at-reads.Learnt,
-  finish-record-reads.Asked,
-  finish-record-reads.Learnt,
-  wide-reads.Asked,
-  wide-reads.Learnt,
-  expand-node-below t,
-  expand-node.Post,
-) (expand-node-at t) expand-node.Post
-expand-node-returns-2 t c = visits-none (c .before .before .before .before .before .before .before .before .before .before .before .before .before .before .before .args .sheet .now) (c .before .before .before .before .before .before .before .before .before .before .before .before .before .before .before .args .r) (c .before .before .before .before .before .before .before .before .before .before .before .before .before .before .before .args .work .now) (c .before .before .before .before .before .before .before .before .before .before .before .before .before .before .before .args .pool .now) (c .before .before .before .before .before .before .before .before .before .before .before .before .before .before .before .args .used) (c .before .before .before .before .before .before .before .before .before .before .before .before .before .before .before .pre .1) (c .before .before .before .before .before .before .before .before .before .before .if1 .left) (c .before .before .before .before .before .before .before .before .before .record-at .result) (c .before .before .before .before .before .before .before .before .before .record-at .ensures) (c .before .before .before .before .before .before .before .if2 .taken) (c .before .before .before .before .finish-record .last .1 .1 .0) (c .before .before .before .before .finish-record .result) (c .before .before .before .before .finish-record .ensures)
+  parent : (c : IsParent) → let a = start (c .before .before) .args in 6 ≤ nodeIn (a .sheet .now) (a .r) .kind
+  parent c = omega (arith, c .if2 .left, c .before .kind-at .ensures)
 
--- src/expand.rt:70:9
-expand-node-wide-requires : (t : ℕ) → expand-node-lts.Need-wide-requires (
-  record-at-reads.Asked,
-  record-at-reads.Learnt,
-  finish-record-reads.Asked,
-  finish-record-reads.Learnt,
-  wide-reads.Asked,
-  wide-reads.Learnt,
-  expand-node-below t,
-  expand-node.Post,
-) (expand-node-at t) expand-node.Post
-expand-node-wide-requires t c κs = search needs
+  abbrev is-new : HasLeft → IsNew
+  is-new c = c .before .before .before .before .before .before
 
--- src/expand.rt:71:9
-expand-node-expand-node-requires : (t : ℕ) → expand-node-lts.Need-expand-node-requires (
-  record-at-reads.Asked,
-  record-at-reads.Learnt,
-  finish-record-reads.Asked,
-  finish-record-reads.Learnt,
-  wide-reads.Asked,
-  wide-reads.Learnt,
-  expand-node-below t,
-  expand-node.Post,
-) (expand-node-at t) expand-node.Post
-expand-node-expand-node-requires t c κs = (subst (λ (m : ℕ). (c .before .before .wide .result) < m) (c .before .before .before .before .before .before .before .before .before .before .before .pre .0) (left-low (c .before .before .before .before .before .before .before .before .before .before .before .args .sheet .now) (c .before .before .before .before .before .before .before .before .before .before .before .args .r) (c .before .before .before .before .before .before .before .before .before .before .before .args .work .now) (c .before .before .before .before .before .before .before .before .before .before .before .args .pool .now) (c .before .before .before .before .before .before .before .before .before .before .before .args .used) (c .before .before .before .before .before .before .before .before .before .before .before .pre .1) (c .before .before .before .before .before .before .if1 .left) (c .before .before .before .before .before .record-at .result) (c .before .before .before .before .before .record-at .ensures) (omega (arith, c .before .before .before .if2 .left)) (c .before .before .wide .result) (c .before .before .wide .ensures)), ready-left (c .before .before .before .before .before .before .before .before .before .before .before .args .sheet .now) (c .before .before .before .before .before .before .before .before .before .before .before .args .r) (c .before .before .before .before .before .before .before .before .before .before .before .args .work .now) (c .before .before .before .before .before .before .before .before .before .before .before .args .pool .now) (c .before .before .before .before .before .before .before .before .before .before .before .args .used) (c .before .before .before .before .before .before .before .before .before .before .before .pre .1) (c .before .before .before .before .before .before .if1 .left) (c .before .before .before .before .before .record-at .result) (c .before .before .before .before .before .record-at .ensures) (omega (arith, c .before .before .before .if2 .left)) (c .before .before .wide .result) (c .before .before .wide .ensures))
+  left : (c : HasLeft) → let a = start (is-new c) .args in
+      let v = c .expand-node in
+      Left (a .sheet .now) (a .r) (a .work .now) (a .pool .now) (a .used) (c .before .left-at .result) (v .last .1 .0) (v .last .1 .1 .0) (v .result)
+  left c = record {
+    fresh = fresh (is-new c);
+    parent = parent (c .before .before .before .before);
+    left-is = c .before .left-at .ensures;
+    same-room = c .expand-node .kept .1 .0;
+    visits = c .expand-node .ensures;
+  }
 
--- src/expand.rt:72:24
-expand-node-enum-known-first : (t : ℕ) → expand-node-lts.Need-enum-known-first (
-  record-at-reads.Asked,
-  record-at-reads.Learnt,
-  finish-record-reads.Asked,
-  finish-record-reads.Learnt,
-  wide-reads.Asked,
-  wide-reads.Learnt,
-  expand-node-below t,
-  expand-node.Post,
-) (expand-node-at t) expand-node.Post
-expand-node-enum-known-first t c = search needs
+  two : (c : HasTwo) → let a = start (is-new (c .before .before .before .before .before .before .before .before .before)) .args in nodeIn (a .sheet .now) (a .r) .kind ≡ 8 → ⊥
+  two c e = c .if3 .left (c .before .kind-at2 .ensures ∙ e)
 
--- src/expand.rt:73:9
-expand-node-enum-told : (t : ℕ) → expand-node-lts.Need-enum-told (
-  record-at-reads.Asked,
-  record-at-reads.Learnt,
-  finish-record-reads.Asked,
-  finish-record-reads.Learnt,
-  wide-reads.Asked,
-  wide-reads.Learnt,
-  expand-node-below t,
-  expand-node.Post,
-) (expand-node-at t) expand-node.Post
-expand-node-enum-told t c = search needs
+  abbrev has-left : HasRight → HasLeft
+  has-left c = c .before .before .before .before .before .before .before .before .before .before .before .before .before
 
--- src/expand.rt:73:9
-expand-node-same-length-3 : (t : ℕ) → expand-node-lts.Need-same-length-3 (
-  record-at-reads.Asked,
-  record-at-reads.Learnt,
-  finish-record-reads.Asked,
-  finish-record-reads.Learnt,
-  wide-reads.Asked,
-  wide-reads.Learnt,
-  expand-node-below t,
-  expand-node.Post,
-) (expand-node-at t) expand-node.Post
-expand-node-same-length-3 t c = search needs
+  right : (c : HasRight) → let a = start (is-new (has-left c)) .args in
+      let w = has-left c .expand-node in
+      let v = c .expand-node2 in
+      Right (a .sheet .now) (a .r) (a .work .now) (a .pool .now) (a .used) (has-left c .before .left-at .result) (w .last .1 .0) (w .last .1 .1 .0) (w .result)
+      (c .before .before .before .before .before .before .before .answer .given .0 .0) (c .before .right-at .result) (v .last .1 .0) (v .last .1 .1 .0) (v .result)
+  right c = record {
+    left = left (has-left c);
+    taken = c .before .before .before .before .before .before .before .answer .given .1;
+    two = two (c .before .before .before .before);
+    right-is = c .before .right-at .ensures;
+    same-room = c .expand-node2 .kept .1 .0;
+    visits = c .expand-node2 .ensures;
+  }
 
--- src/expand.rt:73:9
-expand-node-same-length-4 : (t : ℕ) → expand-node-lts.Need-same-length-4 (
-  record-at-reads.Asked,
-  record-at-reads.Learnt,
-  finish-record-reads.Asked,
-  finish-record-reads.Learnt,
-  wide-reads.Asked,
-  wide-reads.Learnt,
-  expand-node-below t,
-  expand-node.Post,
-) (expand-node-at t) expand-node.Post
-expand-node-same-length-4 t c = search needs
+  mul-if1 : lts.Need-mul-if1 (claims t) (At t) expand-node.Post
+  mul-if1 c = search needs
 
--- src/expand.rt:73:9
-expand-node-returns-3 : (t : ℕ) → expand-node-lts.Need-returns-3 (
-  record-at-reads.Asked,
-  record-at-reads.Learnt,
-  finish-record-reads.Asked,
-  finish-record-reads.Learnt,
-  wide-reads.Asked,
-  wide-reads.Learnt,
-  expand-node-below t,
-  expand-node.Post,
-) (expand-node-at t) expand-node.Post
-expand-node-returns-3 t c = left-refused (c .before .before .before .before .before .before .before .before .before .before .before .before .before .before .before .before .before .before .args .sheet .now) (c .before .before .before .before .before .before .before .before .before .before .before .before .before .before .before .before .before .before .args .r) (c .before .before .before .before .before .before .before .before .before .before .before .before .before .before .before .before .before .before .args .work .now) (c .before .before .before .before .before .before .before .before .before .before .before .before .before .before .before .before .before .before .args .pool .now) (c .before .before .before .before .before .before .before .before .before .before .before .before .before .before .before .before .before .before .args .used) (c .before .before .before .before .before .before .before .before .before .before .before .before .before .before .before .before .before .before .pre .1) (c .before .before .before .before .before .before .before .before .before .before .before .before .before .if1 .left) (c .before .before .before .before .before .before .before .before .before .before .before .before .record-at .result) (c .before .before .before .before .before .before .before .before .before .before .before .before .record-at .ensures) (omega (arith, c .before .before .before .before .before .before .before .before .before .before .if2 .left)) (c .before .before .before .before .before .before .before .before .before .wide .result) (c .before .before .before .before .before .before .before .before .before .wide .ensures) (c .before .before .before .before .before .before .expand-node .last .1 .0) (c .before .before .before .before .before .before .expand-node .last .1 .1 .0) (c .before .before .before .before .before .before .expand-node .kept .1 .0) (c .before .before .before .before .before .before .expand-node .result) (c .before .before .before .before .before .before .expand-node .ensures) (c .enum-told .given .0 .0) (c .enum-told .given .1)
+  mul-if1-2 : lts.Need-mul-if1-2 (claims t) (At t) expand-node.Post
+  mul-if1-2 c = search needs
 
--- src/expand.rt:76:9
-expand-node-finish-record-requires-2 : (t : ℕ) → expand-node-lts.Need-finish-record-requires-2 (
-  record-at-reads.Asked,
-  record-at-reads.Learnt,
-  finish-record-reads.Asked,
-  finish-record-reads.Learnt,
-  wide-reads.Asked,
-  wide-reads.Learnt,
-  expand-node-below t,
-  expand-node.Post,
-) (expand-node-at t) expand-node.Post
-expand-node-finish-record-requires-2 t c κs = finishing-one (c .before .before .before .before .before .before .before .before .before .before .before .before .before .before .before .before .before .before .before .before .before .before .before .args .sheet .now) (c .before .before .before .before .before .before .before .before .before .before .before .before .before .before .before .before .before .before .before .before .before .before .before .args .r) (c .before .before .before .before .before .before .before .before .before .before .before .before .before .before .before .before .before .before .before .before .before .before .before .args .work .now) (c .before .before .before .before .before .before .before .before .before .before .before .before .before .before .before .before .before .before .before .before .before .before .before .args .pool .now) (c .before .before .before .before .before .before .before .before .before .before .before .before .before .before .before .before .before .before .before .before .before .before .before .args .used) (c .before .before .before .before .before .before .before .before .before .before .before .before .before .before .before .before .before .before .before .before .before .before .before .pre .1) (c .before .before .before .before .before .before .before .before .before .before .before .before .before .before .before .before .before .before .if1 .left) (c .before .before .before .before .before .before .before .before .before .before .before .before .before .before .before .before .before .record-at .result) (c .before .before .before .before .before .before .before .before .before .before .before .before .before .before .before .before .before .record-at .ensures) (omega (arith, c .before .before .before .before .before .before .before .before .before .before .before .before .before .before .before .if2 .left)) (c .before .before .before .before .before .before .before .before .before .before .before .before .before .before .wide .result) (c .before .before .before .before .before .before .before .before .before .before .before .before .before .before .wide .ensures) (c .before .before .before .before .before .before .before .before .before .before .before .expand-node .last .1 .0) (c .before .before .before .before .before .before .before .before .before .before .before .expand-node .last .1 .1 .0) (c .before .before .before .before .before .before .before .before .before .before .before .expand-node .kept .1 .0) (c .before .before .before .before .before .before .before .before .before .before .before .expand-node .result) (c .before .before .before .before .before .before .before .before .before .before .before .expand-node .ensures) (c .before .before .before .before .before .first .given .0 .0) (c .before .before .before .before .before .first .given .1) (c .before .before .if3 .taken)
+  slice-read-if1 : lts.Need-slice-read-if1 (claims t) (At t) expand-node.Post
+  slice-read-if1 c = search needs
 
--- src/expand.rt:76:9
-expand-node-same-length-5 : (t : ℕ) → expand-node-lts.Need-same-length-5 (
-  record-at-reads.Asked,
-  record-at-reads.Learnt,
-  finish-record-reads.Asked,
-  finish-record-reads.Learnt,
-  wide-reads.Asked,
-  wide-reads.Learnt,
-  expand-node-below t,
-  expand-node.Post,
-) (expand-node-at t) expand-node.Post
-expand-node-same-length-5 t c = search needs
+  returns : lts.Need-returns (claims t) (At t) expand-node.Post
+  returns c = visits-seen (c .before .before .before .before .before .pre .1) (c .if1 .taken)
 
--- src/expand.rt:76:9
-expand-node-same-length-6 : (t : ℕ) → expand-node-lts.Need-same-length-6 (
-  record-at-reads.Asked,
-  record-at-reads.Learnt,
-  finish-record-reads.Asked,
-  finish-record-reads.Learnt,
-  wide-reads.Asked,
-  wide-reads.Learnt,
-  expand-node-below t,
-  expand-node.Post,
-) (expand-node-at t) expand-node.Post
-expand-node-same-length-6 t c = search needs
+  kind-at-requires : lts.Need-kind-at-requires (claims t) (At t) expand-node.Post
+  kind-at-requires c κs =
+      let s = start c in
+      record-inside (s .args .sheet .now) (s .pre .1 .walking .checked) (s .args .r) (s .pre .1 .inside)
 
--- src/expand.rt:76:9
-expand-node-returns-4 : (t : ℕ) → expand-node-lts.Need-returns-4 (
-  record-at-reads.Asked,
-  record-at-reads.Learnt,
-  finish-record-reads.Asked,
-  finish-record-reads.Learnt,
-  wide-reads.Asked,
-  wide-reads.Learnt,
-  expand-node-below t,
-  expand-node.Post,
-) (expand-node-at t) expand-node.Post
-expand-node-returns-4 t c = visits-one (c .before .before .before .before .before .before .before .before .before .before .before .before .before .before .before .before .before .before .before .before .before .before .before .before .before .before .before .before .args .sheet .now) (c .before .before .before .before .before .before .before .before .before .before .before .before .before .before .before .before .before .before .before .before .before .before .before .before .before .before .before .before .args .r) (c .before .before .before .before .before .before .before .before .before .before .before .before .before .before .before .before .before .before .before .before .before .before .before .before .before .before .before .before .args .work .now) (c .before .before .before .before .before .before .before .before .before .before .before .before .before .before .before .before .before .before .before .before .before .before .before .before .before .before .before .before .args .pool .now) (c .before .before .before .before .before .before .before .before .before .before .before .before .before .before .before .before .before .before .before .before .before .before .before .before .before .before .before .before .args .used) (c .before .before .before .before .before .before .before .before .before .before .before .before .before .before .before .before .before .before .before .before .before .before .before .before .before .before .before .before .pre .1) (c .before .before .before .before .before .before .before .before .before .before .before .before .before .before .before .before .before .before .before .before .before .before .before .if1 .left) (c .before .before .before .before .before .before .before .before .before .before .before .before .before .before .before .before .before .before .before .before .before .before .record-at .result) (c .before .before .before .before .before .before .before .before .before .before .before .before .before .before .before .before .before .before .before .before .before .before .record-at .ensures) (omega (arith, c .before .before .before .before .before .before .before .before .before .before .before .before .before .before .before .before .before .before .before .before .if2 .left)) (c .before .before .before .before .before .before .before .before .before .before .before .before .before .before .before .before .before .before .before .wide .result) (c .before .before .before .before .before .before .before .before .before .before .before .before .before .before .before .before .before .before .before .wide .ensures) (c .before .before .before .before .before .before .before .before .before .before .before .before .before .before .before .before .expand-node .last .1 .0) (c .before .before .before .before .before .before .before .before .before .before .before .before .before .before .before .before .expand-node .last .1 .1 .0) (c .before .before .before .before .before .before .before .before .before .before .before .before .before .before .before .before .expand-node .kept .1 .0) (c .before .before .before .before .before .before .before .before .before .before .before .before .before .before .before .before .expand-node .result) (c .before .before .before .before .before .before .before .before .before .before .before .before .before .before .before .before .expand-node .ensures) (c .before .before .before .before .before .before .before .before .before .before .first .given .0 .0) (c .before .before .before .before .before .before .before .before .before .before .first .given .1) (c .before .before .before .before .before .before .before .if3 .taken) (c .before .before .before .before .finish-record2 .last .1 .1 .0) (c .before .before .before .before .finish-record2 .result) (c .before .before .before .before .finish-record2 .ensures)
+  finish-record-requires : lts.Need-finish-record-requires (claims t) (At t) expand-node.Post
+  finish-record-requires c κs = finishing-none (fresh (c .before .before .before .before)) (omega (arith, c .before .before .if2 .taken, c .before .before .before .kind-at .ensures))
 
--- src/expand.rt:78:9
-expand-node-wide-requires-2 : (t : ℕ) → expand-node-lts.Need-wide-requires-2 (
-  record-at-reads.Asked,
-  record-at-reads.Learnt,
-  finish-record-reads.Asked,
-  finish-record-reads.Learnt,
-  wide-reads.Asked,
-  wide-reads.Learnt,
-  expand-node-below t,
-  expand-node.Post,
-) (expand-node-at t) expand-node.Post
-expand-node-wide-requires-2 t c κs = search needs
+  same-length : lts.Need-same-length (claims t) (At t) expand-node.Post
+  same-length c = search needs
 
--- src/expand.rt:79:9
-expand-node-expand-node-requires-2 : (t : ℕ) → expand-node-lts.Need-expand-node-requires-2 (
-  record-at-reads.Asked,
-  record-at-reads.Learnt,
-  finish-record-reads.Asked,
-  finish-record-reads.Learnt,
-  wide-reads.Asked,
-  wide-reads.Learnt,
-  expand-node-below t,
-  expand-node.Post,
-) (expand-node-at t) expand-node.Post
-expand-node-expand-node-requires-2 t c κs = (subst (λ (m : ℕ). (c .before .before .wide2 .result) < m) (c .before .before .before .before .before .before .before .before .before .before .before .before .before .before .before .before .before .before .before .before .before .before .before .before .pre .0) (right-low (c .before .before .before .before .before .before .before .before .before .before .before .before .before .before .before .before .before .before .before .before .before .before .before .before .args .sheet .now) (c .before .before .before .before .before .before .before .before .before .before .before .before .before .before .before .before .before .before .before .before .before .before .before .before .args .r) (c .before .before .before .before .before .before .before .before .before .before .before .before .before .before .before .before .before .before .before .before .before .before .before .before .args .work .now) (c .before .before .before .before .before .before .before .before .before .before .before .before .before .before .before .before .before .before .before .before .before .before .before .before .args .pool .now) (c .before .before .before .before .before .before .before .before .before .before .before .before .before .before .before .before .before .before .before .before .before .before .before .before .args .used) (c .before .before .before .before .before .before .before .before .before .before .before .before .before .before .before .before .before .before .before .before .before .before .before .before .pre .1) (c .before .before .before .before .before .before .before .before .before .before .before .before .before .before .before .before .before .before .before .if1 .left) (c .before .before .before .before .before .before .before .before .before .before .before .before .before .before .before .before .before .before .record-at .result) (c .before .before .before .before .before .before .before .before .before .before .before .before .before .before .before .before .before .before .record-at .ensures) (omega (arith, c .before .before .before .before .before .before .before .before .before .before .before .before .before .before .before .before .if2 .left)) (c .before .before .before .before .before .before .before .before .before .before .before .before .before .before .before .wide .result) (c .before .before .before .before .before .before .before .before .before .before .before .before .before .before .before .wide .ensures) (c .before .before .before .before .before .before .before .before .before .before .before .before .expand-node .last .1 .0) (c .before .before .before .before .before .before .before .before .before .before .before .before .expand-node .last .1 .1 .0) (c .before .before .before .before .before .before .before .before .before .before .before .before .expand-node .kept .1 .0) (c .before .before .before .before .before .before .before .before .before .before .before .before .expand-node .result) (c .before .before .before .before .before .before .before .before .before .before .before .before .expand-node .ensures) (c .before .before .before .before .before .before .first .given .0 .0) (c .before .before .before .before .before .before .first .given .1) (c .before .before .before .if3 .left) (c .before .before .wide2 .result) (c .before .before .wide2 .ensures)), ready-right (c .before .before .before .before .before .before .before .before .before .before .before .before .before .before .before .before .before .before .before .before .before .before .before .before .args .sheet .now) (c .before .before .before .before .before .before .before .before .before .before .before .before .before .before .before .before .before .before .before .before .before .before .before .before .args .r) (c .before .before .before .before .before .before .before .before .before .before .before .before .before .before .before .before .before .before .before .before .before .before .before .before .args .work .now) (c .before .before .before .before .before .before .before .before .before .before .before .before .before .before .before .before .before .before .before .before .before .before .before .before .args .pool .now) (c .before .before .before .before .before .before .before .before .before .before .before .before .before .before .before .before .before .before .before .before .before .before .before .before .args .used) (c .before .before .before .before .before .before .before .before .before .before .before .before .before .before .before .before .before .before .before .before .before .before .before .before .pre .1) (c .before .before .before .before .before .before .before .before .before .before .before .before .before .before .before .before .before .before .before .if1 .left) (c .before .before .before .before .before .before .before .before .before .before .before .before .before .before .before .before .before .before .record-at .result) (c .before .before .before .before .before .before .before .before .before .before .before .before .before .before .before .before .before .before .record-at .ensures) (omega (arith, c .before .before .before .before .before .before .before .before .before .before .before .before .before .before .before .before .if2 .left)) (c .before .before .before .before .before .before .before .before .before .before .before .before .before .before .before .wide .result) (c .before .before .before .before .before .before .before .before .before .before .before .before .before .before .before .wide .ensures) (c .before .before .before .before .before .before .before .before .before .before .before .before .expand-node .last .1 .0) (c .before .before .before .before .before .before .before .before .before .before .before .before .expand-node .last .1 .1 .0) (c .before .before .before .before .before .before .before .before .before .before .before .before .expand-node .kept .1 .0) (c .before .before .before .before .before .before .before .before .before .before .before .before .expand-node .result) (c .before .before .before .before .before .before .before .before .before .before .before .before .expand-node .ensures) (c .before .before .before .before .before .before .first .given .0 .0) (c .before .before .before .before .before .before .first .given .1) (c .before .before .before .if3 .left) (c .before .before .wide2 .result) (c .before .before .wide2 .ensures))
+  same-length-2 : lts.Need-same-length-2 (claims t) (At t) expand-node.Post
+  same-length-2 c = search needs
 
--- src/expand.rt:80:24
-expand-node-enum-known-second : (t : ℕ) → expand-node-lts.Need-enum-known-second (
-  record-at-reads.Asked,
-  record-at-reads.Learnt,
-  finish-record-reads.Asked,
-  finish-record-reads.Learnt,
-  wide-reads.Asked,
-  wide-reads.Learnt,
-  expand-node-below t,
-  expand-node.Post,
-) (expand-node-at t) expand-node.Post
-expand-node-enum-known-second t c = search needs
+  returns-2 : lts.Need-returns-2 (claims t) (At t) expand-node.Post
+  returns-2 c =
+      let v = c .before .before .before .before .finish-record in
+      visits-none (fresh (c .before .before .before .before .before .before .before .before .before)) (omega (arith, c .before .before .before .before .before .before .before .if2 .taken, c .before .before .before .before .before .before .before .before .kind-at .ensures)) (v .last .1 .1 .0) (v .result) (v .ensures)
 
--- src/expand.rt:81:9
-expand-node-enum-told-2 : (t : ℕ) → expand-node-lts.Need-enum-told-2 (
-  record-at-reads.Asked,
-  record-at-reads.Learnt,
-  finish-record-reads.Asked,
-  finish-record-reads.Learnt,
-  wide-reads.Asked,
-  wide-reads.Learnt,
-  expand-node-below t,
-  expand-node.Post,
-) (expand-node-at t) expand-node.Post
-expand-node-enum-told-2 t c = search needs
+  left-at-requires : lts.Need-left-at-requires (claims t) (At t) expand-node.Post
+  left-at-requires c κs =
+      let s = start (c .before .before .before .before) in
+      record-inside (s .args .sheet .now) (s .pre .1 .walking .checked) (s .args .r) (s .pre .1 .inside)
 
--- src/expand.rt:81:9
-expand-node-same-length-7 : (t : ℕ) → expand-node-lts.Need-same-length-7 (
-  record-at-reads.Asked,
-  record-at-reads.Learnt,
-  finish-record-reads.Asked,
-  finish-record-reads.Learnt,
-  wide-reads.Asked,
-  wide-reads.Learnt,
-  expand-node-below t,
-  expand-node.Post,
-) (expand-node-at t) expand-node.Post
-expand-node-same-length-7 t c = search needs
+  expand-node-requires : lts.Need-expand-node-requires (claims t) (At t) expand-node.Post
+  expand-node-requires c κs =
+      let n = c .before .before .before .before .before in
+      let k = parent (c .before .before .before) in
+      (subst (λ (m : ℕ). c .left-at .result < m) (start n .pre .0) (left-low (fresh n) k (c .left-at .ensures)), ready-left (fresh n) k (c .left-at .ensures))
 
--- src/expand.rt:81:9
-expand-node-same-length-8 : (t : ℕ) → expand-node-lts.Need-same-length-8 (
-  record-at-reads.Asked,
-  record-at-reads.Learnt,
-  finish-record-reads.Asked,
-  finish-record-reads.Learnt,
-  wide-reads.Asked,
-  wide-reads.Learnt,
-  expand-node-below t,
-  expand-node.Post,
-) (expand-node-at t) expand-node.Post
-expand-node-same-length-8 t c = search needs
+  enum-known-answer : lts.Need-enum-known-answer (claims t) (At t) expand-node.Post
+  enum-known-answer c = search needs
 
--- src/expand.rt:81:9
-expand-node-returns-5 : (t : ℕ) → expand-node-lts.Need-returns-5 (
-  record-at-reads.Asked,
-  record-at-reads.Learnt,
-  finish-record-reads.Asked,
-  finish-record-reads.Learnt,
-  wide-reads.Asked,
-  wide-reads.Learnt,
-  expand-node-below t,
-  expand-node.Post,
-) (expand-node-at t) expand-node.Post
-expand-node-returns-5 t c = right-refused (c .before .before .before .before .before .before .before .before .before .before .before .before .before .before .before .before .before .before .before .before .before .before .before .before .before .before .before .before .before .before .before .args .sheet .now) (c .before .before .before .before .before .before .before .before .before .before .before .before .before .before .before .before .before .before .before .before .before .before .before .before .before .before .before .before .before .before .before .args .r) (c .before .before .before .before .before .before .before .before .before .before .before .before .before .before .before .before .before .before .before .before .before .before .before .before .before .before .before .before .before .before .before .args .work .now) (c .before .before .before .before .before .before .before .before .before .before .before .before .before .before .before .before .before .before .before .before .before .before .before .before .before .before .before .before .before .before .before .args .pool .now) (c .before .before .before .before .before .before .before .before .before .before .before .before .before .before .before .before .before .before .before .before .before .before .before .before .before .before .before .before .before .before .before .args .used) (c .before .before .before .before .before .before .before .before .before .before .before .before .before .before .before .before .before .before .before .before .before .before .before .before .before .before .before .before .before .before .before .pre .1) (c .before .before .before .before .before .before .before .before .before .before .before .before .before .before .before .before .before .before .before .before .before .before .before .before .before .before .if1 .left) (c .before .before .before .before .before .before .before .before .before .before .before .before .before .before .before .before .before .before .before .before .before .before .before .before .before .record-at .result) (c .before .before .before .before .before .before .before .before .before .before .before .before .before .before .before .before .before .before .before .before .before .before .before .before .before .record-at .ensures) (omega (arith, c .before .before .before .before .before .before .before .before .before .before .before .before .before .before .before .before .before .before .before .before .before .before .before .if2 .left)) (c .before .before .before .before .before .before .before .before .before .before .before .before .before .before .before .before .before .before .before .before .before .before .wide .result) (c .before .before .before .before .before .before .before .before .before .before .before .before .before .before .before .before .before .before .before .before .before .before .wide .ensures) (c .before .before .before .before .before .before .before .before .before .before .before .before .before .before .before .before .before .before .before .expand-node .last .1 .0) (c .before .before .before .before .before .before .before .before .before .before .before .before .before .before .before .before .before .before .before .expand-node .last .1 .1 .0) (c .before .before .before .before .before .before .before .before .before .before .before .before .before .before .before .before .before .before .before .expand-node .kept .1 .0) (c .before .before .before .before .before .before .before .before .before .before .before .before .before .before .before .before .before .before .before .expand-node .result) (c .before .before .before .before .before .before .before .before .before .before .before .before .before .before .before .before .before .before .before .expand-node .ensures) (c .before .before .before .before .before .before .before .before .before .before .before .before .before .first .given .0 .0) (c .before .before .before .before .before .before .before .before .before .before .before .before .before .first .given .1) (c .before .before .before .before .before .before .before .before .before .before .if3 .left) (c .before .before .before .before .before .before .before .before .before .wide2 .result) (c .before .before .before .before .before .before .before .before .before .wide2 .ensures) (c .before .before .before .before .before .before .expand-node2 .last .1 .0) (c .before .before .before .before .before .before .expand-node2 .last .1 .1 .0) (c .before .before .before .before .before .before .expand-node2 .kept .1 .0) (c .before .before .before .before .before .before .expand-node2 .result) (c .before .before .before .before .before .before .expand-node2 .ensures) (c .enum-told2 .given .0 .0) (c .enum-told2 .given .1)
+  enum-told : lts.Need-enum-told (claims t) (At t) expand-node.Post
+  enum-told c = search needs
 
--- src/expand.rt:83:5
-expand-node-finish-record-requires-3 : (t : ℕ) → expand-node-lts.Need-finish-record-requires-3 (
-  record-at-reads.Asked,
-  record-at-reads.Learnt,
-  finish-record-reads.Asked,
-  finish-record-reads.Learnt,
-  wide-reads.Asked,
-  wide-reads.Learnt,
-  expand-node-below t,
-  expand-node.Post,
-) (expand-node-at t) expand-node.Post
-expand-node-finish-record-requires-3 t c κs = finishing-two (c .before .before .before .before .before .before .before .before .before .before .before .before .before .before .before .before .before .before .before .before .before .before .before .before .before .before .before .before .before .before .before .before .before .before .args .sheet .now) (c .before .before .before .before .before .before .before .before .before .before .before .before .before .before .before .before .before .before .before .before .before .before .before .before .before .before .before .before .before .before .before .before .before .before .args .r) (c .before .before .before .before .before .before .before .before .before .before .before .before .before .before .before .before .before .before .before .before .before .before .before .before .before .before .before .before .before .before .before .before .before .before .args .work .now) (c .before .before .before .before .before .before .before .before .before .before .before .before .before .before .before .before .before .before .before .before .before .before .before .before .before .before .before .before .before .before .before .before .before .before .args .pool .now) (c .before .before .before .before .before .before .before .before .before .before .before .before .before .before .before .before .before .before .before .before .before .before .before .before .before .before .before .before .before .before .before .before .before .before .args .used) (c .before .before .before .before .before .before .before .before .before .before .before .before .before .before .before .before .before .before .before .before .before .before .before .before .before .before .before .before .before .before .before .before .before .before .pre .1) (c .before .before .before .before .before .before .before .before .before .before .before .before .before .before .before .before .before .before .before .before .before .before .before .before .before .before .before .before .before .if1 .left) (c .before .before .before .before .before .before .before .before .before .before .before .before .before .before .before .before .before .before .before .before .before .before .before .before .before .before .before .before .record-at .result) (c .before .before .before .before .before .before .before .before .before .before .before .before .before .before .before .before .before .before .before .before .before .before .before .before .before .before .before .before .record-at .ensures) (omega (arith, c .before .before .before .before .before .before .before .before .before .before .before .before .before .before .before .before .before .before .before .before .before .before .before .before .before .before .if2 .left)) (c .before .before .before .before .before .before .before .before .before .before .before .before .before .before .before .before .before .before .before .before .before .before .before .before .before .wide .result) (c .before .before .before .before .before .before .before .before .before .before .before .before .before .before .before .before .before .before .before .before .before .before .before .before .before .wide .ensures) (c .before .before .before .before .before .before .before .before .before .before .before .before .before .before .before .before .before .before .before .before .before .before .expand-node .last .1 .0) (c .before .before .before .before .before .before .before .before .before .before .before .before .before .before .before .before .before .before .before .before .before .before .expand-node .last .1 .1 .0) (c .before .before .before .before .before .before .before .before .before .before .before .before .before .before .before .before .before .before .before .before .before .before .expand-node .kept .1 .0) (c .before .before .before .before .before .before .before .before .before .before .before .before .before .before .before .before .before .before .before .before .before .before .expand-node .result) (c .before .before .before .before .before .before .before .before .before .before .before .before .before .before .before .before .before .before .before .before .before .before .expand-node .ensures) (c .before .before .before .before .before .before .before .before .before .before .before .before .before .before .before .before .first .given .0 .0) (c .before .before .before .before .before .before .before .before .before .before .before .before .before .before .before .before .first .given .1) (c .before .before .before .before .before .before .before .before .before .before .before .before .before .if3 .left) (c .before .before .before .before .before .before .before .before .before .before .before .before .wide2 .result) (c .before .before .before .before .before .before .before .before .before .before .before .before .wide2 .ensures) (c .before .before .before .before .before .before .before .before .before .expand-node2 .last .1 .0) (c .before .before .before .before .before .before .before .before .before .expand-node2 .last .1 .1 .0) (c .before .before .before .before .before .before .before .before .before .expand-node2 .kept .1 .0) (c .before .before .before .before .before .before .before .before .before .expand-node2 .result) (c .before .before .before .before .before .before .before .before .before .expand-node2 .ensures) (c .before .before .before .second .given .0 .0) (c .before .before .before .second .given .1)
+  same-length-3 : lts.Need-same-length-3 (claims t) (At t) expand-node.Post
+  same-length-3 c = search needs
 
--- src/expand.rt:53:1
-expand-node-same-length-9 : (t : ℕ) → expand-node-lts.Need-same-length-9 (
-  record-at-reads.Asked,
-  record-at-reads.Learnt,
-  finish-record-reads.Asked,
-  finish-record-reads.Learnt,
-  wide-reads.Asked,
-  wide-reads.Learnt,
-  expand-node-below t,
-  expand-node.Post,
-) (expand-node-at t) expand-node.Post
-expand-node-same-length-9 t c = search needs
+  same-length-4 : lts.Need-same-length-4 (claims t) (At t) expand-node.Post
+  same-length-4 c = search needs
 
--- src/expand.rt:53:1
-expand-node-same-length-10 : (t : ℕ) → expand-node-lts.Need-same-length-10 (
-  record-at-reads.Asked,
-  record-at-reads.Learnt,
-  finish-record-reads.Asked,
-  finish-record-reads.Learnt,
-  wide-reads.Asked,
-  wide-reads.Learnt,
-  expand-node-below t,
-  expand-node.Post,
-) (expand-node-at t) expand-node.Post
-expand-node-same-length-10 t c = search needs
+  returns-3 : lts.Need-returns-3 (claims t) (At t) expand-node.Post
+  returns-3 c = left-refused (left (c .before .before .before .before .before .before)) (c .enum-told .given .0 .0) (c .enum-told .given .1)
 
--- src/expand.rt:53:1
-expand-node-returns-6 : (t : ℕ) → expand-node-lts.Need-returns-6 (
-  record-at-reads.Asked,
-  record-at-reads.Learnt,
-  finish-record-reads.Asked,
-  finish-record-reads.Learnt,
-  wide-reads.Asked,
-  wide-reads.Learnt,
-  expand-node-below t,
-  expand-node.Post,
-) (expand-node-at t) expand-node.Post
-expand-node-returns-6 t c = visits-two (c .before .before .before .before .before .before .before .before .before .before .before .before .before .before .before .before .before .before .before .before .before .before .before .before .before .before .before .before .before .before .before .before .before .before .before .before .before .before .before .args .sheet .now) (c .before .before .before .before .before .before .before .before .before .before .before .before .before .before .before .before .before .before .before .before .before .before .before .before .before .before .before .before .before .before .before .before .before .before .before .before .before .before .before .args .r) (c .before .before .before .before .before .before .before .before .before .before .before .before .before .before .before .before .before .before .before .before .before .before .before .before .before .before .before .before .before .before .before .before .before .before .before .before .before .before .before .args .work .now) (c .before .before .before .before .before .before .before .before .before .before .before .before .before .before .before .before .before .before .before .before .before .before .before .before .before .before .before .before .before .before .before .before .before .before .before .before .before .before .before .args .pool .now) (c .before .before .before .before .before .before .before .before .before .before .before .before .before .before .before .before .before .before .before .before .before .before .before .before .before .before .before .before .before .before .before .before .before .before .before .before .before .before .before .args .used) (c .before .before .before .before .before .before .before .before .before .before .before .before .before .before .before .before .before .before .before .before .before .before .before .before .before .before .before .before .before .before .before .before .before .before .before .before .before .before .before .pre .1) (c .before .before .before .before .before .before .before .before .before .before .before .before .before .before .before .before .before .before .before .before .before .before .before .before .before .before .before .before .before .before .before .before .before .before .if1 .left) (c .before .before .before .before .before .before .before .before .before .before .before .before .before .before .before .before .before .before .before .before .before .before .before .before .before .before .before .before .before .before .before .before .before .record-at .result) (c .before .before .before .before .before .before .before .before .before .before .before .before .before .before .before .before .before .before .before .before .before .before .before .before .before .before .before .before .before .before .before .before .before .record-at .ensures) (omega (arith, c .before .before .before .before .before .before .before .before .before .before .before .before .before .before .before .before .before .before .before .before .before .before .before .before .before .before .before .before .before .before .before .if2 .left)) (c .before .before .before .before .before .before .before .before .before .before .before .before .before .before .before .before .before .before .before .before .before .before .before .before .before .before .before .before .before .before .wide .result) (c .before .before .before .before .before .before .before .before .before .before .before .before .before .before .before .before .before .before .before .before .before .before .before .before .before .before .before .before .before .before .wide .ensures) (c .before .before .before .before .before .before .before .before .before .before .before .before .before .before .before .before .before .before .before .before .before .before .before .before .before .before .before .expand-node .last .1 .0) (c .before .before .before .before .before .before .before .before .before .before .before .before .before .before .before .before .before .before .before .before .before .before .before .before .before .before .before .expand-node .last .1 .1 .0) (c .before .before .before .before .before .before .before .before .before .before .before .before .before .before .before .before .before .before .before .before .before .before .before .before .before .before .before .expand-node .kept .1 .0) (c .before .before .before .before .before .before .before .before .before .before .before .before .before .before .before .before .before .before .before .before .before .before .before .before .before .before .before .expand-node .result) (c .before .before .before .before .before .before .before .before .before .before .before .before .before .before .before .before .before .before .before .before .before .before .before .before .before .before .before .expand-node .ensures) (c .before .before .before .before .before .before .before .before .before .before .before .before .before .before .before .before .before .before .before .before .before .first .given .0 .0) (c .before .before .before .before .before .before .before .before .before .before .before .before .before .before .before .before .before .before .before .before .before .first .given .1) (c .before .before .before .before .before .before .before .before .before .before .before .before .before .before .before .before .before .before .if3 .left) (c .before .before .before .before .before .before .before .before .before .before .before .before .before .before .before .before .before .wide2 .result) (c .before .before .before .before .before .before .before .before .before .before .before .before .before .before .before .before .before .wide2 .ensures) (c .before .before .before .before .before .before .before .before .before .before .before .before .before .before .expand-node2 .last .1 .0) (c .before .before .before .before .before .before .before .before .before .before .before .before .before .before .expand-node2 .last .1 .1 .0) (c .before .before .before .before .before .before .before .before .before .before .before .before .before .before .expand-node2 .kept .1 .0) (c .before .before .before .before .before .before .before .before .before .before .before .before .before .before .expand-node2 .result) (c .before .before .before .before .before .before .before .before .before .before .before .before .before .before .expand-node2 .ensures) (c .before .before .before .before .before .before .before .before .second .given .0 .0) (c .before .before .before .before .before .before .before .before .second .given .1) (c .before .before .before .before .finish-record3 .last .1 .1 .0) (c .before .before .before .before .finish-record3 .result) (c .before .before .before .before .finish-record3 .ensures)
+  kind-at-requires-2 : lts.Need-kind-at-requires-2 (claims t) (At t) expand-node.Post
+  kind-at-requires-2 c κs =
+      let s = start (is-new (c .before .before .before .before .before .before .before)) in
+      record-inside (s .args .sheet .now) (s .pre .1 .walking .checked) (s .args .r) (s .pre .1 .inside)
+
+  finish-record-requires-2 : lts.Need-finish-record-requires-2 (claims t) (At t) expand-node.Post
+  finish-record-requires-2 c κs = finishing-one (left (c .before .before .before .before .before .before .before .before .before .before .before)) (c .before .before .before .before .before .answer .given .1) (sym (c .before .before .before .kind-at2 .ensures) ∙ c .before .before .if3 .taken)
+
+  same-length-5 : lts.Need-same-length-5 (claims t) (At t) expand-node.Post
+  same-length-5 c = search needs
+
+  same-length-6 : lts.Need-same-length-6 (claims t) (At t) expand-node.Post
+  same-length-6 c = search needs
+
+  returns-4 : lts.Need-returns-4 (claims t) (At t) expand-node.Post
+  returns-4 c =
+      let v = c .before .before .before .before .finish-record2 in
+      visits-one (left (c .before .before .before .before .before .before .before .before .before .before .before .before .before .before .before .before)) (c .before .before .before .before .before .before .before .before .before .before .answer .given .1) (sym (c .before .before .before .before .before .before .before .before .kind-at2 .ensures) ∙ c .before .before .before .before .before .before .before .if3 .taken) (v .last .1 .1 .0) (v .result) (v .ensures)
+
+  right-at-requires : lts.Need-right-at-requires (claims t) (At t) expand-node.Post
+  right-at-requires c κs =
+      let s = start (is-new (c .before .before .before .before .before .before .before .before .before .before .before)) in
+      record-inside (s .args .sheet .now) (s .pre .1 .walking .checked) (s .args .r) (s .pre .1 .inside)
+
+  expand-node-requires-2 : lts.Need-expand-node-requires-2 (claims t) (At t) expand-node.Post
+  expand-node-requires-2 c κs =
+      let l = c .before .before .before .before .before .before .before .before .before .before .before .before in
+      let k = two (c .before .before .before) in
+      let g = c .before .before .before .before .before .before .answer .given .1 in
+      (subst (λ (m : ℕ). c .right-at .result < m) (start (is-new l) .pre .0) (right-low (left l) g k (c .right-at .ensures)), ready-right (left l) g k (c .right-at .ensures))
+
+  enum-known-answer-2 : lts.Need-enum-known-answer-2 (claims t) (At t) expand-node.Post
+  enum-known-answer-2 c = search needs
+
+  enum-told-2 : lts.Need-enum-told-2 (claims t) (At t) expand-node.Post
+  enum-told-2 c = search needs
+
+  same-length-7 : lts.Need-same-length-7 (claims t) (At t) expand-node.Post
+  same-length-7 c = search needs
+
+  same-length-8 : lts.Need-same-length-8 (claims t) (At t) expand-node.Post
+  same-length-8 c = search needs
+
+  returns-5 : lts.Need-returns-5 (claims t) (At t) expand-node.Post
+  returns-5 c = right-refused (right (c .before .before .before .before .before .before)) (c .enum-told2 .given .0 .0) (c .enum-told2 .given .1)
+
+  finish-record-requires-3 : lts.Need-finish-record-requires-3 (claims t) (At t) expand-node.Post
+  finish-record-requires-3 c κs = finishing-two (right (c .before .before .before .before .before .before .before .before .before)) (c .before .before .before .answer2 .given .1)
+
+  same-length-9 : lts.Need-same-length-9 (claims t) (At t) expand-node.Post
+  same-length-9 c = search needs
+
+  same-length-10 : lts.Need-same-length-10 (claims t) (At t) expand-node.Post
+  same-length-10 c = search needs
+
+  returns-6 : lts.Need-returns-6 (claims t) (At t) expand-node.Post
+  returns-6 c =
+      let v = c .before .before .before .before .finish-record3 in
+      visits-two (right (c .before .before .before .before .before .before .before .before .before .before .before .before .before .before)) (c .before .before .before .before .before .before .before .before .answer2 .given .1) (v .last .1 .1 .0) (v .result) (v .ensures)
 
 pub +expand-node-spec : {M : Type 1} → statement M
-+expand-node-spec = close μ-expand-node λ t. expand-node-lts.spec (
-  record-at-reads.Asked,
-  record-at-reads.Learnt,
-  finish-record-reads.Asked,
-  finish-record-reads.Learnt,
-  wide-reads.Asked,
-  wide-reads.Learnt,
-  expand-node-below t,
-  expand-node.Post,
-)
-    (expand-node-at t)
-    expand-node.Post
-    (expand-node-mul-if1 t)
-    (expand-node-mul-if1-2 t)
-    (expand-node-slice-read-if1 t)
-    (expand-node-returns t)
-    (expand-node-record-at-requires t)
-    (expand-node-finish-record-requires t)
-    (expand-node-same-length t)
-    (expand-node-same-length-2 t)
-    (expand-node-returns-2 t)
-    (expand-node-wide-requires t)
-    (expand-node-expand-node-requires t)
-    (expand-node-enum-known-first t)
-    (expand-node-enum-told t)
-    (expand-node-same-length-3 t)
-    (expand-node-same-length-4 t)
-    (expand-node-returns-3 t)
-    (expand-node-finish-record-requires-2 t)
-    (expand-node-same-length-5 t)
-    (expand-node-same-length-6 t)
-    (expand-node-returns-4 t)
-    (expand-node-wide-requires-2 t)
-    (expand-node-expand-node-requires-2 t)
-    (expand-node-enum-known-second t)
-    (expand-node-enum-told-2 t)
-    (expand-node-same-length-7 t)
-    (expand-node-same-length-8 t)
-    (expand-node-returns-5 t)
-    (expand-node-finish-record-requires-3 t)
-    (expand-node-same-length-9 t)
-    (expand-node-same-length-10 t)
-    (expand-node-returns-6 t)
++expand-node-spec =
+    close μ λ t. lts.spec (claims t) (At t) expand-node.Post
+    (mul-if1 t)
+    (mul-if1-2 t)
+    (slice-read-if1 t)
+    (returns t)
+    (kind-at-requires t)
+    (finish-record-requires t)
+    (same-length t)
+    (same-length-2 t)
+    (returns-2 t)
+    (left-at-requires t)
+    (expand-node-requires t)
+    (enum-known-answer t)
+    (enum-told t)
+    (same-length-3 t)
+    (same-length-4 t)
+    (returns-3 t)
+    (kind-at-requires-2 t)
+    (finish-record-requires-2 t)
+    (same-length-5 t)
+    (same-length-6 t)
+    (returns-4 t)
+    (right-at-requires t)
+    (expand-node-requires-2 t)
+    (enum-known-answer-2 t)
+    (enum-told-2 t)
+    (same-length-7 t)
+    (same-length-8 t)
+    (returns-5 t)
+    (finish-record-requires-3 t)
+    (same-length-9 t)
+    (same-length-10 t)
+    (returns-6 t)

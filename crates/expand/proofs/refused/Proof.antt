@@ -4,19 +4,15 @@ use borrow.Author.Needs.{needs}
 use Rattle.expand.proofs.refused.Statement.{statement}
 use Rattle.expand.proofs.refused.Tie as tie
 
--- src/expand.rt:70:21
 enum-known-made : tie.Need-enum-known-made
 enum-known-made c = search needs
 
--- src/expand.rt:71:44
 enum-told : tie.Need-enum-told
 enum-told c = search needs
 
--- src/expand.rt:66:1
 returns : tie.Need-returns
 returns c = ap (λ m. refusedBy m (c .before .before .before .args .r)) (sym (c .before .made .given .1))
 
--- src/expand.rt:66:1
 returns-2 : tie.Need-returns-2
 returns-2 c = ap (λ m. refusedBy m (c .before .before .args .r)) (sym (c .enum-told .given .1))
 

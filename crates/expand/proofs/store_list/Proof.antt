@@ -12,85 +12,66 @@ use borrow.Author.Needs.{needs}
 use Rattle.expand.proofs.store_list.Statement.{statement}
 use Rattle.expand.proofs.store_list.Tie as tie
 
--- src/expand.rt:52:9
 list-size-requires : tie.Need-list-size-requires
 list-size-requires c κs = search needs
 
--- src/expand.rt:53:8
 sub-if1 : tie.Need-sub-if1
 sub-if1 c = search needs
 
--- src/expand.rt:54:9
 returns : tie.Need-returns
 returns c = search needs
 
--- src/expand.rt:59:36
 mul-write-list : tie.Need-mul-write-list
 mul-write-list c = search needs
 
--- src/expand.rt:59:36
 sub-write-list : tie.Need-sub-write-list
 sub-write-list c = search needs
 
--- src/expand.rt:59:36
 part-write-list-start : tie.Need-part-write-list-start
 part-write-list-start c = search needs
 
--- src/expand.rt:59:36
 part-write-list-end : tie.Need-part-write-list-end
 part-write-list-end c = search needs
 
--- src/expand.rt:59:5
 write-list-requires : tie.Need-write-list-requires
 write-list-requires c κs = search needs
 
--- src/expand.rt:60:19
 cast-pool : tie.Need-cast-pool
 cast-pool c = search needs
 
--- src/expand.rt:60:10
 mul-pool : tie.Need-mul-pool
 mul-pool c = search needs
 
--- src/expand.rt:60:5
 mul-pool-2 : tie.Need-mul-pool-2
 mul-pool-2 c = search needs
 
--- src/expand.rt:60:5
 slice-write-pool : tie.Need-slice-write-pool
 slice-write-pool c = search needs
 
--- src/expand.rt:61:23
 cast-pool-2 : tie.Need-cast-pool-2
 cast-pool-2 c = search needs
 
--- src/expand.rt:61:10
 mul-pool-3 : tie.Need-mul-pool-3
 mul-pool-3 c = search needs
 
--- src/expand.rt:61:10
 add-pool : tie.Need-add-pool
 add-pool c = search needs
 
--- src/expand.rt:61:5
 mul-pool-4 : tie.Need-mul-pool-4
 mul-pool-4 c = search needs
 
--- src/expand.rt:61:5
 slice-write-pool-2 : tie.Need-slice-write-pool-2
 slice-write-pool-2 c = simp length-set (search needs)
 
--- src/expand.rt:62:20
 add-t8 : tie.Need-add-t8
 add-t8 c = search needs
 
--- src/expand.rt:48:1
 same-length : tie.Need-same-length
 same-length c = search needs
 
--- src/expand.rt:48:1
 returns-2 : tie.Need-returns-2
-returns-2 c = let a = c .before .before .before .before .before .before .before .before .args in
+returns-2 c =
+    let a = c .before .before .before .before .before .before .before .before .args in
     let l : List semantics.Monomial = held (a .count) (a .work .now) in
     (omega (arith, c .before .before .before .before .before .list-size .ensures), omega (arith, c .before .before .before .before .if1 .left), (λ i. set (set (tail-written (a .pool .now) (c .before .before .write-list .last .1 .1 .0) (listWords l) (a .used) (listSize l) (c .before .before .write-list .ensures) i) (2 * a .r) (a .used)) (2 * a .r + 1) (sym (held-length (a .count) (a .work .now)) i)))
 

@@ -1,13 +1,9 @@
-use mathlib.Core.Path.{_≡_, refl, sym, ap, subst, _∙_}
-use mathlib.Core.List.{List, [], _∷_, _++_}
-use Prim.Native.Nat.{ℕ, _-_}
-use lib.ListN.{length, take, replicate}
+use mathlib.Core.Path.{sym, ap}
+use Prim.Native.Nat.{_-_}
 use Rattle.expansion.specs.Answers.{bothLengths}
 use borrow.Author.Needs.{needs}
 use Rattle.expansion.proofs.both_lengths.Statement.{statement}
 use Rattle.expansion.proofs.both_lengths.Tie as tie
-use Rattle.expansion.proofs.both_lengths.Reads as reads
-use Rattle.expansion.proofs.both_lengths.Lts as lts
 
 -- src/lib.rt:177:35
 enum-known-lists : tie.Need-enum-known-lists

@@ -1,17 +1,10 @@
-use mathlib.Core.Path.{_≡_, refl, sym, ap, subst, _∙_}
-use mathlib.Core.List.{List, [], _∷_, _++_}
+use mathlib.Core.Path.{ap, _∙_}
 use Prim.Native.Nat.{ℕ, _-_}
-use lib.ListN.{length, take, replicate}
+use lib.ListN.{length, replicate}
 use Rattle.expansion.proofs.Replies.{constraint-done}
 use borrow.Author.Needs.{needs}
 use Rattle.expansion.proofs.expand_constraints.Statement.{statement}
 use Rattle.expansion.proofs.expand_constraints.Tie as tie
-use Rattle.expansion.proofs.expand_constraints.Reads as reads
-use Rattle.expansion.proofs.expand_constraints.Lts as lts
-use Rattle.expansion.proofs.clear_behind.Reads as clear-behind-reads
-use Rattle.expansion.proofs.expand_sheet.Reads as expand-sheet-reads
-use Rattle.expansion.proofs.lengths_of.Reads as lengths-of-reads
-use Rattle.slices.proofs.zero_all.Reads as zero-all-reads
 
 -- src/lib.rt:95:9
 expand-sheet-requires : tie.Need-expand-sheet-requires

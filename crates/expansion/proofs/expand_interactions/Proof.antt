@@ -1,17 +1,10 @@
-use mathlib.Core.Path.{_≡_, refl, sym, ap, subst, _∙_}
-use mathlib.Core.List.{List, [], _∷_, _++_}
+use mathlib.Core.Path.{ap, _∙_}
 use Prim.Native.Nat.{ℕ, _-_}
-use lib.ListN.{length, take, replicate}
+use lib.ListN.{length, replicate}
 use Rattle.expansion.proofs.Replies.{interaction-done}
 use borrow.Author.Needs.{needs}
 use Rattle.expansion.proofs.expand_interactions.Statement.{statement}
 use Rattle.expansion.proofs.expand_interactions.Tie as tie
-use Rattle.expansion.proofs.expand_interactions.Reads as reads
-use Rattle.expansion.proofs.expand_interactions.Lts as lts
-use Rattle.expansion.proofs.both_lengths.Reads as both-lengths-reads
-use Rattle.expansion.proofs.clear_behind.Reads as clear-behind-reads
-use Rattle.expansion.proofs.expand_sheet_interactions.Reads as expand-sheet-interactions-reads
-use Rattle.slices.proofs.zero_all.Reads as zero-all-reads
 
 -- src/lib.rt:218:9
 expand-sheet-interactions-requires : tie.Need-expand-sheet-interactions-requires

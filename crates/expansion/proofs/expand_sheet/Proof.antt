@@ -1,16 +1,11 @@
-use mathlib.Core.Path.{_≡_, refl, sym, ap, subst, _∙_}
-use mathlib.Core.List.{List, [], _∷_, _++_}
-use Prim.Native.Nat.{ℕ, _-_}
-use lib.ListN.{length, take, replicate}
-use Rattle.expansion.specs.Answers.{constraintsOf}
+use mathlib.Core.Path.{_∙_}
+use Prim.Native.Nat.{_-_}
+use lib.ListN.{length}
+use Rattle.constraint_lists.specs.Lists.{constraintsOf}
 use Rattle.expansion.proofs.Replies.{sheet-found, sheet-goes-on, sheet-refused}
 use borrow.Author.Needs.{needs}
 use Rattle.expansion.proofs.expand_sheet.Statement.{statement}
 use Rattle.expansion.proofs.expand_sheet.Tie as tie
-use Rattle.expansion.proofs.expand_sheet.Reads as reads
-use Rattle.expansion.proofs.expand_sheet.Lts as lts
-use Rattle.expansion.proofs.expand_checked.Reads as expand-checked-reads
-use Rattle.sheet.proofs.check_sheet.Reads as check-sheet-reads
 
 -- src/lib.rt:55:11
 check-sheet-requires : tie.Need-check-sheet-requires

@@ -1,16 +1,11 @@
-use mathlib.Core.Path.{_≡_, refl, sym, ap, subst, _∙_}
-use mathlib.Core.List.{List, [], _∷_, _++_}
-use Prim.Native.Nat.{ℕ, _-_}
-use lib.ListN.{length, take, replicate}
-use Rattle.expansion.specs.Answers.{interactionsOf}
+use mathlib.Core.Path.{_∙_}
+use Prim.Native.Nat.{_-_}
+use lib.ListN.{length}
+use Rattle.interaction_lists.specs.Lists.{interactionsOf}
 use Rattle.expansion.proofs.Replies.{sheet-found, sheet-goes-on, sheet-refused}
 use borrow.Author.Needs.{needs}
 use Rattle.expansion.proofs.expand_sheet_interactions.Statement.{statement}
 use Rattle.expansion.proofs.expand_sheet_interactions.Tie as tie
-use Rattle.expansion.proofs.expand_sheet_interactions.Reads as reads
-use Rattle.expansion.proofs.expand_sheet_interactions.Lts as lts
-use Rattle.expansion.proofs.expand_checked_interactions.Reads as expand-checked-interactions-reads
-use Rattle.sheet.proofs.check_sheet.Reads as check-sheet-reads
 
 -- src/lib.rt:154:11
 check-sheet-requires : tie.Need-check-sheet-requires
@@ -21,8 +16,8 @@ enum-known-head : tie.Need-enum-known-head
 enum-known-head c = search needs
 
 -- src/lib.rt:155:33
-expand-checked-interactions-requires : tie.Need-expand-checked-interactions-requires
-expand-checked-interactions-requires c κs =
+expand-checked-requires : tie.Need-expand-checked-requires
+expand-checked-requires c κs =
     sheet-found (c .before .before .before .before .before .before .before .before .before .before .before .before .before .before .before .before .before .before .before .before .before .args .s .now) (c .before .before .before .before .before .before .before .before .before .before .before .check-sheet .ensures) (c .before .before .before .before .before .before .before .before .before .head .given .1)
 
 -- src/lib.rt:169:26
@@ -66,7 +61,7 @@ returns : tie.Need-returns
 returns c =
     let a = c .before .before .before .before .before .before .before .before .before .before .before .before .before .before .before .before .before .before .before .before .before .before .before .before .before .before .before .before .before .before .before .before .before .before .before .before .before .before .args in
     let e = sheet-found (a .s .now) (c .before .before .before .before .before .before .before .before .before .before .before .before .before .before .before .before .before .before .before .before .before .before .before .before .before .before .before .before .check-sheet .ensures) (c .before .before .before .before .before .before .before .before .before .before .before .before .before .before .before .before .before .before .before .before .before .before .before .before .before .before .head .given .1) in
-    let x = c .before .before .before .before .before .before .before .before .before .before .before .before .before .before .before .before .expand-checked-interactions .ensures in
+    let x = c .before .before .before .before .before .before .before .before .before .before .before .before .before .before .before .before .expand-checked .ensures in
     (x .0 ∙ sheet-goes-on (a .s .now) (interactionsOf (length (a .work .now)) (length (a .pool .now)) (length (a .headers .now)) (length (a .variables .now)) (length (a .terms .now)) (length (a .denom-headers .now)) (length (a .denom-variables .now)) (length (a .denom-terms .now))) (e .checked), x .1)
 
 -- src/lib.rt:141:1
@@ -81,7 +76,7 @@ expand-sheet-interactions-spec =
     (tie.spec
     check-sheet-requires
     enum-known-head
-    expand-checked-interactions-requires
+    expand-checked-requires
     enum-known-r
     same-length
     same-length-2

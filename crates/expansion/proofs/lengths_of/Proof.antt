@@ -1,13 +1,9 @@
-use mathlib.Core.Path.{_≡_, refl, sym, ap, subst, _∙_}
-use mathlib.Core.List.{List, [], _∷_, _++_}
-use Prim.Native.Nat.{ℕ, _-_}
-use lib.ListN.{length, take, replicate}
+use mathlib.Core.Path.{sym, ap}
+use Prim.Native.Nat.{_-_}
 use Rattle.expansion.specs.Answers.{lengthsOf}
 use borrow.Author.Needs.{needs}
 use Rattle.expansion.proofs.lengths_of.Statement.{statement}
 use Rattle.expansion.proofs.lengths_of.Tie as tie
-use Rattle.expansion.proofs.lengths_of.Reads as reads
-use Rattle.expansion.proofs.lengths_of.Lts as lts
 
 -- src/calls.rt:76:34
 enum-known-lists : tie.Need-enum-known-lists

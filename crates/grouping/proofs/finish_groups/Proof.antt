@@ -6,30 +6,30 @@ use Rattle.grouping.proofs.Finished.{total-is, vars-few, headers-filled
 use Rattle.grouping.proofs.Fitting.{padded-starts}
 use Rattle.grouping.proofs.finish_groups.Statement.{statement}
 use Rattle.grouping.proofs.finish_groups.Tie as tie
-use Rattle.grouping.proofs.finish_groups.Reads as reads
-use Rattle.grouping.proofs.finish_groups.Lts as lts
-use Rattle.group.proofs.place.write_variables.Reads as write-variables-reads
-use Rattle.group.proofs.totals.fill_offsets.Reads as fill-offsets-reads
 
--- src/lib.rt:65:5
 write-variables-requires : tie.Need-write-variables-requires
-write-variables-requires c κs = let p = c .before .before .before .before .before .pre in (p .0, p .3)
+write-variables-requires c κs =
+    let p = c .before .before .before .before .before .pre in
+    (p .0, p .3)
 
--- src/lib.rt:66:5
 fill-offsets-requires : tie.Need-fill-offsets-requires
-fill-offsets-requires c κs = let a = c .before .before .before .before .before .before .before .before .before .args in let p = c .before .before .before .before .before .before .before .before .before .pre in let t = total-is (a .n) (a .headers .now) (a .pool .now) (p .0) in let v = vars-few (a .n) (a .headers .now) (a .pool .now) (p .0) in (p .0 .room, omega (arith, p .1), omega (arith, p .2))
+fill-offsets-requires c κs =
+    let s = c .before .before .before .before .before .before .before .before .before in
+    let a = s .args in
+    let p = s .pre in
+    let t = total-is (a .n) (a .headers .now) (a .pool .now) (p .0) in
+    let v = vars-few (a .n) (a .headers .now) (a .pool .now) (p .0) in
+    (p .0 .room, omega (arith, p .1), omega (arith, p .2))
 
--- src/lib.rt:61:1
 same-length : tie.Need-same-length
 same-length c = search needs
 
--- src/lib.rt:61:1
 same-length-2 : tie.Need-same-length-2
 same-length-2 c = search needs
 
--- src/lib.rt:61:1
 returns : tie.Need-returns
-returns c = let a = c .before .before .before .before .before .before .before .before .before .before .before .before .args in
+returns c =
+    let a = c .before .before .before .before .before .before .before .before .before .before .before .before .args in
     let p = c .before .before .before .before .before .before .before .before .before .before .before .before .pre in
     let w = c .before .before .before .before .before .before .write-variables in
     let o = c .before .before .fill-offsets in (

@@ -1,233 +1,151 @@
-use mathlib.Core.Path.{subst, _∙_}
+use mathlib.Core.Path.{_∙_}
 use mathlib.Core.Bool.{true}
-use Prim.Native.Nat.{_-_}
 use native.Mathlib.Omega.{arith}
 use borrow.Author.Needs.{needs}
 use lib.ListN.{length}
 use Rattle.semantics.specs.Check.{readSheet}
 use Rattle.semantics.specs.Group.{countRoots}
 use Rattle.records.specs.Access.{countWords}
-use Rattle.records.proofs.Reading.{head-inside}
-use Rattle.group.specs.Grouped.{tallied, tallyAll, Counted, varsNamed}
 use Rattle.grouping.specs.Families.{eachRoots, countRootAt}
-use Rattle.group.proofs.Labels.{count-labels}
-use Rattle.grouping.proofs.RootItems.{count-names, count-labelled, interaction-span, counts-few}
-use Rattle.grouping.proofs.Fitting.{fit-start, fit-full, fit-rows, fit-room, fit-short, fit-terms, fit-place, fit-finish, fit-written}
+use Rattle.grouping.proofs.RootItems.{count-names, count-labelled, interaction-span}
+use Rattle.grouping.proofs.Fitting.{Begun, Rowed, Fits, Started, fit-start, fit-full, fit-rows, fit-room, fit-fits, fit-short, fit-terms, fit-place, fit-finish, fit-written, count-family}
 use Rattle.grouping.proofs.group_counts.Statement.{statement}
 use Rattle.grouping.proofs.group_counts.Tie as tie
-use Rattle.grouping.proofs.group_counts.Reads as reads
-use Rattle.grouping.proofs.group_counts.Lts as lts
-use Rattle.grouping.proofs.families.place_counts.Reads as place-counts-reads
-use Rattle.grouping.proofs.families.tally_counts.Reads as tally-counts-reads
-use Rattle.grouping.proofs.finish_groups.Reads as finish-groups-reads
-use Rattle.grouping.proofs.room_for.Reads as room-for-reads
-use Rattle.grouping.proofs.start_groups.Reads as start-groups-reads
-use Rattle.records.proofs.interactions_at.Reads as interactions-at-reads
-use Rattle.records.proofs.wide.Reads as wide-reads
-use Rattle.slices.proofs.zero_all.Reads as zero-all-reads
 
--- src/lib.rt:108:5
+abbrev start : tie.After-num-interactions → tie.Start
+start c = c .before .before .before .before .before .before .before .before .before .before .before
+
+abbrev named : tie.After-known-told → tie.After-num-interactions
+named c = c .before .before .before .before .before .before .before
+
+abbrev counted : tie.After-known-told2 → tie.After-known-told
+counted c = c .before .before .before .before .before
+
+abbrev fitting : tie.After-start-groups → tie.After-known-told2
+fitting c = c .before .before .before
+
+-- What stands where the names are known, the rows are counted, there is room, and the terms may be placed.
+begun : (n : tie.After-num-interactions) → let a = start n .args in Begun (a .sheet .now) (a .pool .now) (countRoots (readSheet (a .sheet .now))) (n .before .before .before .before .zero-all .last .0) (countWords (a .sheet .now) (n .before .interactions-at .result) (n .num-interactions .result))
+begun n = record {
+  family = count-family (start n .pre);
+  size = length (start n .args .headers .now);
+  clear = n .before .before .before .before .zero-all .ensures;
+  names-are = count-names (start n .args .sheet .now) (start n .pre .checked) (n .before .interactions-at .ensures) (n .num-interactions .ensures);
+}
+
+rowed : (c : tie.After-known-told) → let a = start (named c) .args in
+    Rowed (a .sheet .now) (a .pool .now) (countRoots (readSheet (a .sheet .now))) (c .before .counted .given .0 .0) (c .before .before .before .before .before .tally-counts .last .1 .1 .1 .0)
+rowed c = let v = c .before .before .before .before .before .tally-counts in fit-rows (begun (named c)) (v .last .1 .1 .1 .0) (v .result) (v .ensures) (c .before .counted .given .1)
+
+fits : (c : tie.After-known-told2) → let r = counted c in
+    let a = start (named r) .args in
+    Fits (a .sheet .now) (a .pool .now) (countRoots (readSheet (a .sheet .now))) true (r .before .counted .given .0 .0) (r .before .before .before .before .before .tally-counts .last .1 .1 .1 .0)
+    (a .variables .now) (a .terms .now) (c .before .fit .given .0 .0)
+fits c =
+    let a = start (named (counted c)) .args in
+    let u = c .before .before .before .room-for in
+    fit-fits (rowed (counted c)) true (a .variables .now) (a .terms .now) (u .result) (u .ensures) (c .before .fit .given .1)
+
+started : (c : tie.After-start-groups) → let r = counted (fitting c) in
+    let n = named r in
+    let a = start n .args in
+    Started (a .sheet .now) (a .pool .now) (countRoots (readSheet (a .sheet .now))) true (r .before .counted .given .0 .0) (r .before .before .before .before .before .tally-counts .last .1 .1 .1 .0)
+    (a .variables .now) (a .terms .now) (fitting c .before .fit .given .0 .0) (c .start-groups .last .0) (c .start-groups .last .1 .1 .1 .0) (eachRoots (countRootAt (a .sheet .now)) (a .sheet .now) 0 (n .before .interactions-at .result) (n .num-interactions .result))
+started c =
+    let n = named (counted (fitting c)) in
+    let s = start n in record {
+      fits = fits (fitting c);
+      placing = c .start-groups .ensures true (fit-terms (fits (fitting c)));
+      roots-are = count-labelled (s .args .sheet .now) (s .pre .checked) (n .before .interactions-at .ensures) (n .num-interactions .ensures);
+    }
+
 zero-all-requires : tie.Need-zero-all-requires
 zero-all-requires c κs = search needs
 
--- src/lib.rt:109:9
 interactions-at-requires : tie.Need-interactions-at-requires
 interactions-at-requires c κs = search needs
 
--- src/lib.rt:110:31
-shared-slice-read-wide : tie.Need-shared-slice-read-wide
-shared-slice-read-wide c = let h = head-inside (c .before .before .before .before .before .before .before .before .before .before .before .args .sheet .now) (c .before .before .before .before .before .before .before .before .before .before .before .pre .checked) in omega arith
+num-interactions-requires : tie.Need-num-interactions-requires
+num-interactions-requires c κs = search needs
 
--- src/lib.rt:110:9
-wide-requires : tie.Need-wide-requires
-wide-requires c κs = search needs
-
--- src/lib.rt:111:9
 tally-counts-requires : tie.Need-tally-counts-requires
-tally-counts-requires c κs = let a = c .before .before .before .before .before .before .before .before .before .before .before .before .before .args in
-    let g = c .before .before .before .before .before .before .before .before .before .before .before .before .before .pre in
-    let ws = a .sheet .now in
-    let P = a .pool .now in
-    let z = c .before .before .before .before .before .before .zero-all in
-    let at = c .before .before .before .interactions-at .result in
-    let count = c .before .wide .result in
-    let names = count-names ws (g .checked) at count (c .before .before .before .interactions-at .ensures) (c .before .wide .ensures) in
-    let span = interaction-span ws (g .checked) at count (c .before .before .before .interactions-at .ensures) (c .before .wide .ensures) in
-    (span .0, fit-start ws P (countRoots (readSheet ws)) (count-labels (readSheet ws)) g (counts-few ws (g .checked)) (z .last .0) (countWords ws at count) (length (a .headers .now)) (z .ensures) names)
+tally-counts-requires c κs =
+    let n = c .before in
+    let s = start n in
+    (interaction-span (s .args .sheet .now) (s .pre .checked) (n .before .interactions-at .ensures) (n .num-interactions .ensures) .0, fit-start (begun n))
 
--- src/lib.rt:112:26
 enum-known-counted : tie.Need-enum-known-counted
 enum-known-counted c = search needs
 
--- src/lib.rt:113:9
 enum-told : tie.Need-enum-told
 enum-told c = search needs
 
--- src/lib.rt:113:9
 same-length : tie.Need-same-length
 same-length c = search needs
 
--- src/lib.rt:113:9
 returns : tie.Need-returns
-returns c = let a = c .before .before .before .before .before .before .before .before .before .before .before .before .before .before .before .before .before .before .args in
-    let g = c .before .before .before .before .before .before .before .before .before .before .before .before .before .before .before .before .before .before .pre in
-    let ws = a .sheet .now in
-    let P = a .pool .now in
-    let z = c .before .before .before .before .before .before .before .before .before .before .before .zero-all in
-    let at = c .before .before .before .before .before .before .before .before .interactions-at .result in
-    let count = c .before .before .before .before .before .before .wide .result in
-    let names = count-names ws (g .checked) at count (c .before .before .before .before .before .before .before .before .interactions-at .ensures) (c .before .before .before .before .before .before .wide .ensures) in
-    let span = interaction-span ws (g .checked) at count (c .before .before .before .before .before .before .before .before .interactions-at .ensures) (c .before .before .before .before .before .before .wide .ensures) in
-    let t = c .before .before .before .before .tally-counts in
-    let H = t .last .1 .1 .1 .0 in
-    fit-full ws P (countRoots (readSheet ws)) (count-labels (readSheet ws)) g (counts-few ws (g .checked)) (z .last .0) (countWords ws at count) (length (a .headers .now)) (z .ensures) names true H (a .variables .now) (a .terms .now)
-    (subst (Counted H P (tallyAll (varsNamed P (countWords ws at count)) (tallied 0 (z .last .0) P))) (c .enum-told .given .1) (t .ensures))
+returns c =
+    let n = c .before .before .before .before .before .before in
+    let v = c .before .before .before .before .tally-counts in
+    fit-full (begun n) (v .last .1 .1 .1 .0) (v .result) (v .ensures) (c .enum-told .given .1) true (start n .args .variables .now) (start n .args .terms .now)
 
--- src/lib.rt:115:9
 room-for-requires : tie.Need-room-for-requires
-room-for-requires c κs = let a = c .before .before .before .before .before .before .before .before .before .before .before .before .before .before .before .before .before .before .before .before .args in
-    let g = c .before .before .before .before .before .before .before .before .before .before .before .before .before .before .before .before .before .before .before .before .pre in
-    let ws = a .sheet .now in
-    let P = a .pool .now in
-    let z = c .before .before .before .before .before .before .before .before .before .before .before .before .before .zero-all in
-    let at = c .before .before .before .before .before .before .before .before .before .before .interactions-at .result in
-    let count = c .before .before .before .before .before .before .before .before .wide .result in
-    let names = count-names ws (g .checked) at count (c .before .before .before .before .before .before .before .before .before .before .interactions-at .ensures) (c .before .before .before .before .before .before .before .before .wide .ensures) in
-    let span = interaction-span ws (g .checked) at count (c .before .before .before .before .before .before .before .before .before .before .interactions-at .ensures) (c .before .before .before .before .before .before .before .before .wide .ensures) in
-    let t = c .before .before .before .before .before .before .tally-counts in
-    let H = t .last .1 .1 .1 .0 in
-    let n = c .before .before .counted .given .0 .0 in
-    let r = fit-rows ws P (countRoots (readSheet ws)) (count-labels (readSheet ws)) g (counts-few ws (g .checked)) (z .last .0) (countWords ws at count) (length (a .headers .now)) (z .ensures) names H n (subst (Counted H P (tallyAll (varsNamed P (countWords ws at count)) (tallied 0 (z .last .0) P))) (c .before .before .counted .given .1) (t .ensures)) in
-    let x = fit-room ws P (countRoots (readSheet ws)) (count-labels (readSheet ws)) g (counts-few ws (g .checked)) true n H r in
+room-for-requires c κs =
+    let x = fit-room (rowed (c .before)) in
     (x .0, x .1, x .2, omega arith)
 
--- src/lib.rt:116:26
 enum-known-fit : tie.Need-enum-known-fit
 enum-known-fit c = search needs
 
--- src/lib.rt:117:9
 enum-told-2 : tie.Need-enum-told-2
 enum-told-2 c = search needs
 
--- src/lib.rt:117:9
 same-length-2 : tie.Need-same-length-2
 same-length-2 c = search needs
 
--- src/lib.rt:117:9
 returns-2 : tie.Need-returns-2
-returns-2 c = let a = c .before .before .before .before .before .before .before .before .before .before .before .before .before .before .before .before .before .before .before .before .before .before .before .args in
-    let g = c .before .before .before .before .before .before .before .before .before .before .before .before .before .before .before .before .before .before .before .before .before .before .before .pre in
-    let ws = a .sheet .now in
-    let P = a .pool .now in
-    let z = c .before .before .before .before .before .before .before .before .before .before .before .before .before .before .before .before .zero-all in
-    let at = c .before .before .before .before .before .before .before .before .before .before .before .before .before .interactions-at .result in
-    let count = c .before .before .before .before .before .before .before .before .before .before .before .wide .result in
-    let names = count-names ws (g .checked) at count (c .before .before .before .before .before .before .before .before .before .before .before .before .before .interactions-at .ensures) (c .before .before .before .before .before .before .before .before .before .before .before .wide .ensures) in
-    let span = interaction-span ws (g .checked) at count (c .before .before .before .before .before .before .before .before .before .before .before .before .before .interactions-at .ensures) (c .before .before .before .before .before .before .before .before .before .before .before .wide .ensures) in
-    let t = c .before .before .before .before .before .before .before .before .before .tally-counts in
-    let H = t .last .1 .1 .1 .0 in
-    let n = c .before .before .before .before .before .counted .given .0 .0 in
-    let r = fit-rows ws P (countRoots (readSheet ws)) (count-labels (readSheet ws)) g (counts-few ws (g .checked)) (z .last .0) (countWords ws at count) (length (a .headers .now)) (z .ensures) names H n (subst (Counted H P (tallyAll (varsNamed P (countWords ws at count)) (tallied 0 (z .last .0) P))) (c .before .before .before .before .before .counted .given .1) (t .ensures)) in
+returns-2 c =
+    let a = start (named (c .before .before .before .before)) .args in
     let u = c .before .before .room-for in
-    fit-short ws P (countRoots (readSheet ws)) (count-labels (readSheet ws)) g (counts-few ws (g .checked)) true n H r (a .variables .now) (a .terms .now) (u .result) (u .ensures) (c .enum-told2 .given .0 .0) (c .enum-told2 .given .1)
+    fit-short (rowed (c .before .before .before .before)) true (a .variables .now) (a .terms .now) (u .result) (u .ensures) (c .enum-told2 .given .1)
 
--- src/lib.rt:119:5
 start-groups-requires : tie.Need-start-groups-requires
-start-groups-requires c κs = let a = c .before .before .before .before .before .before .before .before .before .before .before .before .before .before .before .before .before .before .before .before .before .before .before .before .before .before .args in
-    let g = c .before .before .before .before .before .before .before .before .before .before .before .before .before .before .before .before .before .before .before .before .before .before .before .before .before .before .pre in
-    let ws = a .sheet .now in
-    let P = a .pool .now in
-    let z = c .before .before .before .before .before .before .before .before .before .before .before .before .before .before .before .before .before .before .before .zero-all in
-    let at = c .before .before .before .before .before .before .before .before .before .before .before .before .before .before .before .before .interactions-at .result in
-    let count = c .before .before .before .before .before .before .before .before .before .before .before .before .before .before .wide .result in
-    let names = count-names ws (g .checked) at count (c .before .before .before .before .before .before .before .before .before .before .before .before .before .before .before .before .interactions-at .ensures) (c .before .before .before .before .before .before .before .before .before .before .before .before .before .before .wide .ensures) in
-    let span = interaction-span ws (g .checked) at count (c .before .before .before .before .before .before .before .before .before .before .before .before .before .before .before .before .interactions-at .ensures) (c .before .before .before .before .before .before .before .before .before .before .before .before .before .before .wide .ensures) in
-    let t = c .before .before .before .before .before .before .before .before .before .before .before .before .tally-counts in
-    let H = t .last .1 .1 .1 .0 in
-    let n = c .before .before .before .before .before .before .before .before .counted .given .0 .0 in
-    let r = fit-rows ws P (countRoots (readSheet ws)) (count-labels (readSheet ws)) g (counts-few ws (g .checked)) (z .last .0) (countWords ws at count) (length (a .headers .now)) (z .ensures) names H n (subst (Counted H P (tallyAll (varsNamed P (countWords ws at count)) (tallied 0 (z .last .0) P))) (c .before .before .before .before .before .before .before .before .counted .given .1) (t .ensures)) in
+start-groups-requires c κs =
+    let r = rowed (c .before .before .before .before .before .before .before) in
     (r .rows-are, r .total-small)
 
--- src/lib.rt:120:5
 place-counts-requires : tie.Need-place-counts-requires
-place-counts-requires c κs = let a = c .before .before .before .before .before .before .before .before .before .before .before .before .before .before .before .before .before .before .before .before .before .before .before .before .before .before .before .before .before .before .before .before .before .args in
-    let g = c .before .before .before .before .before .before .before .before .before .before .before .before .before .before .before .before .before .before .before .before .before .before .before .before .before .before .before .before .before .before .before .before .before .pre in
-    let ws = a .sheet .now in
-    let P = a .pool .now in
-    let z = c .before .before .before .before .before .before .before .before .before .before .before .before .before .before .before .before .before .before .before .before .before .before .before .before .before .before .zero-all in
-    let at = c .before .before .before .before .before .before .before .before .before .before .before .before .before .before .before .before .before .before .before .before .before .before .before .interactions-at .result in
-    let count = c .before .before .before .before .before .before .before .before .before .before .before .before .before .before .before .before .before .before .before .before .before .wide .result in
-    let names = count-names ws (g .checked) at count (c .before .before .before .before .before .before .before .before .before .before .before .before .before .before .before .before .before .before .before .before .before .before .before .interactions-at .ensures) (c .before .before .before .before .before .before .before .before .before .before .before .before .before .before .before .before .before .before .before .before .before .wide .ensures) in
-    let span = interaction-span ws (g .checked) at count (c .before .before .before .before .before .before .before .before .before .before .before .before .before .before .before .before .before .before .before .before .before .before .before .interactions-at .ensures) (c .before .before .before .before .before .before .before .before .before .before .before .before .before .before .before .before .before .before .before .before .before .wide .ensures) in
-    let t = c .before .before .before .before .before .before .before .before .before .before .before .before .before .before .before .before .before .before .before .tally-counts in
-    let H = t .last .1 .1 .1 .0 in
-    let n = c .before .before .before .before .before .before .before .before .before .before .before .before .before .before .before .counted .given .0 .0 in
-    let r = fit-rows ws P (countRoots (readSheet ws)) (count-labels (readSheet ws)) g (counts-few ws (g .checked)) (z .last .0) (countWords ws at count) (length (a .headers .now)) (z .ensures) names H n (subst (Counted H P (tallyAll (varsNamed P (countWords ws at count)) (tallied 0 (z .last .0) P))) (c .before .before .before .before .before .before .before .before .before .before .before .before .before .before .before .counted .given .1) (t .ensures)) in
-    let u = c .before .before .before .before .before .before .before .before .before .before .before .before .room-for in
-    let w = c .before .before .before .before .before .before .before .before .before .before .fit .given in
-    let s = c .before .before .before .before .before .before .start-groups in
-    let p = s .ensures true (fit-terms ws P (countRoots (readSheet ws)) (count-labels (readSheet ws)) g (counts-few ws (g .checked)) true n H r (a .variables .now) (a .terms .now) (u .result) (u .ensures) (w .0 .0) (w .1)) in
-    let same = count-labelled ws (g .checked) at count (c .before .before .before .before .before .before .before .before .before .before .before .before .before .before .before .before .before .before .before .before .before .before .before .interactions-at .ensures) (c .before .before .before .before .before .before .before .before .before .before .before .before .before .before .before .before .before .before .before .before .before .wide .ensures) in
-    (span .0, span .1, fit-place ws P (countRoots (readSheet ws)) (count-labels (readSheet ws)) g (counts-few ws (g .checked)) true n H r (a .variables .now) (a .terms .now) (u .result) (u .ensures) (w .0 .0) (w .1) (s .last .0) (s .last .1 .1 .1 .0) p (eachRoots (countRootAt ws) ws 0 at count) same)
+place-counts-requires c κs =
+    let n = named (counted (fitting (c .before .before .before .before .before .before))) in
+    let s = start n in
+    let x = interaction-span (s .args .sheet .now) (s .pre .checked) (n .before .interactions-at .ensures) (n .num-interactions .ensures) in
+    (x .0, x .1, fit-place (started (c .before .before .before .before .before .before)))
 
--- src/lib.rt:121:5
 finish-groups-requires : tie.Need-finish-groups-requires
-finish-groups-requires c κs = let a = c .before .before .before .before .before .before .before .before .before .before .before .before .before .before .before .before .before .before .before .before .before .before .before .before .before .before .before .before .before .before .before .before .before .before .before .before .before .before .before .before .args in
-    let g = c .before .before .before .before .before .before .before .before .before .before .before .before .before .before .before .before .before .before .before .before .before .before .before .before .before .before .before .before .before .before .before .before .before .before .before .before .before .before .before .before .pre in
-    let ws = a .sheet .now in
-    let P = a .pool .now in
-    let z = c .before .before .before .before .before .before .before .before .before .before .before .before .before .before .before .before .before .before .before .before .before .before .before .before .before .before .before .before .before .before .before .before .before .zero-all in
-    let at = c .before .before .before .before .before .before .before .before .before .before .before .before .before .before .before .before .before .before .before .before .before .before .before .before .before .before .before .before .before .before .interactions-at .result in
-    let count = c .before .before .before .before .before .before .before .before .before .before .before .before .before .before .before .before .before .before .before .before .before .before .before .before .before .before .before .before .wide .result in
-    let names = count-names ws (g .checked) at count (c .before .before .before .before .before .before .before .before .before .before .before .before .before .before .before .before .before .before .before .before .before .before .before .before .before .before .before .before .before .before .interactions-at .ensures) (c .before .before .before .before .before .before .before .before .before .before .before .before .before .before .before .before .before .before .before .before .before .before .before .before .before .before .before .before .wide .ensures) in
-    let span = interaction-span ws (g .checked) at count (c .before .before .before .before .before .before .before .before .before .before .before .before .before .before .before .before .before .before .before .before .before .before .before .before .before .before .before .before .before .before .interactions-at .ensures) (c .before .before .before .before .before .before .before .before .before .before .before .before .before .before .before .before .before .before .before .before .before .before .before .before .before .before .before .before .wide .ensures) in
-    let t = c .before .before .before .before .before .before .before .before .before .before .before .before .before .before .before .before .before .before .before .before .before .before .before .before .before .before .tally-counts in
-    let H = t .last .1 .1 .1 .0 in
-    let n = c .before .before .before .before .before .before .before .before .before .before .before .before .before .before .before .before .before .before .before .before .before .before .counted .given .0 .0 in
-    let r = fit-rows ws P (countRoots (readSheet ws)) (count-labels (readSheet ws)) g (counts-few ws (g .checked)) (z .last .0) (countWords ws at count) (length (a .headers .now)) (z .ensures) names H n (subst (Counted H P (tallyAll (varsNamed P (countWords ws at count)) (tallied 0 (z .last .0) P))) (c .before .before .before .before .before .before .before .before .before .before .before .before .before .before .before .before .before .before .before .before .before .before .counted .given .1) (t .ensures)) in
-    let u = c .before .before .before .before .before .before .before .before .before .before .before .before .before .before .before .before .before .before .before .room-for in
-    let w = c .before .before .before .before .before .before .before .before .before .before .before .before .before .before .before .before .before .fit .given in
-    let s = c .before .before .before .before .before .before .before .before .before .before .before .before .before .start-groups in
-    let p = s .ensures true (fit-terms ws P (countRoots (readSheet ws)) (count-labels (readSheet ws)) g (counts-few ws (g .checked)) true n H r (a .variables .now) (a .terms .now) (u .result) (u .ensures) (w .0 .0) (w .1)) in
-    let same = count-labelled ws (g .checked) at count (c .before .before .before .before .before .before .before .before .before .before .before .before .before .before .before .before .before .before .before .before .before .before .before .before .before .before .before .before .before .before .interactions-at .ensures) (c .before .before .before .before .before .before .before .before .before .before .before .before .before .before .before .before .before .before .before .before .before .before .before .before .before .before .before .before .wide .ensures) in
+finish-groups-requires c κs =
     let q = c .before .before .before .before .before .before .place-counts in
-    fit-finish ws P (countRoots (readSheet ws)) (count-labels (readSheet ws)) g (counts-few ws (g .checked)) true n H r (a .variables .now) (a .terms .now) (u .result) (u .ensures) (w .0 .0) (w .1) (s .last .0) (s .last .1 .1 .1 .0) p (eachRoots (countRootAt ws) ws 0 at count) same (q .last .1 .1 .1 .0) (q .last .1 .1 .1 .1 .1 .1 .0) (q .ensures)
+    fit-finish (started (c .before .before .before .before .before .before .before .before .before .before .before .before .before)) (q .last .1 .1 .1 .0) (q .last .1 .1 .1 .1 .1 .1 .0) (q .ensures)
 
--- src/lib.rt:98:1
 same-length-3 : tie.Need-same-length-3
-same-length-3 c = c .before .before .before .before .finish-groups .kept .0 ∙ c .before .before .before .before .before .before .before .before .before .before .before .place-counts .kept .1 .1 .1 .0 ∙ c .before .before .before .before .before .before .before .before .before .before .before .before .before .before .before .before .before .before .start-groups .kept .0 ∙ c .before .before .before .before .before .before .before .before .before .before .before .before .before .before .before .before .before .before .before .before .before .before .before .before .before .before .before .before .before .before .before .tally-counts .kept .1 .1 .1 .0 ∙ c .before .before .before .before .before .before .before .before .before .before .before .before .before .before .before .before .before .before .before .before .before .before .before .before .before .before .before .before .before .before .before .before .before .before .before .before .before .before .zero-all .kept .0
+same-length-3 c =
+    let o = c .before .before .before .before in
+    let q = o .before .before .before .before .before .before .before in
+    let s = q .before .before .before .before .before .before .before in
+    let v = counted (fitting s) .before .before .before .before .before in
+    o .finish-groups .kept .0 ∙ q .place-counts .kept .1 .1 .1 .0 ∙ s .start-groups .kept .0 ∙ v .tally-counts .kept .1 .1 .1 .0 ∙ v .before .before .before .before .before .before .zero-all .kept .0
 
--- src/lib.rt:98:1
 same-length-4 : tie.Need-same-length-4
 same-length-4 c = search needs
 
--- src/lib.rt:98:1
 same-length-5 : tie.Need-same-length-5
 same-length-5 c = search needs
 
--- src/lib.rt:98:1
 returns-3 : tie.Need-returns-3
-returns-3 c = let a = c .before .before .before .before .before .before .before .before .before .before .before .before .before .before .before .before .before .before .before .before .before .before .before .before .before .before .before .before .before .before .before .before .before .before .before .before .before .before .before .before .before .before .before .before .before .args in
-    let g = c .before .before .before .before .before .before .before .before .before .before .before .before .before .before .before .before .before .before .before .before .before .before .before .before .before .before .before .before .before .before .before .before .before .before .before .before .before .before .before .before .before .before .before .before .before .pre in
-    let ws = a .sheet .now in
-    let P = a .pool .now in
-    let z = c .before .before .before .before .before .before .before .before .before .before .before .before .before .before .before .before .before .before .before .before .before .before .before .before .before .before .before .before .before .before .before .before .before .before .before .before .before .before .zero-all in
-    let at = c .before .before .before .before .before .before .before .before .before .before .before .before .before .before .before .before .before .before .before .before .before .before .before .before .before .before .before .before .before .before .before .before .before .before .before .interactions-at .result in
-    let count = c .before .before .before .before .before .before .before .before .before .before .before .before .before .before .before .before .before .before .before .before .before .before .before .before .before .before .before .before .before .before .before .before .before .wide .result in
-    let names = count-names ws (g .checked) at count (c .before .before .before .before .before .before .before .before .before .before .before .before .before .before .before .before .before .before .before .before .before .before .before .before .before .before .before .before .before .before .before .before .before .before .before .interactions-at .ensures) (c .before .before .before .before .before .before .before .before .before .before .before .before .before .before .before .before .before .before .before .before .before .before .before .before .before .before .before .before .before .before .before .before .before .wide .ensures) in
-    let span = interaction-span ws (g .checked) at count (c .before .before .before .before .before .before .before .before .before .before .before .before .before .before .before .before .before .before .before .before .before .before .before .before .before .before .before .before .before .before .before .before .before .before .before .interactions-at .ensures) (c .before .before .before .before .before .before .before .before .before .before .before .before .before .before .before .before .before .before .before .before .before .before .before .before .before .before .before .before .before .before .before .before .before .wide .ensures) in
-    let t = c .before .before .before .before .before .before .before .before .before .before .before .before .before .before .before .before .before .before .before .before .before .before .before .before .before .before .before .before .before .before .before .tally-counts in
-    let H = t .last .1 .1 .1 .0 in
-    let n = c .before .before .before .before .before .before .before .before .before .before .before .before .before .before .before .before .before .before .before .before .before .before .before .before .before .before .before .counted .given .0 .0 in
-    let r = fit-rows ws P (countRoots (readSheet ws)) (count-labels (readSheet ws)) g (counts-few ws (g .checked)) (z .last .0) (countWords ws at count) (length (a .headers .now)) (z .ensures) names H n (subst (Counted H P (tallyAll (varsNamed P (countWords ws at count)) (tallied 0 (z .last .0) P))) (c .before .before .before .before .before .before .before .before .before .before .before .before .before .before .before .before .before .before .before .before .before .before .before .before .before .before .before .counted .given .1) (t .ensures)) in
-    let u = c .before .before .before .before .before .before .before .before .before .before .before .before .before .before .before .before .before .before .before .before .before .before .before .before .room-for in
-    let w = c .before .before .before .before .before .before .before .before .before .before .before .before .before .before .before .before .before .before .before .before .before .before .fit .given in
-    let s = c .before .before .before .before .before .before .before .before .before .before .before .before .before .before .before .before .before .before .start-groups in
-    let p = s .ensures true (fit-terms ws P (countRoots (readSheet ws)) (count-labels (readSheet ws)) g (counts-few ws (g .checked)) true n H r (a .variables .now) (a .terms .now) (u .result) (u .ensures) (w .0 .0) (w .1)) in
-    let same = count-labelled ws (g .checked) at count (c .before .before .before .before .before .before .before .before .before .before .before .before .before .before .before .before .before .before .before .before .before .before .before .before .before .before .before .before .before .before .before .before .before .before .before .interactions-at .ensures) (c .before .before .before .before .before .before .before .before .before .before .before .before .before .before .before .before .before .before .before .before .before .before .before .before .before .before .before .before .before .before .before .before .before .wide .ensures) in
-    let q = c .before .before .before .before .before .before .before .before .before .before .before .place-counts in
+returns-3 c =
     let o = c .before .before .before .before .finish-groups in
-    fit-written ws P (countRoots (readSheet ws)) (count-labels (readSheet ws)) g (counts-few ws (g .checked)) true n H r (a .variables .now) (a .terms .now) (u .result) (u .ensures) (w .0 .0) (w .1) (s .last .0) (s .last .1 .1 .1 .0) p (eachRoots (countRootAt ws) ws 0 at count) same (q .last .1 .1 .1 .0) (q .last .1 .1 .1 .1 .1 .1 .0) (q .ensures) (o .last .0) (o .last .1 .1 .1 .0)
+    let q = c .before .before .before .before .before .before .before .before .before .before .before .place-counts in
+    let s = c .before .before .before .before .before .before .before .before .before .before .before .before .before .before .before .before .before .before .start-groups in
+    fit-written (started (c .before .before .before .before .before .before .before .before .before .before .before .before .before .before .before .before .before .before)) (q .last .1 .1 .1 .0) (q .last .1 .1 .1 .1 .1 .1 .0) (q .ensures) (o .last .0) (o .last .1 .1 .1 .0)
     (o .kept .0 ∙ q .kept .1 .1 .1 .0 ∙ s .kept .0) (o .kept .1 .1 .1 .0) (q .kept .1 .1 .1 .1 .1 .1 .0 ∙ s .kept .1 .1 .1 .0) (o .ensures .0) (o .ensures .1)
 
 pub group-counts-spec : {M : Type 1} → statement M
@@ -236,8 +154,7 @@ group-counts-spec =
     (tie.spec
     zero-all-requires
     interactions-at-requires
-    shared-slice-read-wide
-    wide-requires
+    num-interactions-requires
     tally-counts-requires
     enum-known-counted
     enum-told

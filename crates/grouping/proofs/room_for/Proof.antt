@@ -6,42 +6,55 @@ use borrow.Author.Needs.{needs}
 use Rattle.grouping.proofs.Finished.{width-small}
 use Rattle.grouping.proofs.room_for.Statement.{statement}
 use Rattle.grouping.proofs.room_for.Tie as tie
-use Rattle.grouping.proofs.room_for.Reads as reads
-use Rattle.grouping.proofs.room_for.Lts as lts
-use Rattle.group.proofs.totals.total_terms.Reads as total-terms-reads
-use Rattle.group.proofs.totals.total_variables.Reads as total-variables-reads
 
--- src/lib.rt:36:9
 total-variables-requires : tie.Need-total-variables-requires
 total-variables-requires c κs = search needs
 
--- src/lib.rt:38:9
 returns : tie.Need-returns
-returns c = let e = c .before .total-variables .ensures in let h = c .if1 .taken in inl (refl, omega arith)
+returns c =
+    let e = c .before .total-variables .ensures in
+    let h = c .if1 .taken in
+    inl (refl, omega arith)
 
--- src/lib.rt:40:9
 total-terms-requires : tie.Need-total-terms-requires
 total-terms-requires c κs = search needs
 
--- src/lib.rt:41:16
 mul-if2 : tie.Need-mul-if2
-mul-if2 c = let p = c .before .before .before .before .pre in let a = c .before .before .before .before .args in let e = c .total-terms .ensures in let h = width-small (a .width) (c .total-terms .result) (p .3) (omega (arith, p .2)) in search needs
+mul-if2 c =
+    let s = c .before .before .before .before in
+    let p = s .pre in
+    let a = s .args in
+    let e = c .total-terms .ensures in
+    let h = width-small (a .width) (c .total-terms .result) (p .3) (omega (arith, p .2)) in
+    search needs
 
--- src/lib.rt:42:9
 returns-2 : tie.Need-returns-2
-returns-2 c = let v = c .before .before .before .total-variables .ensures in let i = c .before .before .if1 .left in let t = c .before .total-terms .ensures in let a = c .before .before .before .before .before .args in inr (refl, omega arith, subst (λ (x : ℕ). a .terms < a .width * x) t (c .if2 .taken))
+returns-2 c =
+    let v = c .before .before .before .total-variables .ensures in
+    let i = c .before .before .if1 .left in
+    let t = c .before .total-terms .ensures in
+    let a = c .before .before .before .before .before .args in
+    inr (refl, omega arith, subst (λ (x : ℕ). a .terms < a .width * x) t (c .if2 .taken))
 
--- src/lib.rt:45:18
 mul-t9 : tie.Need-mul-t9
 mul-t9 c = search needs
 
--- src/lib.rt:47:16
 mul-t10 : tie.Need-mul-t10
-mul-t10 c = let p = c .before .before .before .before .before .pre in let a = c .before .before .before .before .before .args in let e = c .before .total-terms .ensures in let h = width-small (a .width) (c .before .total-terms .result) (p .3) (omega (arith, p .2)) in search needs
+mul-t10 c =
+    let s = c .before .before .before .before .before in
+    let p = s .pre in
+    let a = s .args in
+    let e = c .before .total-terms .ensures in
+    let h = width-small (a .width) (c .before .total-terms .result) (p .3) (omega (arith, p .2)) in
+    search needs
 
--- src/lib.rt:32:1
 returns-3 : tie.Need-returns-3
-returns-3 c = let v = c .before .before .before .total-variables .ensures in let i = c .before .before .if1 .left in let t = c .before .total-terms .ensures in let a = c .before .before .before .before .before .args in (refl, v, ap (λ (x : ℕ). a .width * x) t, omega arith, subst (λ (x : ℕ). a .width * x ≤ a .terms) t (c .if2 .left))
+returns-3 c =
+    let v = c .before .before .before .total-variables .ensures in
+    let i = c .before .before .if1 .left in
+    let t = c .before .total-terms .ensures in
+    let a = c .before .before .before .before .before .args in
+    (refl, v, ap (λ (x : ℕ). a .width * x) t, omega arith, subst (λ (x : ℕ). a .width * x ≤ a .terms) t (c .if2 .left))
 
 pub room-for-spec : {M : Type 1} → statement M
 room-for-spec =

@@ -19,13 +19,13 @@ abbrev μ-loop : tie.MeasureT-loop
 loop-holds : tie.Need-loop-holds Inv-loop μ-loop
 loop-holds c = (omega arith, omega arith, λ k h l. absurd (omega arith))
 
-same-node-requires : tie.Need-same-node-requires Inv-loop μ-loop
-same-node-requires c κs = search needs
+same-record-requires : tie.Need-same-record-requires Inv-loop μ-loop
+same-record-requires c κs = search needs
 
 returns : tie.Need-returns Inv-loop μ-loop
 returns c =
     let loop = c .before .before .before .loop in
-    record { above = loop .inv .0; inside = loop .inv .1; skipped = loop .inv .2; found = λ _. sym (c .before .same-node .ensures) ∙ c .if1 .taken }
+    record { above = loop .inv .0; inside = loop .inv .1; skipped = loop .inv .2; found = λ _. sym (c .before .same-record .ensures) ∙ c .if1 .taken }
 
 add-i : tie.Need-add-i Inv-loop μ-loop
 add-i c = search needs
@@ -37,7 +37,7 @@ loop-again : tie.Need-loop-again Inv-loop μ-loop
 loop-again c =
     let a = c .before .before .before .before .before .args in
     let loop = c .before .before .before .loop in
-    (omega arith, omega arith, skips (λ k. equalRecords (fiveWords (a .r)) (nodeIn (a .out .now) k) ≡ false) (a .from) (loop .i) (loop .inv .2) (sym (c .before .same-node .ensures) ∙ c .if1 .left))
+    (omega arith, omega arith, skips (λ k. equalRecords (fiveWords (a .r)) (nodeIn (a .out .now) k) ≡ false) (a .from) (loop .i) (loop .inv .2) (sym (c .before .same-record .ensures) ∙ c .if1 .left))
 
 returns-2 : tie.Need-returns-2 Inv-loop μ-loop
 returns-2 c = record { above = c .before .loop .inv .0; inside = c .before .loop .inv .1; skipped = c .before .loop .inv .2; found = λ h. absurd (omega arith) }
@@ -49,7 +49,7 @@ find-node-spec =
     Inv-loop
     μ-loop
     loop-holds
-    same-node-requires
+    same-record-requires
     returns
     add-i
     loop-less

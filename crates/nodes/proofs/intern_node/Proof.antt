@@ -16,8 +16,8 @@ returns c =
     let find-node = c .before .find-node in
     λ ns e z none. is-there (a .out .now) ns e (a .n) z (a .from) (fiveWords (a .r)) none (find-node .result) (find-node .ensures) (c .if1 .taken)
 
-put-node-requires : tie.Need-put-node-requires
-put-node-requires c κs = search needs
+put-record-requires : tie.Need-put-record-requires
+put-record-requires c κs = search needs
 
 add-t12 : tie.Need-add-t12
 add-t12 c = search needs
@@ -29,7 +29,7 @@ returns-2 : tie.Need-returns-2
 returns-2 c =
     let a = c .before .before .before .before .before .before .before .before .args in
     let find-node = c .before .before .before .before .before .find-node in
-    λ ns e z none. is-new (a .out .now) ns e (a .n) z (a .from) (fiveWords (a .r)) none (find-node .result) (find-node .ensures) (c .before .before .before .before .if1 .left) (c .before .before .before .before .before .before .before .before .pre .1) _ (c .before .before .put-node .ensures)
+    λ ns e z none. is-new (a .out .now) ns e (a .n) z (a .from) (fiveWords (a .r)) none (find-node .result) (find-node .ensures) (c .before .before .before .before .if1 .left) (c .before .before .before .before .before .before .before .before .pre .1) _ (c .before .before .put-record .ensures)
 
 pub intern-node-spec : {M : Type 1} → statement M
 intern-node-spec =
@@ -38,7 +38,7 @@ intern-node-spec =
     find-node-requires
     same-length
     returns
-    put-node-requires
+    put-record-requires
     add-t12
     same-length-2
     returns-2)

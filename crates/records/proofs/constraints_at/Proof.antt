@@ -1,29 +1,28 @@
-use Rattle.records.proofs.Reading.{head-inside, head-counts, counts-small}
+use mathlib.Core.Path.{ap, _∙_}
+use Prim.Native.Nat.{ℕ, _+_, _*_}
 use native.Mathlib.Omega.{arith}
 use borrow.Author.Needs.{needs}
+use Rattle.records.proofs.Reading.{head-inside, head-counts, counts-small}
 use Rattle.records.proofs.constraints_at.Statement.{statement}
 use Rattle.records.proofs.constraints_at.Tie as tie
 
--- src/lib.rt:45:18
 shared-slice-read-wide : tie.Need-shared-slice-read-wide
 shared-slice-read-wide c = omega (arith, head-inside (c .before .before .args .sheet .now) (c .before .before .pre))
 
--- src/lib.rt:45:13
 wide-requires : tie.Need-wide-requires
 wide-requires c κs = search needs
 
--- src/lib.rt:45:9
-mul-result : tie.Need-mul-result
-mul-result c = omega (arith, c .wide .ensures, head-counts (c .before .before .before .args .sheet .now) (c .before .before .before .pre), counts-small (c .before .before .before .args .sheet .now) (c .before .before .before .pre))
+records-end-requires : tie.Need-records-end-requires
+records-end-requires c κs =
+    let ws = c .before .before .before .args .sheet .now in
+    let h = c .before .before .before .pre in
+    omega (arith, c .wide .ensures, head-counts ws h .0, counts-small ws h .0)
 
--- src/lib.rt:45:5
-add-result : tie.Need-add-result
-add-result c = omega (arith, c .wide .ensures, head-counts (c .before .before .before .args .sheet .now) (c .before .before .before .pre), counts-small (c .before .before .before .args .sheet .now) (c .before .before .before .pre))
-
--- src/lib.rt:41:1
 returns : tie.Need-returns
-returns c = omega (arith, c .wide .ensures, head-counts (c .before .before .before .args .sheet .now) (c .before .before .before .pre))
+returns c =
+    c .records-end .ensures
+    ∙ ap (λ (n : ℕ). 4 + 5 * n) (c .before .wide .ensures ∙ head-counts (c .before .before .before .before .args .sheet .now) (c .before .before .before .before .pre) .0)
 
 pub constraints-at-spec : {M : Type 1} → statement M
 constraints-at-spec =
-    tie.close (tie.spec shared-slice-read-wide wide-requires mul-result add-result returns)
+    tie.close (tie.spec shared-slice-read-wide wide-requires records-end-requires returns)

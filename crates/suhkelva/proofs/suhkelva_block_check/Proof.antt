@@ -1,7 +1,7 @@
 use mathlib.Core.Path.{ap, _∙_}
 use borrow.Author.Needs.{needs}
-use Rattle.suhkelva.specs.Fields.{blockFields}
-use Rattle.suhkelva.proofs.Laws.{block-reply}
+use Rattle.c_replies.specs.Fields.{blockFields}
+use Rattle.c_replies.proofs.Laws.{block-reply}
 use Rattle.suhkelva.proofs.suhkelva_block_check.Statement.{statement}
 use Rattle.suhkelva.proofs.suhkelva_block_check.Tie as tie
 

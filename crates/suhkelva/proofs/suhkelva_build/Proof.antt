@@ -1,9 +1,6 @@
-use mathlib.Core.Path.{ap, _∙_}
-use mathlib.Core.List.{[]}
 use borrow.Author.Needs.{needs}
-use lib.ListN.{getD}
-use Rattle.suhkelva.specs.Fields.{writtenFields}
-use Rattle.semantics.specs.Call.{Outcome}
+use Rattle.c_replies.specs.Fields.{writtenFields}
+use Rattle.suhkelva.proofs.Laws.{handed}
 use Rattle.suhkelva.proofs.suhkelva_build.Statement.{statement}
 use Rattle.suhkelva.proofs.suhkelva_build.Tie as tie
 
@@ -20,13 +17,7 @@ same-length-2 : tie.Need-same-length-2
 same-length-2 c = search needs
 
 returns : tie.Need-returns
-returns c = (
-  c .written-fields .ensures ∙ ap (λ (o : Outcome). writtenFields (o .reply)) (c .before .before .before .before .before .build .ensures),
-  (
-    ap (λ (o : Outcome). getD (o .slices) 0 []) (c .before .before .before .before .before .build .ensures),
-    ap (λ (o : Outcome). getD (o .slices) 1 []) (c .before .before .before .before .before .build .ensures),
-  ),
-)
+returns c = handed writtenFields (c .written-fields .ensures) (c .before .before .before .before .before .build .ensures)
 
 pub suhkelva-build-spec : {M : Type 1} → statement M
 suhkelva-build-spec =

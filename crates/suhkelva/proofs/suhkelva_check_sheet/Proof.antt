@@ -1,8 +1,8 @@
 use mathlib.Core.Path.{ap, _∙_}
 use borrow.Author.Needs.{needs}
 use Rattle.semantics.specs.Arithmetic.{prime}
-use Rattle.suhkelva.specs.Fields.{sheetFields}
-use Rattle.suhkelva.proofs.Laws.{check-reply}
+use Rattle.c_replies.specs.Fields.{sheetFields}
+use Rattle.c_replies.proofs.Laws.{check-reply}
 use Rattle.suhkelva.proofs.suhkelva_check_sheet.Statement.{statement}
 use Rattle.suhkelva.proofs.suhkelva_check_sheet.Tie as tie
 

@@ -1,6 +1,6 @@
 use mathlib.Core.Path.{ap, _∙_}
 use borrow.Author.Needs.{needs}
-use Rattle.suhkelva.specs.Fields.{numberFields}
+use Rattle.c_replies.specs.Fields.{numberFields}
 use Rattle.semantics.specs.Call.{Outcome}
 use Rattle.suhkelva.proofs.suhkelva_max_rotation.Statement.{statement}
 use Rattle.suhkelva.proofs.suhkelva_max_rotation.Tie as tie

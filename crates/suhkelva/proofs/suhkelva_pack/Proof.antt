@@ -1,7 +1,7 @@
 use mathlib.Core.Path.{ap, _∙_}
 use borrow.Author.Needs.{needs}
-use Rattle.suhkelva.specs.Fields.{packedFields}
-use Rattle.suhkelva.proofs.Laws.{pack-reply}
+use Rattle.c_replies.specs.Fields.{packedFields}
+use Rattle.c_replies.proofs.Laws.{pack-reply}
 use Rattle.suhkelva.proofs.suhkelva_pack.Statement.{statement}
 use Rattle.suhkelva.proofs.suhkelva_pack.Tie as tie
 

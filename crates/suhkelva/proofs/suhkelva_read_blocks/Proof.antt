@@ -1,9 +1,6 @@
-use mathlib.Core.Path.{ap, _∙_}
-use mathlib.Core.List.{[]}
 use borrow.Author.Needs.{needs}
-use lib.ListN.{getD}
-use Rattle.suhkelva.specs.Fields.{writtenFields}
-use Rattle.semantics.specs.Call.{Outcome}
+use Rattle.c_replies.specs.Fields.{writtenFields}
+use Rattle.suhkelva.proofs.Laws.{handed}
 use Rattle.suhkelva.proofs.suhkelva_read_blocks.Statement.{statement}
 use Rattle.suhkelva.proofs.suhkelva_read_blocks.Tie as tie
 
@@ -17,10 +14,7 @@ same-length : tie.Need-same-length
 same-length c = search needs
 
 returns : tie.Need-returns
-returns c = (
-  c .written-fields .ensures ∙ ap (λ (o : Outcome). writtenFields (o .reply)) (c .before .before .before .read-blocks .ensures),
-  ap (λ (o : Outcome). getD (o .slices) 0 []) (c .before .before .before .read-blocks .ensures),
-)
+returns c = handed writtenFields (c .written-fields .ensures) (c .before .before .before .read-blocks .ensures)
 
 pub suhkelva-read-blocks-spec : {M : Type 1} → statement M
 suhkelva-read-blocks-spec =

@@ -1,7 +1,7 @@
 use mathlib.Core.Path.{ap, _∙_}
 use borrow.Author.Needs.{needs}
-use Rattle.suhkelva.specs.Fields.{recordFields}
-use Rattle.suhkelva.proofs.Laws.{unpack-reply}
+use Rattle.c_replies.specs.Fields.{recordFields}
+use Rattle.c_replies.proofs.Laws.{unpack-reply}
 use Rattle.suhkelva.proofs.suhkelva_unpack.Statement.{statement}
 use Rattle.suhkelva.proofs.suhkelva_unpack.Tie as tie
 

@@ -3,17 +3,18 @@ use borrow.Author.Needs.{needs}
 use Rattle.expand.proofs.kinds.expand_neg.Statement.{statement}
 use Rattle.expand.proofs.kinds.expand_neg.Tie as tie
 
--- src/kinds.rt:99:5
 negate-list-requires : tie.Need-negate-list-requires
 negate-list-requires c κs = search needs
 
--- src/kinds.rt:95:1
 same-length : tie.Need-same-length
 same-length c = search needs
 
--- src/kinds.rt:95:1
 returns : tie.Need-returns
-returns c = let a = c .before .before .before .before .before .before .args in let p = c .before .before .before .before .before .before .pre in neg-made (a .pool .now) (a .x .at) (a .x .count) (c .before .before .negate-list .last .0) (p .1) (p .2) (c .before .before .negate-list .ensures)
+returns c =
+    let s = c .before .before .before .before .before .before in
+    let a = s .args in
+    let p = s .pre in
+    neg-made (a .pool .now) (a .x .at) (a .x .count) (c .before .before .negate-list .last .0) (p .1) (p .2) (c .before .before .negate-list .ensures)
 
 pub expand-neg-spec : {M : Type 1} → statement M
 expand-neg-spec = tie.close (tie.spec negate-list-requires same-length returns)

@@ -1,6 +1,6 @@
 use mathlib.Core.Path.{refl}
 use borrow.Author.Tests.{eq-eqb, ne-eqb}
-use Rattle.nodes.proofs.RuleLaws.{and-fails, and-goes}
+use Rattle.records.proofs.Writing.{and-fails, and-goes}
 use Rattle.nodes.proofs.rules.both_constant.Statement.{statement}
 use Rattle.nodes.proofs.rules.both_constant.Tie as tie
 

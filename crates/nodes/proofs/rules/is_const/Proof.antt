@@ -1,6 +1,7 @@
 use mathlib.Core.Path.{refl, sym, _∙_}
 use borrow.Author.Tests.{eq-eqb, ne-eqb}
-use Rattle.nodes.proofs.RuleLaws.{const-is, and-fails, and-goes}
+use Rattle.records.proofs.Writing.{and-fails, and-goes}
+use Rattle.nodes.proofs.RuleLaws.{const-is}
 use Rattle.nodes.proofs.rules.is_const.Statement.{statement}
 use Rattle.nodes.proofs.rules.is_const.Tie as tie
 

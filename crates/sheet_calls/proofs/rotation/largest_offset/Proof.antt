@@ -1,6 +1,9 @@
-use mathlib.Core.Path.{_∙_}
+use mathlib.Core.Path.{ap, _∙_}
+use mathlib.Core.Bool.{cond}
 use Prim.Native.Nat.{_-_}
+use lib.Dec.{eqb}
 use borrow.Author.Needs.{needs}
+use Rattle.semantics.specs.Sheet.{Record}
 use Rattle.sheet_calls.proofs.Offsets.{Largest, largest-none, largest-more, largest-all}
 use Rattle.sheet_calls.proofs.rotation.largest_offset.Statement.{statement}
 use Rattle.sheet_calls.proofs.rotation.largest_offset.Tie as tie
@@ -14,26 +17,8 @@ abbrev μ-loop : tie.MeasureT-loop
 loop-holds : tie.Need-loop-holds Inv-loop μ-loop
 loop-holds c = largest-none (c .before .args .s .now) (c .before .args .records)
 
-mul-at : tie.Need-mul-at Inv-loop μ-loop
-mul-at c = search needs
-
-add-at : tie.Need-add-at Inv-loop μ-loop
-add-at c = search needs
-
-mul-offset-of : tie.Need-mul-offset-of Inv-loop μ-loop
-mul-offset-of c = search needs
-
-shared-slice-read-offset-of : tie.Need-shared-slice-read-offset-of Inv-loop μ-loop
-shared-slice-read-offset-of c = search needs
-
-add-offset-of : tie.Need-add-offset-of Inv-loop μ-loop
-add-offset-of c = search needs
-
-mul-offset-of-2 : tie.Need-mul-offset-of-2 Inv-loop μ-loop
-mul-offset-of-2 c = search needs
-
-shared-slice-read-offset-of-2 : tie.Need-shared-slice-read-offset-of-2 Inv-loop μ-loop
-shared-slice-read-offset-of-2 c = search needs
+record-at-requires : tie.Need-record-at-requires Inv-loop μ-loop
+record-at-requires c κs = search needs
 
 offset-of-requires : tie.Need-offset-of-requires Inv-loop μ-loop
 offset-of-requires c κs = search needs
@@ -49,9 +34,11 @@ loop-less c = search needs
 
 loop-again : tie.Need-loop-again Inv-loop μ-loop
 loop-again c =
-    let args = c .before .before .before .before .before .before .before .args in
-    let loop = c .before .before .before .before .before .loop in
-    largest-more (args .s .now) (args .records) (loop .i) (loop .most) (search needs) (c .before .offset-of .ensures) (c .larger .ensures) (loop .inv)
+    let args = c .before .before .before .before .before .before .args in
+    let loop = c .before .before .before .before .loop in
+    largest-more (args .s .now) (args .records) (loop .i) (loop .most) (search needs)
+    (c .before .offset-of .ensures ∙ ap (λ (q : Record). cond (eqb (q .kind) 1) (q .c) 0) (c .before .before .record-at .ensures))
+    (c .larger .ensures) (loop .inv)
 
 returns : tie.Need-returns Inv-loop μ-loop
 returns c =
@@ -66,13 +53,7 @@ largest-offset-spec =
     Inv-loop
     μ-loop
     loop-holds
-    mul-at
-    add-at
-    mul-offset-of
-    shared-slice-read-offset-of
-    add-offset-of
-    mul-offset-of-2
-    shared-slice-read-offset-of-2
+    record-at-requires
     offset-of-requires
     larger-requires
     add-i

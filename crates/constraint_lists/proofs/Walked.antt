@@ -1,0 +1,91 @@
+-- The walk of a call: from a pool whose first words are cleared to all that the call's roots reach.
+use mathlib.Core.Path.{_≡_, sym, ap, subst, _∙_}
+use mathlib.Core.List.{List, [], _∷_, _++_, map}
+use Prim.Native.Nat.{ℕ, _+_, _*_, _≤_, _<_}
+use native.Mathlib.Omega.{arith}
+use lib.ListN.{length, getD, replicate, length-append, length-replicate, getD-replicate, List·getD-append}
+use Rattle.semantics.specs.Arithmetic.{prime}
+use Rattle.semantics.specs.Answer.{good}
+use Rattle.semantics.specs.Check.{readSheet, check}
+use Rattle.semantics.specs.Walk.{order}
+use Rattle.semantics.specs.Monomial.{listAt}
+use Rattle.semantics.specs.Group.{Root, constraintRoots}
+use Rattle.semantics.proofs.Members.{Mem, mem-here, mem-there, Below}
+use Rattle.semantics.proofs.Orders.{order-roots, order-below, order-distinct, distinct-length}
+use Rattle.semantics.proofs.GraphSheets.{named-below}
+use Rattle.semantics.proofs.Demands.{constraint-nodes}
+use Rattle.semantics.proofs.Sorting.{All}
+use Rattle.records.specs.Access.{recordsOf, part, constraintsAt, NamesInside}
+use Rattle.records.specs.Orders.{Visiting}
+use Rattle.records.proofs.Reading.{constraints-are, constraints-inside, counts-small}
+use Rattle.records.proofs.Steps.{inside, lows}
+use Rattle.expand.specs.declared.Expanded.{Expanded}
+use Rattle.expand.specs.Walking.{Holds, Expands, Walking}
+use Rattle.expand.proofs.Roots.{start-walking, all-expanded}
+use Rattle.constraint_lists.specs.Lists.{CheckedSheet}
+use Rattle.grouping.specs.Families.{Standing, Grouping}
+
+-- Cleared words in front of a pool.
+module _ (ws : List ℕ) (records : ℕ) (are : records ≡ length (recordsOf ws)) (z rest : List ℕ) (n : ℕ) (e : z ≡ replicate n 0) (m : n ≡ 2 * records) where
+  front : length z ≡ 2 * records
+  front = ap length e ∙ length-replicate n 0 ∙ m
+
+  room : 2 * length (recordsOf ws) ≤ length (z ++ rest)
+  room = omega (arith, length-append z rest, front, are)
+
+  clear : (i : ℕ) → i < length (recordsOf ws) → getD (z ++ rest) (2 * i) 0 ≡ 0
+  clear i l =
+      List·getD-append z rest 0 (2 * i) (omega (arith, front, are))
+      ∙ ap (λ (x : List ℕ). getD x (2 * i) 0) e ∙ getD-replicate n (2 * i) 0 0 (omega (arith, m, are))
+
+  pub walk-starts : check prime ws ≡ good (readSheet ws) → (work : List ℕ) → 4096 ≤ length work → Walking ws work (z ++ rest) (2 * records)
+  walk-starts checked work l =
+      subst (λ (k : ℕ). Walking ws work (z ++ rest) (2 * k)) (sym are) (start-walking ws (z ++ rest) room clear checked work l)
+
+  pub walk-ends : (roots pool′ : List ℕ) (u : Expanded) → Visiting ws roots (λ (d : List ℕ). Holds ws d (z ++ rest) (2 * records)) (Expands ws pool′ u)
+      → Expands ws pool′ u (order (recordsOf ws) roots)
+  walk-ends roots pool′ u f =
+      all-expanded ws (z ++ rest) room clear roots pool′ u
+      (subst (λ (k : ℕ). Visiting ws roots (λ (d : List ℕ). Holds ws d (z ++ rest) (2 * k)) (Expands ws pool′ u)) are f)
+
+module _ (ws : List ℕ) (records constraints interactions : ℕ) (h : CheckedSheet ws records constraints interactions) where
+  pub names-there : (at : ℕ) → at ≡ constraintsAt ws → NamesInside ws at constraints
+  names-there at e =
+      subst (λ (a : ℕ). NamesInside ws a constraints) (sym e)
+      (subst (NamesInside ws (constraintsAt ws)) (sym (h .constraints-are)) (constraints-inside ws (h .checked)))
+
+  pub names-are : (at : ℕ) → at ≡ constraintsAt ws → part at constraints ws ≡ readSheet ws .constraints
+  names-are at e =
+      ap (λ (a : ℕ). part a constraints ws) e ∙ ap (λ (c : ℕ). part (constraintsAt ws) c ws) (h .constraints-are) ∙ constraints-are ws (h .checked)
+
+-- Every root, where every record that one names.
+all-nodes : (P : ℕ → Type 0) (roots : List Root) → ((i : ℕ) → Mem i (map (λ (r : Root). r .node) roots) → P i) → All (λ (r : Root). P (r .node)) roots
+all-nodes P [] f = tt
+all-nodes P (r ∷ rs) f = (
+  f (r .node) (mem-here (r .node) (map (λ (x : Root). x .node) rs)),
+  all-nodes P rs (λ i m. f i (mem-there i (r .node) (map (λ (x : Root). x .node) rs) m)),
+)
+
+-- The lists of all that was reached stand in the pool.
+module _ (ws : List ℕ) (checked : check prime ws ≡ good (readSheet ws)) (names : List ℕ) (below : Below (length (recordsOf ws)) names)
+    (pool : List ℕ) (used : ℕ) (holds : Holds ws (order (recordsOf ws) names) pool used) where
+  pub standing : (i : ℕ) → Mem i names → Standing (listAt prime (recordsOf ws)) pool i
+  standing i m =
+      let k = holds .old i (order-roots (recordsOf ws) (lows ws checked) names below i m) in
+      let d = distinct-length (length (recordsOf ws)) (order (recordsOf ws) names) (order-distinct (recordsOf ws) (lows ws checked) names below)
+      (order-below (recordsOf ws) (lows ws checked) names below) in
+      record { stored = k .stored; low = omega (arith, k .before, holds .small, d, counts-small ws checked .0); few = k .few }
+
+  pub grouping-of : (roots : List Root) → ((i : ℕ) → Mem i (map (λ (r : Root). r .node) roots) → Mem i names) → Grouping ws pool roots
+  grouping-of roots f = record {
+    checked = checked;
+    lists = all-nodes (Standing (listAt prime (recordsOf ws)) pool) roots (λ i m. standing i (f i m));
+  }
+
+-- The constraints.
+module _ (ws : List ℕ) (checked : check prime ws ≡ good (readSheet ws)) (pool : List ℕ) (used : ℕ)
+    (holds : Holds ws (order (recordsOf ws) (readSheet ws .constraints)) pool used) where
+  pub constraints-grouping : Grouping ws pool (constraintRoots (readSheet ws))
+  constraints-grouping =
+      grouping-of ws checked (readSheet ws .constraints) (named-below (length (recordsOf ws)) (readSheet ws .constraints) (inside ws checked .constraints))
+      pool used holds (constraintRoots (readSheet ws)) (λ i m. subst (Mem i) (constraint-nodes (readSheet ws)) m)

@@ -1,0 +1,94 @@
+// The lists of a checked sheet's constraints: its records are expanded, then grouped.
+ghost use mathlib.Core.Path.{_≡_};
+ghost use Prim.Native.Nat.{ℕ, _*_, _≤_};
+ghost use lib.ListN.{length};
+ghost use Rattle.semantics.specs.Check.{readSheet};
+ghost use Rattle.semantics.specs.Walk.{order};
+ghost use Rattle.records.specs.Access.{recordsOf};
+ghost use Rattle.expand.specs.Walking.{Expands};
+ghost use Rattle.constraint_lists.specs.Lists.{refusalOf, constraintsIn, constraintAnswer, constraintsOf, Inside, CheckedSheet};
+use expand::Expanded;
+use grouping::Grouped;
+use grouping::Lengths;
+use sheet::Refusal;
+
+pub enum ConstraintLists {
+    Written(Lengths),
+    Refused(Refusal),
+}
+
+// The refusal of a walk that refused.
+pub fn refusal_of(walked: Expanded) -> Refusal
+    ensures { λ r. ⌜ r ≡ refusalOf walked ⌝ }
+{
+    match walked {
+        Expanded::Refused(r) => r,
+        Expanded::Used(_) => Refusal {
+            number: 0,
+            place: 0,
+        },
+    }
+}
+
+// A slice that is too short is refused by 17.
+fn constraints_in(grouped: Grouped) -> ConstraintLists
+    ensures { λ r. ⌜ r ≡ constraintsIn grouped ⌝ }
+{
+    match grouped {
+        Grouped::Written(n) => ConstraintLists::Written(n),
+        Grouped::Short(k) => ConstraintLists::Refused(Refusal {
+            number: 17,
+            place: k,
+        }),
+    }
+}
+
+// Expands the constraints of a checked sheet, with the two words of each record cleared first.
+fn walk_constraints(
+    s: &[u32],
+    records: usize,
+    constraints: usize,
+    work: &mut [u32],
+    pool: &mut [u32],
+) -> Expanded
+    requires { ⌜ ((interactions : ℕ) × CheckedSheet (now s) records constraints interactions) × (4096 ≤ length (now work)) × (2 * records ≤ length (now pool)) ⌝ }
+    ensures { λ u. ⌜ Expands (now (s .entry)) (now (pool .exit)) u (order (recordsOf (now (s .entry))) (readSheet (now (s .entry)) .constraints)) ⌝ }
+{
+    let heads = 2 * records;
+    slices::zero_all(&mut pool[..heads]);
+    let at = records::constraints_at(s);
+    expand::expand_names(s, at, constraints, work, pool, heads)
+}
+
+// The lists of a checked sheet's constraints.
+pub fn expand_checked(
+    s: &[u32],
+    records: usize,
+    constraints: usize,
+    work: &mut [u32],
+    pool: &mut [u32],
+    headers: &mut [u32],
+    variables: &mut [u32],
+    terms: &mut [u32],
+) -> ConstraintLists
+    requires { ⌜ ((interactions : ℕ) × CheckedSheet (now s) records constraints interactions) ⌝ }
+    ensures { λ r. ⌜ (constraintAnswer r (now (headers .exit)) (now (variables .exit)) (now (terms .exit)) ≡ constraintsOf (length (now (work .entry))) (length (now (pool .entry))) (length (now (headers .entry))) (length (now (variables .entry))) (length (now (terms .entry))) (readSheet (now (s .entry)))) × Inside r (now (headers .exit)) (now (variables .exit)) (now (terms .exit)) ⌝ }
+{
+    if work.len() < 4096 {
+        return ConstraintLists::Refused(Refusal {
+            number: 14,
+            place: 4096,
+        });
+    }
+    if pool.len() < 2 * records {
+        return ConstraintLists::Refused(Refusal {
+            number: 14,
+            place: 2 * records,
+        });
+    }
+    let walked = walk_constraints(s, records, constraints, work, pool);
+    let Expanded::Used(_used) = walked else {
+        return ConstraintLists::Refused(refusal_of(walked));
+    };
+    constraints_in(grouping::group_constraints(s, pool, headers, variables, terms))
+}

@@ -1,0 +1,117 @@
+-- Headers and their words: taken out one by one, and put back.
+use mathlib.Core.Path.{_≡_, refl, sym, ap, _∙_}
+use mathlib.Core.List.{List, [], _∷_, _++_, append-assoc}
+use Prim.Native.Nat.{ℕ, zero, suc, _+_, _*_, _-_, _≤_, _<_}
+use native.Mathlib.Numerals.{add-one}
+use native.Mathlib.Omega.{arith}
+use lib.ListN.{length, getD, set, take, drop, replicate, length-append, length-replicate, take-append-drop}
+use lib.Seq.{take-suc, take-at, drop-at, drop-drop, getD-drop, length-take-le, set-at, sets-eq}
+use Rattle.header_offsets.specs.declared.MonomialHeader.{MonomialHeader}
+use Rattle.header_offsets.specs.Headers.{noHeader, headerIn, headersIn, wordsOf}
+
+-- A header by its words.
+pub header-read : (ws : List ℕ) (at : ℕ)
+    → _≡_ {A = MonomialHeader} (record { «var_offset» = getD ws at 0; «term_offset» = getD ws (at + 1) 0; «num_vars» = getD ws (at + 2) 0; «num_terms» = getD ws (at + 3) 0 })
+    (headerIn (drop at ws))
+unfolding headerIn
+header-read ws at =
+    let z : at ≡ at + 0 = omega arith in
+    let a : getD ws at 0 ≡ getD (drop at ws) 0 0 = ap (λ (i : ℕ). getD ws i 0) z ∙ sym (getD-drop at ws 0 0) in
+    λ i. record { «var_offset» = a i; «term_offset» = sym (getD-drop at ws 1 0) i; «num_vars» = sym (getD-drop at ws 2 0) i; «num_terms» = sym (getD-drop at ws 3 0) i }
+
+-- The words of a header stored.
+pub header-stored : (ws : List ℕ) (at : ℕ) (h : MonomialHeader) → at + 4 ≤ length ws
+    → set (set (set (set ws at (h .«var_offset»)) (at + 1) (h .«term_offset»)) (at + 2) (h .«num_vars»)) (at + 3) (h .«num_terms»)
+    ≡ take at ws ++ (wordsOf (h ∷ []) ++ drop (at + 4) ws)
+unfolding wordsOf
+header-stored ws at h l =
+    let e : at + 1 ≡ suc at = omega arith in
+    let f : at + 2 ≡ suc (suc at) = omega arith in
+    let g : at + 3 ≡ suc (suc (suc at)) = omega arith in
+    rw (e, f, g) (sets-eq (wordsOf (h ∷ [])) ws at l ∙ append-assoc (take at ws) (wordsOf (h ∷ [])) (drop (at + 4) ws))
+
+pub in-length : (n : ℕ) (ws : List ℕ) → length (headersIn n ws) ≡ n
+unfolding headersIn
+in-length zero ws = refl
+in-length (suc n) ws = ap suc (in-length n (drop 4 ws))
+
+pub in-append : (i k : ℕ) (ws : List ℕ) → headersIn (i + k) ws ≡ headersIn i ws ++ headersIn k (drop (4 * i) ws)
+unfolding headersIn
+in-append zero k ws = let z : 0 + k ≡ k = omega arith in ap (λ (j : ℕ). headersIn j ws) z
+in-append (suc i) k ws =
+    let z : suc i + k ≡ suc (i + k) = omega arith in
+    let f : 4 + 4 * i ≡ 4 * suc i = omega arith in
+    ap (λ (j : ℕ). headersIn j ws) z ∙ ap (λ (r : List MonomialHeader). headerIn ws ∷ r) (in-append i k (drop 4 ws))
+    ∙ ap (λ (r : List ℕ). headerIn ws ∷ (headersIn i (drop 4 ws) ++ headersIn k r)) (drop-drop (4 * i) 4 ws ∙ ap (λ (j : ℕ). drop j ws) f)
+
+pub words-length : (hs : List MonomialHeader) → length (wordsOf hs) ≡ 4 * length hs
+unfolding wordsOf
+words-length [] = refl
+words-length (h ∷ hs) = omega (arith, words-length hs)
+
+pub words-append : (xs ys : List MonomialHeader) → wordsOf (xs ++ ys) ≡ wordsOf xs ++ wordsOf ys
+unfolding wordsOf
+words-append [] ys = refl
+words-append (x ∷ xs) ys =
+    ap (λ (r : List ℕ). x .«var_offset» ∷ x .«term_offset» ∷ x .«num_vars» ∷ x .«num_terms» ∷ r) (words-append xs ys)
+
+-- While headers are taken: the first j, and headers of four zeros.
+abbrev pub Taken : (ws : List ℕ) (j : ℕ) (hs : List MonomialHeader) → Type 0
+Taken ws j hs = hs ≡ headersIn j ws ++ replicate (16 - j) noHeader
+
+pub taken-none : (ws : List ℕ) → Taken ws 0 (replicate 16 noHeader)
+unfolding headersIn
+taken-none ws = refl
+
+module _ (ws : List ℕ) (j : ℕ) (hs : List MonomialHeader) (e : Taken ws j hs) where
+  pub taken-length : j ≤ 16 → length hs ≡ 16
+  taken-length l =
+      ap length e ∙ length-append (headersIn j ws) (replicate (16 - j) noHeader)
+      ∙ omega (arith, in-length j ws, length-replicate (16 - j) noHeader)
+
+  pub taken-next : j < 16 → Taken ws (j + 1) (set hs j (headerIn (drop (4 * j) ws)))
+  unfolding headersIn
+  taken-next l =
+      let x : MonomialHeader = headerIn (drop (4 * j) ws) in
+      let rest : List MonomialHeader = replicate (16 - (j + 1)) noHeader in
+      let n : 16 - j ≡ suc (16 - (j + 1)) = omega arith in
+      ap (λ (r : List MonomialHeader). set r j x) (e ∙ ap (λ (m : ℕ). headersIn j ws ++ replicate m noHeader) n)
+      ∙ set-at (headersIn j ws) noHeader rest x j (in-length j ws)
+      ∙ sym (append-assoc (headersIn j ws) (x ∷ []) rest)
+      ∙ ap (λ (r : List MonomialHeader). r ++ rest) (sym (in-append j 1 ws))
+
+-- While headers are put back: the words of the first j.
+abbrev pub Put : (ws₀ : List ℕ) (at : ℕ) (hs : List MonomialHeader) (j : ℕ) (ws : List ℕ) → Type 0
+Put ws₀ at hs j ws = ws ≡ take at ws₀ ++ (wordsOf (take j hs) ++ drop (at + 4 * j) ws₀)
+
+pub put-none : (ws : List ℕ) (at : ℕ) (hs : List MonomialHeader) → Put ws at hs 0 ws
+unfolding wordsOf
+put-none ws at hs = let z : at ≡ at + 4 * 0 = omega arith in sym (take-append-drop at ws) ∙ ap (λ (i : ℕ). take at ws ++ drop i ws) z
+
+module _ (ws₀ : List ℕ) (at : ℕ) (hs : List MonomialHeader) (j : ℕ) (ws : List ℕ) (p : Put ws₀ at hs j ws) (l : j < length hs) (r : at + 4 * (j + 1) ≤ length ws₀) where
+  front : List ℕ
+  front = take at ws₀ ++ wordsOf (take j hs)
+
+  front-length : length front ≡ at + 4 * j
+  unfolding front
+  front-length =
+      length-append (take at ws₀) (wordsOf (take j hs))
+      ∙ omega (arith, length-take-le at ws₀ (omega arith), words-length (take j hs), length-take-le j hs (omega arith))
+
+  split : ws ≡ front ++ drop (at + 4 * j) ws₀
+  unfolding front
+  split = p ∙ sym (append-assoc (take at ws₀) (wordsOf (take j hs)) (drop (at + 4 * j) ws₀))
+
+  pub put-next : (ws′ : List ℕ) → ws′ ≡ take (at + 4 * j) ws ++ (wordsOf (getD hs j noHeader ∷ []) ++ drop (at + 4 * j + 4) ws) → Put ws₀ at hs (j + 1) ws′
+  unfolding front
+  put-next ws′ e =
+      let h : List ℕ = wordsOf (getD hs j noHeader ∷ []) in
+      let m : at + 4 * j + 4 ≡ at + 4 * (j + 1) = omega arith in
+      let f : take (at + 4 * j) ws ≡ front = ap (take (at + 4 * j)) split ∙ take-at front (drop (at + 4 * j) ws₀) (at + 4 * j) front-length in
+      let d : drop (at + 4 * j + 4) ws ≡ drop (at + 4 * (j + 1)) ws₀ =
+      sym (drop-drop 4 (at + 4 * j) ws) ∙ ap (drop 4) (ap (drop (at + 4 * j)) split ∙ drop-at front (drop (at + 4 * j) ws₀) (at + 4 * j) front-length)
+      ∙ drop-drop 4 (at + 4 * j) ws₀ ∙ ap (λ (i : ℕ). drop i ws₀) m in
+      let w : wordsOf (take (j + 1) hs) ≡ wordsOf (take j hs) ++ h =
+      ap (λ (i : ℕ). wordsOf (take i hs)) (add-one j) ∙ ap wordsOf (take-suc hs j noHeader l) ∙ words-append (take j hs) (getD hs j noHeader ∷ []) in
+      e ∙ (λ i. f i ++ (h ++ d i)) ∙ append-assoc (take at ws₀) (wordsOf (take j hs)) (h ++ drop (at + 4 * (j + 1)) ws₀)
+      ∙ ap (λ (x : List ℕ). take at ws₀ ++ x) (sym (append-assoc (wordsOf (take j hs)) h (drop (at + 4 * (j + 1)) ws₀)) ∙ ap (λ (x : List ℕ). x ++ drop (at + 4 * (j + 1)) ws₀) (sym w))

@@ -1,0 +1,4 @@
+pub mod Offsets
+pub mod Filling
+pub mod HeaderWords
+pub mod Chunks

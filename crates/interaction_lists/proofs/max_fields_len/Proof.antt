@@ -1,0 +1,54 @@
+use borrow.Author.Needs.{needs}
+use mathlib.Core.Path.{ap, _∙_}
+use Prim.Native.Nat.{ℕ, _-_, max}
+use lib.ListN.{length}
+use Rattle.records.specs.Access.{recordsOf}
+use Rattle.records.specs.declared.Interaction.{Interaction}
+use Rattle.interaction_lists.proofs.Messages.{Looking, looking-none, looking-at, looking-more, looking-done}
+use Rattle.interaction_lists.proofs.max_fields_len.Statement.{statement}
+use Rattle.interaction_lists.proofs.max_fields_len.Tie as tie
+
+abbrev Inv-loop : tie.InvT-loop
+Inv-loop s at interactions most₀ from₀ i₀ most from i = Looking (length (recordsOf s)) s at interactions most from i
+
+abbrev μ-loop : tie.MeasureT-loop
+μ-loop s at interactions most₀ from₀ i₀ most from i = interactions - i
+
+loop-holds : tie.Need-loop-holds Inv-loop μ-loop
+loop-holds c =
+    let a = c .before .args in
+    looking-none (length (recordsOf (a .s .now))) (a .s .now) (a .at) (a .interactions) (c .before .pre)
+
+interaction-at-requires : tie.Need-interaction-at-requires Inv-loop μ-loop
+interaction-at-requires c κs =
+    let a = c .before .before .before .args in
+    let b = c .before .loop in
+    looking-at (length (recordsOf (a .s .now))) (a .s .now) (a .at) (a .interactions) (b .most) (b .from) (b .i) (b .inv) (c .loop-test .taken) .inside
+
+larger-requires : tie.Need-larger-requires Inv-loop μ-loop
+larger-requires c κs = search needs
+
+add-i : tie.Need-add-i Inv-loop μ-loop
+add-i c = search needs
+
+loop-less : tie.Need-loop-less Inv-loop μ-loop
+loop-less c = search needs
+
+loop-again : tie.Need-loop-again Inv-loop μ-loop
+loop-again c =
+    let a = c .before .before .before .before .before .args in
+    let b = c .before .before .before .loop in
+    let x = c .before .interaction-at in
+    looking-more (length (recordsOf (a .s .now))) (a .s .now) (a .at) (a .interactions) (b .most) (b .from) (b .i) (b .inv) (c .before .before .loop-test .taken) (c .larger .result) (x .result .next)
+    (c .larger .ensures ∙ ap (λ (y : Interaction). max (b .most) (y .message)) (x .ensures)) (ap (λ (y : Interaction). y .next) (x .ensures))
+
+returns : tie.Need-returns Inv-loop μ-loop
+returns c =
+    let a = c .before .before .before .args in
+    let b = c .before .loop in
+    looking-done (length (recordsOf (a .s .now))) (a .s .now) (a .at) (a .interactions) (b .most) (b .from) (b .i) (b .inv) (c .loop-test .left)
+
+pub max-fields-len-spec : {M : Type 1} → statement M
+max-fields-len-spec =
+    tie.close
+    (tie.spec Inv-loop μ-loop loop-holds interaction-at-requires larger-requires add-i loop-less loop-again returns)

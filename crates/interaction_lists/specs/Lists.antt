@@ -1,0 +1,48 @@
+-- The lists of the interactions and the two numbers, or why there are none (01, "What each call hands back").
+use mathlib.Core.List.{List, [], _∷_, _++_}
+use Prim.Native.Nat.{ℕ, zero, suc, _+_, _≤_, max}
+use lib.ListN.{length, take}
+use Rattle.semantics.specs.Arithmetic.{prime}
+use Rattle.semantics.specs.Answer.{Answer, good, refused}
+use Rattle.semantics.specs.Sheet.{Sheet}
+use Rattle.semantics.specs.Group.{countRoots, fieldRoots}
+use Rattle.semantics.specs.Call.{Result, interactionOutputs, maxFieldsLen}
+use Rattle.records.specs.Access.{messageLength}
+use Rattle.sheet.specs.declared.Refusal.{Refusal}
+use Rattle.grouping.specs.declared.Grouped.{Grouped}
+use Rattle.grouping.specs.declared.Grouped.the-variants as grouped
+use Rattle.constraint_lists.specs.Lists.{Fit, expansionOf, tooShort}
+use Rattle.interaction_lists.specs.declared.InteractionLists.{InteractionLists}
+use Rattle.interaction_lists.specs.declared.InteractionLists.the-variants.{Written, Refused}
+
+abbrev pub interactionAnswer : InteractionLists → (h v t h′ v′ t′ : List ℕ) → Answer Result
+interactionAnswer (Written n) h v t h′ v′ t′ = good (record {
+  outputs =
+      take (n .numerators .headers) h ∷ take (n .numerators .variables) v ∷ take (n .numerators .terms) t
+      ∷ take (n .denominators .headers) h′ ∷ take (n .denominators .variables) v′ ∷ take (n .denominators .terms) t′ ∷ [];
+  numbers = n .«num_interactions» ∷ n .«max_fields_len» ∷ [];
+})
+interactionAnswer (Refused r) h v t h′ v′ t′ = refused (r .number) (r .place)
+
+abbrev pub BothInside : InteractionLists → (h v t h′ v′ t′ : List ℕ) → Type 0
+BothInside (Written n) h v t h′ v′ t′ = Fit (n .numerators) h v t × Fit (n .denominators) h′ v′ t′
+BothInside (Refused r) h v t h′ v′ t′ = Unit {0}
+
+abbrev pub interactionsOf : (work pool h v t h′ v′ t′ : ℕ) → Sheet → Answer Result
+interactionsOf work pool h v t h′ v′ t′ =
+    expansionOf work pool (h ∷ v ∷ t ∷ h′ ∷ v′ ∷ t′ ∷ []) (λ s. countRoots s ++ fieldRoots s) (interactionOutputs prime)
+    (λ s. length (s .interactions) ∷ maxFieldsLen s ∷ [])
+
+abbrev pub shortOf : Grouped → (first : ℕ) → Refusal
+shortOf (grouped.Short k) first = tooShort (first + k)
+shortOf (grouped.Written n) first = record { number = 0; place = 0 }
+
+-- A slice's number is at most 3.
+abbrev pub ShortFew : Grouped → Type 0
+ShortFew (grouped.Short k) = k ≤ 3
+ShortFew (grouped.Written n) = Unit {0}
+
+-- The largest message length of n interactions from `at` on.
+unfoldable pub longestFrom : (ws : List ℕ) (at n : ℕ) → ℕ
+longestFrom ws at zero = 0
+longestFrom ws at (suc n) = max (messageLength ws at) (longestFrom ws (at + (4 + messageLength ws at)) n)

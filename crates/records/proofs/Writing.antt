@@ -1,0 +1,46 @@
+-- A record's words compared, and words written one behind the other.
+use mathlib.Core.Path.{_≡_, refl, sym, _∙_, ap}
+use mathlib.Core.Bool.{Bool, true, false, _&&_, true≢false}
+use mathlib.Core.List.{List, [], _∷_}
+use Prim.Native.Nat.{ℕ, suc, _+_}
+use native.Mathlib.Omega.{arith}
+use native.Mathlib.Numerals.{add-one}
+use lib.Dec.{eqb}
+use lib.ListN.{set}
+use lib.Seq.{sets}
+use Rattle.semantics.specs.Sheet.{Record}
+use Rattle.semantics.specs.Graph.{equalRecords}
+
+-- Tests in a row: one that fails decides, and behind one that holds the rest does.
+pub and-fails : (s t : Bool) → s ≡ false → false ≡ s && t
+and-fails true t e = absurd (true≢false e)
+and-fails false t e = refl
+
+pub and-goes : (s t : Bool) {u : Bool} → s ≡ true → u ≡ t → u ≡ s && t
+and-goes true t e h = h
+and-goes false t e h = absurd (true≢false (sym e))
+
+-- Equal in all five words, word by word.
+and-assoc : (s t u : Bool) → (s && t) && u ≡ s && (t && u)
+and-assoc true t u = refl
+and-assoc false t u = refl
+
+pub equal-words : (q m : Record) → equalRecords q m ≡ eqb (q .kind) (m .kind) && (eqb (q .a) (m .a) && (eqb (q .b) (m .b) && (eqb (q .c) (m .c) && eqb (q .d) (m .d))))
+unfolding equalRecords
+equal-words q m = simp and-assoc
+
+pub equal-read : (q m n : Record) → m ≡ n → eqb (q .kind) (m .kind) && (eqb (q .a) (m .a) && (eqb (q .b) (m .b) && (eqb (q .c) (m .c) && eqb (q .d) (m .d)))) ≡ equalRecords q n
+equal-read q m n e = sym (equal-words q m) ∙ ap (equalRecords q) e
+
+-- Stores one behind the other: of two words, and of a record's.
+pub two-stores : (ws : List ℕ) (at a b : ℕ) → set (set ws at a) (at + 1) b ≡ sets ws at (a ∷ b ∷ [])
+two-stores ws at a b = ap (λ (k : ℕ). set (set ws at a) k b) (add-one at)
+
+pub five-stores : (ws : List ℕ) (at k a b c d : ℕ)
+    → set (set (set (set (set ws at k) (at + 1) a) (at + 2) b) (at + 3) c) (at + 4) d ≡ sets ws at (k ∷ a ∷ b ∷ c ∷ d ∷ [])
+five-stores ws at k a b c d =
+    let e₁ : at + 1 ≡ suc at = omega arith in
+    let e₂ : at + 2 ≡ suc (suc at) = omega arith in
+    let e₃ : at + 3 ≡ suc (suc (suc at)) = omega arith in
+    let e₄ : at + 4 ≡ suc (suc (suc (suc at))) = omega arith in
+    rw (e₁, e₂, e₃, e₄)
