@@ -15,7 +15,7 @@ use Rattle.records.specs.Access.{part}
 use Rattle.records.proofs.Parts.{part-more}
 use Rattle.nodes.specs.Memory.{tabulate}
 use Rattle.nodes.proofs.Marks.{tabulate-length, tabulate-from, tabulate-same, tabulate-set}
-use Rattle.graph_lists.specs.Lists.{flagWord, flagged, ascending, nodeNumbers, marksOf, Named}
+use Rattle.graph_lists.specs.Lists.{flagWord, flagged, nodeNumbers, marksOf, Named}
 
 -- A member of a list with one more.
 member-snoc : (i x : ℕ) (xs : List ℕ) (t : Bool) → eqb i x ≡ t → member i (xs ++ (x ∷ [])) ≡ cond (member i xs) true t
@@ -71,6 +71,11 @@ module _ (n : ℕ) (f : ℕ → ℕ) (small : (i : ℕ) → i < n → f i < 6553
       entry i m false e =
           ap (λ (d : Bool). cond d (flagWord (flagged f nums k)) (flagged f nums i)) e
           ∙ sym (ap (λ (b : Bool). f i + cond b 65536 0) (member-snoc i k nums false e ∙ rest (member i nums)))
+
+-- The members of a list among k, k + 1, .., n of them.
+unfoldable pub ascending : (k n : ℕ) → List ℕ → List ℕ
+ascending k zero nums = []
+ascending k (suc n) nums = cond (member k nums) (k ∷ ascending (suc k) n nums) (ascending (suc k) n nums)
 
 -- The numbers from k on that are members ascend, and one more member is put in its place.
 ascending-low : (k n : ℕ) (nums : List ℕ) (x : ℕ) → x < k → insertOnce x (ascending k n nums) ≡ x ∷ ascending k n nums

@@ -14,7 +14,7 @@ use Rattle.semantics.specs.Graph.{setNum}
 use Rattle.semantics.specs.Call.{zeros, padded}
 use Rattle.nodes.specs.Memory.{tabulate}
 use Rattle.nodes.proofs.Marks.{tabulate-length, tabulate-from, tabulate-same, tabulate-set}
-use Rattle.graph_lists.specs.Lists.{flagged, ascending, put, plainWord, plainBelow, chosen, Wanted, flaggedAmong, marksOf}
+use Rattle.graph_lists.specs.Lists.{flagged, put, plainWord, plainBelow, chosen, Wanted, flaggedAmong, marksOf}
 use Rattle.graph_lists.proofs.Flags.{table-of}
 
 -- Words put behind words that were put.

@@ -22,11 +22,6 @@ flagged f nums i = f i + cond (member i nums) 65536 0
 unfoldable pub flagWord : ℕ → ℕ
 flagWord w = cond (leb 65536 w) w (w + 65536)
 
--- The members of a list among k, k + 1, .., n of them.
-unfoldable pub ascending : (k n : ℕ) → List ℕ → List ℕ
-ascending k zero nums = []
-ascending k (suc n) nums = cond (member k nums) (k ∷ ascending (suc k) n nums) (ascending (suc k) n nums)
-
 -- The nodes of records, from marks that count from 1.
 abbrev pub nodeNumbers : (ℕ → ℕ) → List ℕ → List ℕ
 nodeNumbers f xs = map (λ (x : ℕ). pred (f x)) xs
