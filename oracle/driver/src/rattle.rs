@@ -1,6 +1,7 @@
 //! The rewrite, called through the crate `suhkelva`: its answers and what it wrote, as outcomes.
 
 use std::hint::black_box;
+use std::sync::LazyLock;
 
 use plain::calls::{Family, WORK};
 use plain::{Outcome, Record, Reply, Sheet};
@@ -47,16 +48,22 @@ fn says<A>(answer: Answer<A>, numbers: impl FnOnce(&A) -> Vec<usize>) -> Outcome
 /// Elements beyond what is lent, which must stay as they are.
 const GUARD: usize = 8;
 
-/// What is lent for writing, filled with noise before the call: none of it may be left, and what stands behind must be.
-struct Lent<T> {
+/// What is lent for writing, filled with noise before the call, again and again: none of it may be left, and what stands behind must
+/// be.
+struct Lent<T: 'static> {
     elements: Vec<T>,
     lent: usize,
-    noise: fn(usize) -> T,
+    noise: &'static [T],
 }
 
-impl<T: PartialEq> Lent<T> {
-    fn new(lent: usize, noise: fn(usize) -> T) -> Self {
-        let elements = (0..lent + GUARD).map(noise).collect();
+impl<T: PartialEq + Copy> Lent<T> {
+    fn new(lent: usize, noise: &'static [T]) -> Self {
+        let length = lent + GUARD;
+        let mut elements = Vec::with_capacity(length);
+        while elements.len() < length {
+            let more = noise.len().min(length - elements.len());
+            elements.extend_from_slice(&noise[..more]);
+        }
         Lent {
             elements,
             lent,
@@ -71,30 +78,39 @@ impl<T: PartialEq> Lent<T> {
     fn after(mut self) -> Vec<T> {
         let behind = self.elements.split_off(self.lent);
         let mut behind = behind.into_iter().enumerate();
-        let untouched = behind.all(|(k, x)| x == (self.noise)(self.lent + k));
+        let untouched = behind.all(|(k, x)| x == self.noise[(self.lent + k) % self.noise.len()]);
         assert!(untouched, "the library wrote past what it was lent");
         self.elements
     }
 }
 
-/// Words and bytes that are not zero, some of the words small as record numbers and counts are.
-fn words(k: usize) -> u32 {
-    let word = (k as u32 + 1).wrapping_mul(0x9e37_79b9);
-    match word >> 30 {
-        0 => word % 4_096 + 1,
-        1 => word % 15 + 1,
-        _ => word,
-    }
+/// Words and bytes that are not zero, some of the words small as record numbers and counts are. Their number is a prime, so that what is
+/// moved by a round number of words is not the same again.
+const NOISE: u32 = 65_521;
+
+fn words() -> &'static [u32] {
+    static WORDS: LazyLock<Vec<u32>> = LazyLock::new(|| {
+        let words = (1..=NOISE).map(|k| k.wrapping_mul(0x9e37_79b9));
+        let noise = words.map(|word| match word >> 30 {
+            0 => word % 4_096 + 1,
+            1 => word % 15 + 1,
+            _ => word,
+        });
+        noise.collect()
+    });
+    &WORDS
 }
 
-fn bytes(k: usize) -> u8 {
-    words(k) as u8 | 1
+fn bytes() -> &'static [u8] {
+    static BYTES: LazyLock<Vec<u8>> =
+        LazyLock::new(|| words().iter().map(|&word| word as u8 | 1).collect());
+    &BYTES
 }
 
 /// The outcome of a call that is lent one slice for writing and says how much it wrote there.
-fn writing<T: PartialEq>(
+fn writing<T: PartialEq + Copy>(
     lent: usize,
-    noise: fn(usize) -> T,
+    noise: &'static [T],
     call: impl FnOnce(&mut [T]) -> Answer<usize>,
 ) -> Outcome<T> {
     let mut out = Lent::new(lent, noise);
@@ -217,20 +233,20 @@ impl Implementation for Rattle {
     }
 
     fn conversion(&self, sheet: &[u32], out: usize) -> Outcome {
-        writing(out, words, |out| suhkelva::convert(sheet, out))
+        writing(out, words(), |out| suhkelva::convert(sheet, out))
     }
 
     fn reader(&self, blocks: &[u8], out: usize) -> Outcome {
-        writing(out, words, |out| suhkelva::read_blocks(blocks, out))
+        writing(out, words(), |out| suhkelva::read_blocks(blocks, out))
     }
 
     fn writer(&self, sheet: &[u32], out: usize) -> Outcome<u8> {
-        writing(out, bytes, |out| suhkelva::write_blocks(sheet, out))
+        writing(out, bytes(), |out| suhkelva::write_blocks(sheet, out))
     }
 
     fn builder(&self, sheet: &[u32], scratch: usize, out: usize) -> Outcome {
-        let mut scratch = Lent::new(scratch, words);
-        let mut out = Lent::new(out, words);
+        let mut scratch = Lent::new(scratch, words());
+        let mut out = Lent::new(out, words());
         let answer = suhkelva::build(sheet, scratch.slice(), out.slice());
         let slices = vec![scratch.after(), out.after()];
         outcome(answer, |&count| vec![count], |_| vec![], slices)
@@ -243,8 +259,8 @@ impl Implementation for Rattle {
         pool: usize,
         lent: [usize; 3],
     ) -> Outcome {
-        let [mut work, mut pool] = [work, pool].map(|n| Lent::new(n, words));
-        let mut lent = lent.map(|n| Lent::new(n, words));
+        let [mut work, mut pool] = [work, pool].map(|n| Lent::new(n, words()));
+        let mut lent = lent.map(|n| Lent::new(n, words()));
         let (of_work, of_pool) = (work.slice(), pool.slice());
         let answer = suhkelva::expand_constraints(sheet, of_work, of_pool, lists(&mut lent));
         let slices = [work, pool].into_iter().chain(lent).map(Lent::after);
@@ -258,8 +274,8 @@ impl Implementation for Rattle {
         pool: usize,
         lent: [usize; 6],
     ) -> Outcome {
-        let [mut work, mut pool] = [work, pool].map(|n| Lent::new(n, words));
-        let mut lent = lent.map(|n| Lent::new(n, words));
+        let [mut work, mut pool] = [work, pool].map(|n| Lent::new(n, words()));
+        let mut lent = lent.map(|n| Lent::new(n, words()));
         let (numerators, denominators) = lent.split_at_mut(3);
         let answer = suhkelva::expand_interactions(
             sheet,

@@ -186,12 +186,7 @@ fn lent_words(family: Family, work: usize, pool: usize, lent: &[usize]) -> Vec<u
 }
 
 /// A call that is accepted: its kind, what is lent, 0, 0, each list behind its length, and the further numbers.
-fn accepted_call(
-    family: Family,
-    pool: usize,
-    lent: &[usize],
-    (lists, numbers): Lists,
-) -> String {
+fn accepted_call(family: Family, pool: usize, lent: &[usize], (lists, numbers): Lists) -> String {
     let mut text = decimal(&[&lent_words(family, WORK, pool, lent)[..], &[0, 0]].concat());
     for list in &lists {
         text += &counted(list);
