@@ -9,7 +9,7 @@ use openvm_stark_backend::air_builders::symbolic::SymbolicConstraintsDag;
 use plain::calls::Family;
 use plain::Sheet;
 
-use crate::measured::{as_fields, products_of_sums, realistic, EXPANDED};
+use crate::measured::{as_fields, multiples, products_of_sums, realistic, EXPANDED};
 use crate::needs::{needs, FAMILIES};
 use crate::rattle::Ready;
 use crate::rng::Rng;
@@ -32,8 +32,8 @@ const REALISTIC: [(usize, usize, usize); 3] = [
     (4_096, 1_024, 1_024),
 ];
 
-/// Grouping is timed on products of sums of so many variables, and not with more headers once it took so long.
-const WIDTH: u32 = 16;
+/// Grouping is timed on products with so many headers each, and not with more products once it took so long.
+const HEADERS: usize = 256;
 const TOO_LONG: Duration = Duration::from_secs(20);
 
 /// Linux's clock of the time that the calling thread ran.
@@ -220,20 +220,26 @@ fn realistic_sheets() {
 
 /// The time of an expansion where every monomial of every root has a header of its own.
 fn grouping() {
-    let sums = [1, 2, 4, 8, 11, 16, 23, 32];
     let text = "expand_constraints, every monomial of every constraint";
-    grouped(text, &sums, |sheet| {
+    let sheets = [1, 2, 4, 8, 11, 16, 23, 32].map(sums);
+    grouped(text, &sheets, |sheet| {
         (expand_constraints(sheet), rust_constraints(sheet))
     });
     let text = "expand_interactions, every monomial of every field";
-    let sums = [1, 2, 4, 8, 16, 32, 40];
-    grouped(text, &sums, |sheet| {
+    let mut sheets = [1, 2, 4, 8, 16, 32, 40].map(sums).to_vec();
+    sheets.push([false, true].map(|backward| multiples(4_096, backward)));
+    grouped(text, &sheets, |sheet| {
         let sheet = as_fields(sheet);
         (expand_interactions(&sheet), rust_interactions(&sheet))
     });
 }
 
-fn grouped(text: &str, sums: &[u32], both: impl Fn(&Sheet) -> (Ready, Timed)) {
+/// Products of so many sums in the order of their headers, and from the last to the first.
+fn sums(sums: u32) -> [Sheet; 2] {
+    [false, true].map(|backward| products_of_sums(16, sums, backward))
+}
+
+fn grouped(text: &str, sheets: &[[Sheet; 2]], both: impl Fn(&Sheet) -> (Ready, Timed)) {
     println!("\n{text} a header of its own: milliseconds, and over the Rust\n");
     print!("{:>12}{:>12}", "products", "headers");
     println!(
@@ -241,14 +247,14 @@ fn grouped(text: &str, sums: &[u32], both: impl Fn(&Sheet) -> (Ready, Timed)) {
         "in order", "ratio", "from the last", "ratio"
     );
     let mut longest = Duration::ZERO;
-    for &sums in sums {
+    for orders in sheets {
         if longest > TOO_LONG {
             break;
         }
-        let products = sums * sums;
-        print!("{products:>12}{:>12}", products * WIDTH * WIDTH);
-        for (backward, width) in [(false, 16), (true, 18)] {
-            let (ready, mut of_rust) = both(&products_of_sums(WIDTH, sums, backward));
+        let products = orders[0].constraints.len();
+        print!("{products:>12}{:>12}", products * HEADERS);
+        for (sheet, width) in orders.iter().zip([16, 18]) {
+            let (ready, mut of_rust) = both(sheet);
             let (time, rust) = (timed_rattle(ready)(1), of_rust(1));
             longest = longest.max(time);
             let [time, rust] = [time, rust].map(|time| 1e3 * time.as_secs_f64());

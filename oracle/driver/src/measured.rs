@@ -167,3 +167,33 @@ pub fn products_of_sums(width: u32, sums: u32, backward: bool) -> Sheet {
         records: records.0,
     }
 }
+
+/// The product of two sums of 16 variables, and that times monomials of six further variables, up to so many records in all: each has
+/// 256 headers, and none a header of another. They stand as their numbers of variables ascend, or from the last to the first.
+pub fn multiples(count: usize, backward: bool) -> Sheet {
+    let mut records = Records::default();
+    let [left, right] = [0, 16].map(|column| records.joined(ADD, 16, column));
+    let factors = [0, 1, 2, 3, 4, 5].map(|k| records.push([VARIABLE, MAIN, 0, 1, k]));
+    // Each with its last factor: a further one is not before it, so that no two are the same.
+    let mut made = vec![(records.join(MUL, left, right), 0)];
+    for next in 0.. {
+        let (multiple, last) = made[next];
+        for (k, &factor) in factors.iter().enumerate().skip(last) {
+            if records.0.len() < count {
+                made.push((records.join(MUL, multiple, factor), k));
+            }
+        }
+        if records.0.len() >= count {
+            break;
+        }
+    }
+    let mut constraints: Vec<u32> = made.into_iter().map(|(multiple, _)| multiple).collect();
+    if backward {
+        constraints.reverse();
+    }
+    Sheet {
+        constraints,
+        interactions: vec![],
+        records: records.0,
+    }
+}
