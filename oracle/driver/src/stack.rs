@@ -1,4 +1,4 @@
-//! How much stack the rewrite's recursive calls take on a chain: threads with less and less of it, each in a process of its own, for
+//! How much stack the rewrite's recursive calls take on a chain, and on a list as long as can be: threads with less and less of it, each in a process of its own, for
 //! one that runs out of stack ends the process.
 
 use std::env;
@@ -10,7 +10,7 @@ use plain::sheet::{ADD, CONSTANT, MUL, NEG};
 use plain::{Interaction, Record, Sheet};
 
 use crate::rattle::Ready;
-use crate::records::V;
+use crate::records::{Records, V};
 
 /// Stack is lent in pages of so many KiB; the least that a thread has, and the most that is tried.
 const PAGE: usize = 4;
@@ -73,14 +73,30 @@ fn named(count: u32, message: Vec<u32>) -> Sheet {
     }
 }
 
+/// Behind the chains: a record with as many monomials as it can have.
+const WIDE: usize = CHAINS.len();
+const MONOMIALS: u32 = 256;
+
+/// A chain of so many records, or the records of the longest list.
+fn shape(chain: usize, count: u32) -> Records {
+    let mut records = Records::default();
+    match CHAINS.get(chain) {
+        Some(&(_, first, next)) => {
+            records.push(first);
+            (1..count).for_each(|k| _ = records.push(next(k - 1)));
+        }
+        None => _ = records.list(MONOMIALS, 0),
+    }
+    records
+}
+
 /// The child's part: one call on one chain in a thread with so much stack; whether it was accepted.
-pub fn attempt(call: usize, chain: usize, records: u32, kib: usize) -> bool {
+pub fn attempt(call: usize, chain: usize, count: u32, kib: usize) -> bool {
     let (_, names, ready) = CALLS[call];
-    let (_, first, next) = CHAINS[chain];
-    let rest = (1..records).map(|k| next(k - 1));
+    let records = shape(chain, count);
     let sheet = Sheet {
-        records: [first].into_iter().chain(rest).collect(),
-        ..names(records - 1)
+        records: records.0.clone(),
+        ..names(records.last())
     };
     let mut ready = ready(&sheet);
     let run = move || ready.call();
@@ -114,7 +130,7 @@ fn least(call: usize, chain: usize, records: u32) -> usize {
     low * PAGE
 }
 
-/// The table, for chains of 1, 2,048 and 4,096 records.
+/// The table, for chains of 1, 2,048 and 4,096 records, and for the longest list.
 pub fn measure() {
     println!("least stack of a thread in which a call passes, in KiB (steps of {PAGE}, at least {LEAST})");
     for (call, (name, ..)) in CALLS.iter().enumerate() {
@@ -126,5 +142,6 @@ pub fn measure() {
             let level = ((all - half) << 10) as f64 / 2_048.0;
             println!("{name:<38} {one:>9} {half:>9} {all:>9} {level:>16.0}");
         }
+        println!("a list of {MONOMIALS} monomials: {}", least(call, WIDE, 0));
     }
 }
