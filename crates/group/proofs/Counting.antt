@@ -19,7 +19,7 @@ use Rattle.group.specs.declared.Tallied.the-variants.{Headers, Full}
 use Rattle.group.specs.declared.Found.the-variants.{There, Missing}
 use Rattle.monomial.specs.Words.{readMonomial}
 use Rattle.monomial.specs.Orders.{chosen, orderOf}
-use Rattle.group.specs.Grouped.{Tally, tally, Ascends, total, none, tallyRow, tallied, RowInside, Rows, Spot, Counted}
+use Rattle.group.specs.Grouped.{Tally, tally, Ascends, total, none, tallyRow, tallied, RowInside, Rows, Spot, Between, Counted}
 use Rattle.group.proofs.Tallies.{once, again, tally-nil, tally-less, tally-more, tally-same, tally-ascends}
 use Rattle.group.proofs.Places.{all-at, zeros-add, zeros-long}
 use Rattle.group.proofs.Headers.{rows-length, rows-at, word-at, rows-set, rows-insert, tallied-length, tallied-at, vars-at, count-at, inside-at, total-at}
@@ -48,13 +48,6 @@ pub told-at : (n k : ℕ) (H P v : List ℕ) (o p : Order) → k < n → o ≡ o
 told-at n k H P v o p h e q =
     subst (Told v (getD (tallied n H P) k none .vars)) q
     (order-told v (getD (tallied n H P) k none .vars) o (e ∙ ap (orderOf v) (sym (vars-at n k H P h))))
-
--- Between low and high: everything below low stands before v, everything from high on behind it.
-abbrev pub Between : (v : List ℕ) (gs : List Tally) (low high : ℕ) → Type 0
-Between v gs low high =
-    (low ≤ high) × (high ≤ length gs)
-    × ((i : ℕ) → i < low → beforeVars (getD gs i none .vars) v ≡ true)
-    × ((i : ℕ) → high ≤ i → i < length gs → beforeVars v (getD gs i none .vars) ≡ true)
 
 pub ascends-at : (gs : List Tally) (i j : ℕ) → Ascends gs → i < j → j < length gs → beforeVars (getD gs i none .vars) (getD gs j none .vars) ≡ true
 ascends-at [] i j a h l = absurd (omega arith)
@@ -138,7 +131,7 @@ map-set f [] i x = refl
 map-set f (y ∷ l) zero x = refl
 map-set f (y ∷ l) (suc i) x = ap (λ t. f y ∷ t) (map-set f l i x)
 
-map-insert : {X Y : Type 0} (f : X → Y) (l : List X) (k : ℕ) (x : X) → map f (take k l ++ (x ∷ drop k l)) ≡ take k (map f l) ++ (f x ∷ drop k (map f l))
+pub map-insert : {X Y : Type 0} (f : X → Y) (l : List X) (k : ℕ) (x : X) → map f (take k l ++ (x ∷ drop k l)) ≡ take k (map f l) ++ (f x ∷ drop k (map f l))
 map-insert f [] zero x = refl
 map-insert f [] (suc k) x = refl
 map-insert f (y ∷ l) zero x = refl
@@ -149,7 +142,7 @@ all-set Q [] k x a q = tt
 all-set Q (y ∷ l) zero x a q = (q, a .1)
 all-set Q (y ∷ l) (suc k) x a q = (a .0, all-set Q l k x (a .1) q)
 
-all-insert : {X : Type 0} (Q : X → Type 0) (l : List X) (k : ℕ) (x : X) → All Q l → Q x → All Q (take k l ++ (x ∷ drop k l))
+pub all-insert : {X : Type 0} (Q : X → Type 0) (l : List X) (k : ℕ) (x : X) → All Q l → Q x → All Q (take k l ++ (x ∷ drop k l))
 all-insert Q [] zero x a q = (q, tt)
 all-insert Q [] (suc k) x a q = (q, tt)
 all-insert Q (y ∷ l) zero x a q = (q, a)
@@ -232,78 +225,9 @@ zeros-drop m n h =
     let e : m + (n - m) ≡ n = omega arith in
     ap (λ (i : ℕ). drop m (zeros i)) (sym e) ∙ ap (drop m) (zeros-add m (n - m)) ∙ drop-at (zeros m) (zeros (n - m)) m (zeros-long m)
 
--- What the words are when a row is put in: the words from row k on are moved up, and the row is written.
-put-in : (n k : ℕ) (H S row : List ℕ) → k ≤ n → 4 * n + 4 ≤ length H → length row ≡ 4
-    → S ≡ take (4 * k + 4) H ++ (take (4 * n - 4 * k) (drop (4 * k) H) ++ drop (4 * n + 4) H)
-    → sets S (4 * k) row ≡ take (4 * k) H ++ (row ++ (take (4 * n - 4 * k) (drop (4 * k) H) ++ drop (4 * n + 4) H))
-put-in n k H S row h l r e =
-    let M : List ℕ = take (4 * n - 4 * k) (drop (4 * k) H) ++ drop (4 * n + 4) H in
-    let a : length (take (4 * k + 4) H) ≡ 4 * k + 4 = length-take-le (4 * k + 4) H (omega arith) in
-    let b : 4 * k + length row ≤ length (take (4 * k + 4) H ++ M) = rw (length-append (take (4 * k + 4) H) M) (omega arith) in
-    let d : length (take (4 * k + 4) H) ≡ 4 * k + length row = omega arith in
-    ap (λ (x : List ℕ). sets x (4 * k) row) e
-    ∙ sets-eq row (take (4 * k + 4) H ++ M) (4 * k) b
-    ∙ ap (λ (x : List ℕ). (x ++ row) ++ drop (4 * k + length row) (take (4 * k + 4) H ++ M))
-    (take-append-le (4 * k) (take (4 * k + 4) H) M (omega arith) ∙ take-take (4 * k) (4 * k + 4) H (omega arith))
-    ∙ ap (λ (x : List ℕ). (take (4 * k) H ++ row) ++ x) (drop-at (take (4 * k + 4) H) M (4 * k + length row) d)
-    ∙ append-assoc (take (4 * k) H) row M
-
-tally-once : (P : List ℕ) (at c : ℕ) → tallyRow P (at ∷ 0 ∷ c ∷ 1 ∷ []) ≡ once (take c (drop (at + 2) P))
+pub tally-once : (P : List ℕ) (at c : ℕ) → tallyRow P (at ∷ 0 ∷ c ∷ 1 ∷ []) ≡ once (take c (drop (at + 2) P))
 unfolding tallyRow
 tally-once P at c = refl
-
-module _ (n k : ℕ) (H P v : List ℕ) (s : Spot v (tallied n H P) (Missing k)) where
-  pub missing-le : k ≤ n
-  missing-le = subst (λ (m : ℕ). k ≤ m) (tallied-length n H P) (s .0)
-
-  -- A row more.
-  pub count-new : (at c : ℕ) (S H′ : List ℕ) → Rows n H P → 4 * n + 4 ≤ length H → at + 2 + c ≤ length P → c ≤ 14 → v ≡ take c (drop (at + 2) P)
-      → S ≡ take (4 * k + 4) H ++ (take (4 * n - 4 * k) (drop (4 * k) H) ++ drop (4 * n + 4) H)
-      → H′ ≡ sets S (4 * k) (at ∷ 0 ∷ c ∷ 1 ∷ []) → length H′ ≡ length H → Counted H′ P (tally v (tallied n H P)) (Headers (n + 1))
-  unfolding tallied
-  count-new at c S H′ r l i f e d p z =
-      let h = missing-le in
-      let row : List ℕ = at ∷ 0 ∷ c ∷ 1 ∷ [] in
-      let R : List (List ℕ) = rows 4 n H in
-      let M : List ℕ = take (4 * n - 4 * k) (drop (4 * k) H) in
-      let Z : List ℕ = drop (4 * n + 4) H in
-      let w : H′ ≡ take (4 * k) H ++ (row ++ (M ++ Z)) = p ∙ put-in n k H S row h l refl d in
-      let a : rows 4 (n + 1) H′ ≡ take k R ++ (row ∷ drop k R) =
-      ap (λ (j : ℕ). rows 4 j H′) (add-one n) ∙ ap (rows 4 (suc n)) w ∙ rows-insert n k H row Z h (omega arith) refl in
-      let q : tallied (n + 1) H′ P ≡ tally v (tallied n H P) =
-      ap (map (tallyRow P)) a ∙ map-insert (tallyRow P) R k row
-      ∙ ap (λ (g : Tally). take k (map (tallyRow P) R) ++ (g ∷ drop k (map (tallyRow P) R))) (tally-once P at c ∙ ap once (sym e))
-      ∙ sym (tally-missing v (tallied n H P) k s) in
-      let dl : length (drop (4 * k) H) ≡ length H - 4 * k = length-drop (4 * k) H in
-      let la : length (take (4 * k) H) ≡ 4 * k = length-take-le (4 * k) H (omega arith) in
-      let lm : length M ≡ 4 * n - 4 * k = length-take-le (4 * n - 4 * k) (drop (4 * k) H) (omega arith) in
-      let F : List ℕ = take (4 * k) H ++ (row ++ M) in
-      let lf : length F ≡ 4 * (n + 1) =
-      length-append (take (4 * k) H) (row ++ M) ∙ ap (λ (j : ℕ). length (take (4 * k) H) + j) (length-append row M) ∙ omega arith in
-      let sp : H′ ≡ F ++ Z =
-      w ∙ ap (λ (x : List ℕ). take (4 * k) H ++ x) (sym (append-assoc row M Z)) ∙ sym (append-assoc (take (4 * k) H) (row ++ M) Z) in
-      let o : length H - 4 * n - 4 ≡ length H′ - 4 * (n + 1) = omega arith in (
-        record {
-          room = omega arith;
-          inside = subst (All (RowInside P)) (sym a) (all-insert (RowInside P) R k row (r .inside) (i, f));
-          ascends = subst Ascends (sym q) (tally-ascends v (tallied n H P) (r .ascends));
-          rest =
-              ap (drop (4 * (n + 1))) sp ∙ drop-at F Z (4 * (n + 1)) lf
-              ∙ sym (drop-drop 4 (4 * n) H) ∙ ap (drop 4) (r .rest) ∙ zeros-drop 4 (length H - 4 * n) (omega arith) ∙ ap zeros o;
-        },
-        q,
-      )
-
-  -- No room for a row more.
-  pub count-full : length H < 4 * n + 4 → length H < 4 * length (tally v (tallied n H P))
-  count-full l =
-      let g : List Tally = tallied n H P in
-      let t = tallied-length n H P in
-      let h = missing-le in
-      let a : length (take k g) ≡ k = length-take-le k g (s .0) in
-      let b : length (drop k g) ≡ length g - k = length-drop k g in
-      let e : length (tally v g) ≡ length (take k g) + suc (length (drop k g)) = ap length (tally-missing v g k s) ∙ length-append (take k g) (once v ∷ drop k g) in
-      omega arith
 
 -- The variables of a monomial in the pool.
 pub read-vars : (P : List ℕ) (at : ℕ) → readMonomial (drop at P) .vars ≡ take (getD P at 0) (drop (at + 2) P)

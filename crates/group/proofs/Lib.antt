@@ -4,8 +4,12 @@ pub mod Labels
 pub mod Places
 pub mod Headers
 pub mod Counting
+pub mod Searching
 pub mod PoolLists
 pub mod RowTotals
 pub mod RowOffsets
 pub mod Placements
 pub mod RowVariables
+pub mod Waits
+pub mod Inserts
+pub mod Runs

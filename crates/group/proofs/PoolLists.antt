@@ -14,24 +14,23 @@ use Rattle.semantics.specs.Expand.{listSize}
 use Rattle.semantics.specs.Group.{Root, Item, itemsOf}
 use Rattle.semantics.proofs.Basics.{by-test, cond-true, cond-false}
 use Rattle.semantics.proofs.Sorting.{All}
-use Rattle.group.specs.declared.Tallied.the-variants.{Headers, Full}
 use Rattle.monomial.specs.Words.{monomialWords, listWords, readMonomial, readList, listIn, Fits, Stored}
-use Rattle.group.specs.Grouped.{Tally, tally, tallyAll, total, tallied, Rows, Counted, nonZero, Standing, listOf, InPool, itemAt, itemsAt}
-use Rattle.group.proofs.Tallies.{varsOf, tallyAll-append, tallyAll-grows, total-all}
+use Rattle.group.specs.Grouped.{Tally, tally, tallyAll, nonZero, Standing, listOf, InPool}
+use Rattle.group.proofs.Tallies.{varsOf, tallyAll-append}
 
 pub read-coef : (P : List ℕ) (at : ℕ) → readMonomial (drop at P) .coef ≡ getD P (at + 1) 0
 unfolding readMonomial
 read-coef P at = getD-drop at P 1 0
 
 -- A monomial is counted unless its coefficient is 0.
-module _ (m : Monomial) (gs : List Tally) where
-  pub counted-none : m .coef ≡ 0 → tallyAll (nonZero (m ∷ [])) gs ≡ gs
-  unfolding nonZero tallyAll
-  counted-none e = ap (λ (l : List (List ℕ)). tallyAll l gs) (cond-true (eqb (m .coef) 0) [] (m .vars ∷ []) (eq-eqb (m .coef) 0 e))
+module _ (m : Monomial) where
+  pub nonZero-none : m .coef ≡ 0 → nonZero (m ∷ []) ≡ []
+  unfolding nonZero
+  nonZero-none e = cond-true (eqb (m .coef) 0) [] (m .vars ∷ []) (eq-eqb (m .coef) 0 e)
 
-  pub counted-one : (m .coef ≡ 0 → ⊥) → tallyAll (nonZero (m ∷ [])) gs ≡ tally (m .vars) gs
-  unfolding nonZero tallyAll
-  counted-one e = ap (λ (l : List (List ℕ)). tallyAll l gs) (cond-false (eqb (m .coef) 0) [] (m .vars ∷ []) (ne-eqb (m .coef) 0 e))
+  pub nonZero-kept : (m .coef ≡ 0 → ⊥) → nonZero (m ∷ []) ≡ m .vars ∷ []
+  unfolding nonZero
+  nonZero-kept e = cond-false (eqb (m .coef) 0) [] (m .vars ∷ []) (ne-eqb (m .coef) 0 e)
 
 pub nonZero-cons : (m : Monomial) (ms : List Monomial) → nonZero (m ∷ ms) ≡ nonZero (m ∷ []) ++ nonZero ms
 unfolding nonZero
@@ -80,73 +79,21 @@ pub standing-next : (count i place : ℕ) (P : List ℕ) → i < count → Stand
     → (getD P place 0 ≤ 14) × (place + 2 + getD P place 0 ≤ length P) × (place ≤ 4294967295) × Standing (count - (i + 1)) P (place + 2 + getD P place 0)
 standing-next count i place P h s = subst (λ (m : ℕ). Standing m P place) (left-suc count i h) s
 
--- While a list is counted: what is left of it, counted from here, gives the whole.
-pub record Tallying (H₀ : List ℕ) (n : ℕ) (P : List ℕ) (at count : ℕ) (H : List ℕ) (rows place i : ℕ) : Type 0 where
-  pub upto : i ≤ count
-  pub rows-are : Rows rows H P
-  pub standing : Standing (count - i) P place
-  pub small : total (tallied rows H P) + (count - i) ≤ 4294967295
-  pub long : length H ≡ length H₀
-  pub left : tallyAll (nonZero (listIn P place (count - i))) (tallied rows H P) ≡ tallyAll (nonZero (listIn P at count)) (tallied n H₀ P)
+-- What is left of a list, once its next monomial is counted.
+pub left-next : (count i place : ℕ) (P : List ℕ) (gs : List Tally) → i < count
+    → tallyAll (nonZero (listIn P (place + 2 + getD P place 0) (count - (i + 1)))) (tallyAll (nonZero (readMonomial (drop place P) ∷ [])) gs)
+    ≡ tallyAll (nonZero (listIn P place (count - i))) gs
+left-next count i place P gs h =
+    let r : ℕ = count - (i + 1) in
+    let m : Monomial = readMonomial (drop place P) in
+    let l : List Monomial = listIn P (place + 2 + getD P place 0) r in
+    let e : nonZero (listIn P place (count - i)) ≡ nonZero (m ∷ []) ++ nonZero l =
+    ap (λ (x : ℕ). nonZero (listIn P place x)) (left-suc count i h) ∙ ap nonZero (list-next P place r) ∙ nonZero-cons m l in
+    sym (tallyAll-append (nonZero (m ∷ [])) (nonZero l) gs) ∙ ap (λ (x : List (List ℕ)). tallyAll x gs) (sym e)
 
-pub tallying-start : (H : List ℕ) (n : ℕ) (P : List ℕ) (at count : ℕ) → Rows n H P → Standing count P at
-    → total (tallied n H P) + count ≤ 4294967295 → Tallying H n P at count H n at 0
-tallying-start H n P at count r s t =
-    let e : count - 0 ≡ count = omega arith in
-    record {
-      upto = omega arith;
-      rows-are = r;
-      standing = subst (λ (m : ℕ). Standing m P at) (sym e) s;
-      small = omega arith;
-      long = refl;
-      left = ap (λ (m : ℕ). tallyAll (nonZero (listIn P at m)) (tallied n H P)) e;
-    }
-
-module _ (H₀ : List ℕ) (n : ℕ) (P : List ℕ) (at count : ℕ) (H : List ℕ) (rows place i : ℕ) (g : Tallying H₀ n P at count H rows place i) where
-  left-is : i < count
-      → tallyAll (nonZero (listIn P (place + 2 + getD P place 0) (count - (i + 1)))) (tallyAll (nonZero (readMonomial (drop place P) ∷ [])) (tallied rows H P))
-      ≡ tallyAll (nonZero (listIn P at count)) (tallied n H₀ P)
-  left-is h =
-      let r : ℕ = count - (i + 1) in
-      let m : Monomial = readMonomial (drop place P) in
-      let l : List Monomial = listIn P (place + 2 + getD P place 0) r in
-      let e : nonZero (listIn P place (count - i)) ≡ nonZero (m ∷ []) ++ nonZero l =
-      ap (λ (x : ℕ). nonZero (listIn P place x)) (left-suc count i h) ∙ ap nonZero (list-next P place r) ∙ nonZero-cons m l in
-      sym (tallyAll-append (nonZero (m ∷ [])) (nonZero l) (tallied rows H P))
-      ∙ ap (λ (x : List (List ℕ)). tallyAll x (tallied rows H P)) (sym e) ∙ g .left
-
-  pub tallying-step : i < count → (H′ : List ℕ) (k : ℕ) → length H′ ≡ length H
-      → Counted H′ P (tallyAll (nonZero (readMonomial (drop place P) ∷ [])) (tallied rows H P)) (Headers k)
-      → Tallying H₀ n P at count H′ k (place + 2 + getD P place 0) (i + 1)
-  tallying-step h H′ k z c =
-      let m : Monomial = readMonomial (drop place P) in
-      let s = standing-next count i place P h (g .standing) in
-      let t = ap total (c .1) ∙ total-all (nonZero (m ∷ [])) (tallied rows H P) in
-      let o = nonZero-one m in
-      let q = g .small in
-      record {
-        upto = omega arith;
-        rows-are = c .0;
-        standing = s .3;
-        small = omega arith;
-        long = z ∙ g .long;
-        left = ap (tallyAll (nonZero (listIn P (place + 2 + getD P place 0) (count - (i + 1))))) (c .1) ∙ left-is h;
-      }
-
-  pub tallying-full : i < count → (H′ : List ℕ)
-      → Counted H′ P (tallyAll (nonZero (readMonomial (drop place P) ∷ [])) (tallied rows H P)) Full
-      → Counted H′ P (tallyAll (nonZero (listIn P at count)) (tallied n H₀ P)) Full
-  tallying-full h H′ c =
-      let l : List (List ℕ) = nonZero (listIn P (place + 2 + getD P place 0) (count - (i + 1))) in
-      let w = tallyAll-grows l (tallyAll (nonZero (readMonomial (drop place P) ∷ [])) (tallied rows H P)) in
-      let e = ap length (left-is h) in
-      omega arith
-
-  pub tallying-done : count ≤ i → Counted H P (tallyAll (nonZero (listIn P at count)) (tallied n H₀ P)) (Headers rows)
-  unfolding nonZero tallyAll readList
-  tallying-done h =
-      let z : count - i ≡ 0 = omega arith in
-      (g .rows-are, sym (ap (λ (x : ℕ). tallyAll (nonZero (listIn P place x)) (tallied rows H P)) z) ∙ g .left)
+pub left-none : (count i place : ℕ) (P : List ℕ) (gs : List Tally) → count ≤ i → tallyAll (nonZero (listIn P place (count - i))) gs ≡ gs
+unfolding nonZero tallyAll readList
+left-none count i place P gs h = let z : count - i ≡ 0 = omega arith in ap (λ (x : ℕ). tallyAll (nonZero (listIn P place x)) gs) z
 
 -- The words of a monomial.
 words-length : (m : Monomial) → length (monomialWords m) ≡ 2 + length (m .vars)

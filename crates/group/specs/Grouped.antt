@@ -98,6 +98,13 @@ Spot v gs (Missing k) =
     × ((i : ℕ) → i < k → beforeVars (getD gs i none .vars) v ≡ true)
     × ((i : ℕ) → k ≤ i → i < length gs → beforeVars v (getD gs i none .vars) ≡ true)
 
+-- Between low and high: everything below low stands before v, everything from high on behind it.
+abbrev pub Between : (v : List ℕ) (gs : List Tally) (low high : ℕ) → Type 0
+Between v gs low high =
+    (low ≤ high) × (high ≤ length gs)
+    × ((i : ℕ) → i < low → beforeVars (getD gs i none .vars) v ≡ true)
+    × ((i : ℕ) → high ≤ i → i < length gs → beforeVars v (getD gs i none .vars) ≡ true)
+
 -- After counting: the rows have these tallies, or the slice is too short for them.
 abbrev pub Counted : (headers pool : List ℕ) (gs : List Tally) → Tallied → Type 0
 Counted headers pool gs (Headers n) = Rows n headers pool × (tallied n headers pool ≡ gs)

@@ -1,1 +1,2 @@
 pub mod Grouped
+pub mod Waiting

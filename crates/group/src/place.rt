@@ -9,7 +9,6 @@ ghost use Rattle.semantics.specs.Group.{Item};
 ghost use Rattle.monomial.specs.Words.{readMonomial, listIn};
 ghost use Rattle.group.specs.Grouped.{Rows, tallied, Standing, listOf, InPool, termOf, widthOf, itemAt, itemsAt, ToPlace, Places, varsIn};
 use crate::Found;
-use monomial::Monomial;
 
 fn wide(w: u32) -> usize
     ensures { λ r. ⌜ r ≡ w ⌝ }
@@ -50,7 +49,7 @@ fn put_term(terms: &mut [u32], at: usize, interaction: bool, index: u32, field: 
     put_constraint_term(terms, at, index, coef)
 }
 
-// Places the term of a monomial that stands at `at`.
+// Places the term of a monomial that stands at `at`; its row is looked for near row `near`. Hands back where to look for the next.
 pub fn place_monomial(
     headers: &mut [u32],
     n: usize,
@@ -60,22 +59,21 @@ pub fn place_monomial(
     index: u32,
     field: u32,
     terms: &mut [u32],
-)
+    near: usize,
+) -> usize
     requires { ⌜ ToPlace interaction n (now headers) (now pool) (now terms) (itemAt index field (readMonomial (drop at (now pool))) ∷ []) × (getD (now pool) at 0 ≤ 14) × (at + 2 + getD (now pool) at 0 ≤ length (now pool)) ⌝ }
     ensures { λ _. ⌜ Places interaction n (now (pool .entry)) (now (headers .entry)) (now (terms .entry)) (now (headers .exit)) (now (terms .exit)) (itemAt index field (readMonomial (drop at (now (pool .entry)))) ∷ []) ⌝ }
 {
-    let m = monomial::monomial_at(pool, at);
-    let count = m.count;
-    let coef = m.coef;
-    let vars = m.vars;
-    let found = crate::find_header(headers, n, pool, vars, count);
+    let coef = pool[at + 1];
+    let found = crate::search::find_near(headers, n, pool, at, near);
     let Found::There(k) = found else {
-        return;
+        return near;
     };
     let row = 4 * k;
     let cursor = headers[row + 1];
     put_term(terms, wide(cursor), interaction, index, field, coef);
     headers[row + 1] = cursor + 1;
+    k
 }
 
 // The same, unless its coefficient is 0.
@@ -88,14 +86,15 @@ fn place_kept(
     index: u32,
     field: u32,
     terms: &mut [u32],
-)
+    near: usize,
+) -> usize
     requires { ⌜ ToPlace interaction n (now headers) (now pool) (now terms) (itemsAt index field (readMonomial (drop at (now pool)) ∷ [])) × (getD (now pool) at 0 ≤ 14) × (at + 2 + getD (now pool) at 0 ≤ length (now pool)) ⌝ }
     ensures { λ _. ⌜ Places interaction n (now (pool .entry)) (now (headers .entry)) (now (terms .entry)) (now (headers .exit)) (now (terms .exit)) (itemsAt index field (readMonomial (drop at (now (pool .entry))) ∷ [])) ⌝ }
 {
     if pool[at + 1] == 0 {
-        return;
+        return near;
     }
-    place_monomial(headers, n, pool, at, interaction, index, field, terms)
+    place_monomial(headers, n, pool, at, interaction, index, field, terms, near)
 }
 
 // Places the terms of a list that stands at `at`.
@@ -113,10 +112,21 @@ pub fn place_list(
     requires { ⌜ ToPlace interaction n (now headers) (now pool) (now terms) (itemsAt index field (listIn (now pool) at count)) × Standing count (now pool) at ⌝ }
     ensures { λ _. ⌜ Places interaction n (now (pool .entry)) (now (headers .entry)) (now (terms .entry)) (now (headers .exit)) (now (terms .exit)) (itemsAt index field (listIn (now (pool .entry)) at count)) ⌝ }
 {
+    let mut near = n;
     let mut place = at;
     let mut i: usize = 0;
     while i < count {
-        place_kept(headers, n, pool, place, interaction, index, field, terms);
+        near = place_kept(
+            headers,
+            n,
+            pool,
+            place,
+            interaction,
+            index,
+            field,
+            terms,
+            near,
+        );
         place = place + 2 + wide(pool[place]);
         i += 1;
     }

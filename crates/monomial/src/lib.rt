@@ -1,13 +1,11 @@
 // Monomials: products of packed variables with a coefficient, and their lists.
 use packed_var::PackedVar;
 ghost use mathlib.Core.Path.{_≡_};
-ghost use mathlib.Core.List.{_++_};
 ghost use Prim.Native.Nat.{_+_, _≤_};
-ghost use lib.ListN.{length, getD, take, drop};
 ghost use Rattle.semantics.specs.Arithmetic.{prime};
 ghost use Rattle.semantics.specs.Monomial.{above, mulMonomial, negMonomial};
 ghost use Rattle.semantics.proofs.Sorting.{Sorted};
-ghost use Rattle.monomial.specs.Words.{nums, monomialOf, readMonomial};
+ghost use Rattle.monomial.specs.Words.{monomialOf};
 
 mod list_steps;
 pub mod lists;
@@ -19,25 +17,6 @@ pub struct Monomial {
     pub vars: [PackedVar; 14],
     pub count: usize,
     pub coef: u32,
-}
-
-// The monomial whose words stand at `at`.
-pub fn monomial_at(words: &[u32], at: usize) -> Monomial
-    requires { ⌜ (getD (now words) at 0 ≤ 14) × (at + 2 + getD (now words) at 0 ≤ length (now words)) ⌝ }
-    ensures { λ r. ⌜ (monomialOf r ≡ readMonomial (drop at (now (words .entry)))) × (r .count ≡ getD (now (words .entry)) at 0) ⌝ }
-{
-    let mut vars = [PackedVar(0); 14];
-    let count = words[at] as usize;
-    let mut i: usize = 0;
-    while i < count {
-        vars[i] = PackedVar(words[at + 2 + i]);
-        i += 1;
-    }
-    Monomial {
-        vars: vars,
-        count: count,
-        coef: words[at + 1],
-    }
 }
 
 // The product of two monomials: their sorted variables are merged.

@@ -1,20 +1,18 @@
 use mathlib.Core.Path.{_≡_, refl, sym, ap, subst, _∙_}
-use mathlib.Core.Bool.{Bool, true, false, cond}
-use mathlib.Core.List.{List, [], _∷_, _++_, map}
-use Prim.Native.Nat.{ℕ, zero, suc, _+_, _*_, _-_, _≤_, _<_}
+use mathlib.Core.List.{List, [], _∷_}
+use Prim.Native.Nat.{ℕ, _+_, _*_, _-_, _≤_, _<_}
 use native.Mathlib.Omega.{arith}
-use lib.ListN.{length, getD, take, drop, set, length-set}
 use borrow.Author.Needs.{needs}
-use Rattle.group.specs.declared.Tallied.the-variants.{Headers, Full}
-use Rattle.monomial.specs.Words.{readMonomial}
-use Rattle.group.specs.Grouped.{Tally, tallied, tallyAll, nonZero, Counted}
-use Rattle.group.proofs.PoolLists.{standing-next, Tallying, tallying-start, tallying-step, tallying-full, tallying-done}
+use lib.ListN.{length, getD, drop}
+use Rattle.group.specs.Grouped.{Counted}
+use Rattle.group.specs.Waiting.{batched}
+use Rattle.group.proofs.Runs.{Tallying, tallying-start, tallying-step, tallying-full, tallying-done}
 use Rattle.group.proofs.tally_list.Statement.{statement}
 use Rattle.group.proofs.tally_list.Tie as tie
 use Rattle.group.proofs.tally_list.Reads as reads
 use Rattle.group.proofs.tally_list.Lts as lts
-use Rattle.group.proofs.tally_kept.Reads as tally-kept-reads
-use Rattle.group.proofs.wide.Reads as wide-reads
+use Rattle.group.proofs.pending.insert_pending.Reads as insert-pending-reads
+use Rattle.group.proofs.pending.tally_run.Reads as tally-run-reads
 
 abbrev Inv-loop : tie.InvT-loop
 Inv-loop headers₀ n pool at count rows₀ place₀ i₀ headers rows place i = Tallying headers₀ n pool at count headers rows place i
@@ -22,128 +20,114 @@ Inv-loop headers₀ n pool at count rows₀ place₀ i₀ headers rows place i =
 abbrev μ-loop : tie.MeasureT-loop
 μ-loop headers₀ n pool at count rows₀ place₀ i₀ headers rows place i = count - i
 
--- src/group.rt:137:5
+-- src/lib.rt:48:5
 loop-holds : tie.Need-loop-holds Inv-loop μ-loop
 loop-holds c =
     let a = c .before .before .args in
     let p = c .before .before .pre in
     tallying-start (a .headers .now) (a .n) (a .pool .now) (a .at) (a .count) (p .0) (p .1) (p .2)
 
--- src/group.rt:138:13
-tally-kept-requires : tie.Need-tally-kept-requires Inv-loop μ-loop
-tally-kept-requires c κs =
-    let a = c .before .before .before .before .before .args in
-    let b = c .before .before .loop in
-    let P = a .pool .now in
-    let t = c .before .loop-test .taken in
-    let s = standing-next (a .count) (b .i) (b .place) P t (b .inv .standing) in
-    let q = b .inv .small in
-    (b .inv .rows-are, s .0, s .1, s .2, omega arith)
+-- src/lib.rt:56:13
+sub-tally-run : tie.Need-sub-tally-run Inv-loop μ-loop
+sub-tally-run c = search needs
 
--- src/group.rt:139:30
+-- src/lib.rt:57:13
+slice-aggregate-tally-run : tie.Need-slice-aggregate-tally-run Inv-loop μ-loop
+slice-aggregate-tally-run c = search needs
+
+-- src/lib.rt:58:13
+slice-aggregate-tally-run-2 : tie.Need-slice-aggregate-tally-run-2 Inv-loop μ-loop
+slice-aggregate-tally-run-2 c = search needs
+
+-- src/lib.rt:51:13
+tally-run-requires : tie.Need-tally-run-requires Inv-loop μ-loop
+tally-run-requires c κs =
+    let b = c .before .before .before .before .loop in
+    let t = c .before .before .before .loop-test .taken in
+    (b .inv .rows-are, b .inv .standing, b .inv .small, omega arith, refl)
+
+-- src/lib.rt:60:65
+slice-aggregate-insert-pending : tie.Need-slice-aggregate-insert-pending Inv-loop μ-loop
+slice-aggregate-insert-pending c = search needs
+
+-- src/lib.rt:60:74
+slice-aggregate-insert-pending-2 : tie.Need-slice-aggregate-insert-pending-2 Inv-loop μ-loop
+slice-aggregate-insert-pending-2 c = search needs
+
+-- src/lib.rt:60:13
+insert-pending-requires : tie.Need-insert-pending-requires Inv-loop μ-loop
+insert-pending-requires c κs = c .before .before .before .before .before .before .before .tally-run .ensures .batch
+
+-- src/lib.rt:61:30
 enum-known-next : tie.Need-enum-known-next Inv-loop μ-loop
 enum-known-next c = search needs
 
--- src/group.rt:140:13
+-- src/lib.rt:62:13
 enum-told : tie.Need-enum-told Inv-loop μ-loop
 enum-told c = search needs
 
--- src/group.rt:140:13
+-- src/lib.rt:62:13
 same-length : tie.Need-same-length Inv-loop μ-loop
-same-length c = c .before .before .before .before .tally-kept .kept .0 ∙ c .before .before .before .before .before .before .before .loop .inv .long
+same-length c = c .before .before .before .before .insert-pending .kept .0 ∙ c .before .before .before .before .before .before .before .before .before .before .before .before .tally-run .kept .0 ∙ c .before .before .before .before .before .before .before .before .before .before .before .before .before .before .before .before .before .loop .inv .long
 
--- src/group.rt:140:13
+-- src/lib.rt:62:13
 returns : tie.Need-returns Inv-loop μ-loop
 returns c =
-    let a = c .before .before .before .before .before .before .before .before .before .before .args in
-    let b = c .before .before .before .before .before .before .before .loop in
+    let a = c .before .before .before .before .before .before .before .before .before .before .before .before .before .before .before .before .before .before .before .before .args in
+    let b = c .before .before .before .before .before .before .before .before .before .before .before .before .before .before .before .before .before .loop in
     let P = a .pool .now in
-    let t = c .before .before .before .before .before .before .loop-test .taken in
-    let s = standing-next (a .count) (b .i) (b .place) P t (b .inv .standing) in
-    let k = c .before .before .before .before .tally-kept in
-    let gs = tallyAll (nonZero (readMonomial (drop (b .place) P) ∷ [])) (tallied (b .rows) (b .headers) P) in
-    tallying-full (a .headers .now) (a .n) P (a .at) (a .count) (b .headers) (b .rows) (b .place) (b .i) (b .inv) t (k .last .0)
-    (subst (Counted (k .last .0) P gs) (c .enum-told .given .1) (k .ensures))
+    let u = c .before .before .before .before .before .before .before .before .before .before .before .before .tally-run in
+    let v = c .before .before .before .before .insert-pending in
+    let gs = batched (b .rows) (u .result .pending) (u .last .0) P (u .last .1 .1 .1 .1 .1 .0) in
+    tallying-full (b .inv) (u .ensures) (v .last .0) (subst (Counted (v .last .0) P gs) (c .enum-told .given .1) (v .ensures))
 
--- src/group.rt:143:17
-add-place : tie.Need-add-place Inv-loop μ-loop
-add-place c =
-    let a = c .before .before .before .before .before .before .before .before .before .before .before .args in
-    let b = c .before .before .before .before .before .before .before .before .loop in
-    let P = a .pool .now in
-    let t = c .before .before .before .before .before .before .before .loop-test .taken in
-    let s = standing-next (a .count) (b .i) (b .place) P t (b .inv .standing) in
-    search needs
-
--- src/group.rt:143:34
-mul-wide : tie.Need-mul-wide Inv-loop μ-loop
-mul-wide c =
-    let a = c .before .before .before .before .before .before .before .before .before .before .before .args in
-    let b = c .before .before .before .before .before .before .before .before .loop in
-    let P = a .pool .now in
-    let t = c .before .before .before .before .before .before .before .loop-test .taken in
-    let s = standing-next (a .count) (b .i) (b .place) P t (b .inv .standing) in
-    search needs
-
--- src/group.rt:143:34
-shared-slice-read-wide : tie.Need-shared-slice-read-wide Inv-loop μ-loop
-shared-slice-read-wide c =
-    let a = c .before .before .before .before .before .before .before .before .before .before .before .before .args in
-    let b = c .before .before .before .before .before .before .before .before .before .loop in
-    let P = a .pool .now in
-    let t = c .before .before .before .before .before .before .before .before .loop-test .taken in
-    let s = standing-next (a .count) (b .i) (b .place) P t (b .inv .standing) in
-    omega (arith, s .1)
-
--- src/group.rt:143:29
-wide-requires : tie.Need-wide-requires Inv-loop μ-loop
-wide-requires c κs = search needs
-
--- src/group.rt:143:17
-add-place-2 : tie.Need-add-place-2 Inv-loop μ-loop
-add-place-2 c =
-    let a = c .before .before .before .before .before .before .before .before .before .before .before .before .before .args in
-    let b = c .before .before .before .before .before .before .before .before .before .before .loop in
-    let P = a .pool .now in
-    let t = c .before .before .before .before .before .before .before .before .before .loop-test .taken in
-    let s = standing-next (a .count) (b .i) (b .place) P t (b .inv .standing) in
-    let w = c .wide .ensures in
-    search needs
-
--- src/group.rt:144:9
+-- src/lib.rt:66:9
 add-i : tie.Need-add-i Inv-loop μ-loop
-add-i c = search needs
+add-i c =
+    let a = c .before .before .before .before .before .before .before .before .before .before .before .before .before .before .before .before .before .before .before .before .before .before .args in
+    let b = c .before .before .before .before .before .before .before .before .before .before .before .before .before .before .before .before .before .before .before .loop in
+    let P = a .pool .now in
+    let u = c .before .before .before .before .before .before .before .before .before .before .before .before .before .before .tally-run in
+    let v = c .before .before .before .before .before .before .insert-pending in
+    let gs = batched (b .rows) (u .result .pending) (u .last .0) P (u .last .1 .1 .1 .1 .1 .0) in
+    let s = u .ensures .upto in
+    let t = c .before .before .before .before .before .before .before .before .before .before .before .before .before .before .before .before .before .before .loop-test .taken in
+    let r : b .i + u .result .done ≤ a .count = omega arith in
+    let q = c .before .before .before .before .before .before .before .before .before .before .before .before .before .before .before .before .before .before .before .before .before .before .pre .2 in
+    search needs
 
--- src/group.rt:137:5
+-- src/lib.rt:48:5
 loop-less : tie.Need-loop-less Inv-loop μ-loop
-loop-less c = search needs
+loop-less c =
+    let a = c .before .before .before .before .before .before .before .before .before .before .before .before .before .before .before .before .before .before .before .before .before .before .args in
+    let b = c .before .before .before .before .before .before .before .before .before .before .before .before .before .before .before .before .before .before .before .loop in
+    let P = a .pool .now in
+    let u = c .before .before .before .before .before .before .before .before .before .before .before .before .before .before .tally-run in
+    let v = c .before .before .before .before .before .before .insert-pending in
+    let gs = batched (b .rows) (u .result .pending) (u .last .0) P (u .last .1 .1 .1 .1 .1 .0) in
+    let r = u .ensures .some (omega (arith, c .before .before .before .before .before .before .before .before .before .before .before .before .before .before .before .before .before .before .loop-test .taken)) in
+    let s = u .ensures .upto in
+    search needs
 
--- src/group.rt:137:5
+-- src/lib.rt:48:5
 loop-again : tie.Need-loop-again Inv-loop μ-loop
 loop-again c =
-    let a = c .before .before .before .before .before .before .before .before .before .before .before .before .before .args in
-    let b = c .before .before .before .before .before .before .before .before .before .before .loop in
+    let a = c .before .before .before .before .before .before .before .before .before .before .before .before .before .before .before .before .before .before .before .before .before .before .args in
+    let b = c .before .before .before .before .before .before .before .before .before .before .before .before .before .before .before .before .before .before .before .loop in
     let P = a .pool .now in
-    let t = c .before .before .before .before .before .before .before .before .before .loop-test .taken in
-    let s = standing-next (a .count) (b .i) (b .place) P t (b .inv .standing) in
-    let k = c .before .before .before .before .before .before .before .tally-kept in
-    let n = c .before .before .before .next .given in
-    let gs = tallyAll (nonZero (readMonomial (drop (b .place) P) ∷ [])) (tallied (b .rows) (b .headers) P) in
-    subst (λ (x : ℕ). Tallying (a .headers .now) (a .n) P (a .at) (a .count) (k .last .0) (n .0 .0) (b .place + 2 + x) (b .i + 1)) (sym (c .wide .ensures))
-    (tallying-step (a .headers .now) (a .n) P (a .at) (a .count) (b .headers) (b .rows) (b .place) (b .i) (b .inv) t (k .last .0) (n .0 .0) (k .kept .0)
-    (subst (Counted (k .last .0) P gs) (n .1) (k .ensures)))
+    let u = c .before .before .before .before .before .before .before .before .before .before .before .before .before .before .tally-run in
+    let v = c .before .before .before .before .before .before .insert-pending in
+    let gs = batched (b .rows) (u .result .pending) (u .last .0) P (u .last .1 .1 .1 .1 .1 .0) in
+    let n = c .before .before .next .given in
+    tallying-step (b .inv) (u .ensures) (v .last .0) (n .0 .0) (v .kept .0 ∙ u .kept .0) (subst (Counted (v .last .0) P gs) (n .1) (v .ensures))
 
--- src/group.rt:124:1
+-- src/lib.rt:41:1
 same-length-2 : tie.Need-same-length-2 Inv-loop μ-loop
 same-length-2 c = c .before .loop .inv .long
 
--- src/group.rt:124:1
+-- src/lib.rt:41:1
 returns-2 : tie.Need-returns-2 Inv-loop μ-loop
-returns-2 c =
-    let a = c .before .before .before .before .args in
-    let b = c .before .loop in
-    let P = a .pool .now in
-    tallying-done (a .headers .now) (a .n) P (a .at) (a .count) (b .headers) (b .rows) (b .place) (b .i) (b .inv) (c .loop-test .left)
+returns-2 c = tallying-done (c .before .loop .inv) (c .loop-test .left)
 
 pub tally-list-spec : {M : Type 1} → statement M
 tally-list-spec =
@@ -152,16 +136,17 @@ tally-list-spec =
     Inv-loop
     μ-loop
     loop-holds
-    tally-kept-requires
+    sub-tally-run
+    slice-aggregate-tally-run
+    slice-aggregate-tally-run-2
+    tally-run-requires
+    slice-aggregate-insert-pending
+    slice-aggregate-insert-pending-2
+    insert-pending-requires
     enum-known-next
     enum-told
     same-length
     returns
-    add-place
-    mul-wide
-    shared-slice-read-wide
-    wide-requires
-    add-place-2
     add-i
     loop-less
     loop-again

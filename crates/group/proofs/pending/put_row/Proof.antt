@@ -4,10 +4,10 @@ use native.Mathlib.Omega.{arith}
 use lib.ListN.{length, getD, take, drop, set, length-set}
 use Rattle.group.proofs.Headers.{row-sets}
 use borrow.Author.Needs.{needs}
-use Rattle.group.proofs.put_row.Statement.{statement}
-use Rattle.group.proofs.put_row.Tie as tie
-use Rattle.group.proofs.put_row.Reads as reads
-use Rattle.group.proofs.put_row.Lts as lts
+use Rattle.group.proofs.pending.put_row.Statement.{statement}
+use Rattle.group.proofs.pending.put_row.Tie as tie
+use Rattle.group.proofs.pending.put_row.Reads as reads
+use Rattle.group.proofs.pending.put_row.Lts as lts
 
 -- src/group.rt:79:5
 mul-headers : tie.Need-mul-headers

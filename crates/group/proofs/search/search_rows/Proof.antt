@@ -1,0 +1,134 @@
+use Prim.Native.Nat.{ℕ, _+_, _-_, _/_, _<_}
+use native.Mathlib.Omega.{arith}
+use borrow.Author.Needs.{needs}
+use Rattle.group.specs.Grouped.{tallied, Between}
+use Rattle.group.proofs.Headers.{tallied-length}
+use Rattle.group.proofs.Counting.{between-none}
+use Rattle.group.specs.Waiting.{varsAt}
+use Rattle.group.proofs.Searching.{row-asks, row-same, row-before, row-after}
+use Rattle.group.proofs.search.search_rows.Statement.{statement}
+use Rattle.group.proofs.search.search_rows.Tie as tie
+use Rattle.group.proofs.search.search_rows.Reads as reads
+use Rattle.group.proofs.search.search_rows.Lts as lts
+use Rattle.group.proofs.search.order_of_row.Reads as order-of-row-reads
+
+abbrev Inv-loop : tie.InvT-loop
+Inv-loop headers n from to pool at low₀ high₀ low high = Between (varsAt pool at) (tallied n headers pool) low high
+
+abbrev μ-loop : tie.MeasureT-loop
+μ-loop headers n from to pool at low₀ high₀ low high = high - low
+
+-- src/search.rt:65:5
+loop-holds : tie.Need-loop-holds Inv-loop μ-loop
+loop-holds c = c .before .before .pre .2
+
+-- src/search.rt:66:26
+sub-mid : tie.Need-sub-mid Inv-loop μ-loop
+sub-mid c = c .before .loop .inv .0
+
+-- src/search.rt:66:19
+add-mid : tie.Need-add-mid Inv-loop μ-loop
+add-mid c =
+    let a = c .before .before .before .before .args in
+    let e = tallied-length (a .n) (a .headers .now) (a .pool .now) in
+    search needs
+
+-- src/search.rt:67:13
+order-of-row-requires : tie.Need-order-of-row-requires Inv-loop μ-loop
+order-of-row-requires c κs =
+    let a = c .before .before .before .before .args in
+    let p = c .before .before .before .before .pre in
+    let b = c .before .loop in
+    let mid : ℕ = b .low + (b .high - b .low) / 2 in
+    let t = c .loop-test .taken in
+    let l : mid < a .n = omega (arith, b .inv .1, tallied-length (a .n) (a .headers .now) (a .pool .now)) in
+    row-asks (a .n) (a .at) (a .headers .now) (a .pool .now) (p .0) mid l (p .1)
+
+-- src/search.rt:69:28
+enum-told : tie.Need-enum-told Inv-loop μ-loop
+enum-told c = search needs
+
+-- src/search.rt:69:28
+returns : tie.Need-returns Inv-loop μ-loop
+returns c =
+    let a = c .before .before .before .before .before .before .before .args in
+    let p = c .before .before .before .before .before .before .before .pre in
+    let b = c .before .before .before .before .loop in
+    let mid : ℕ = b .low + (b .high - b .low) / 2 in
+    let t = c .before .before .before .loop-test .taken in
+    let o = c .before .before .order-of-row in
+    row-same (a .n) (a .at) (a .headers .now) (a .pool .now) (p .0) mid (b .low) (b .high) (o .result) (b .inv) (omega arith) (omega arith) (o .ensures) (c .enum-told .given .1)
+
+-- src/search.rt:70:30
+enum-told-2 : tie.Need-enum-told-2 Inv-loop μ-loop
+enum-told-2 c = search needs
+
+-- src/search.rt:65:5
+loop-less : tie.Need-loop-less Inv-loop μ-loop
+loop-less c = omega (arith, c .before .before .before .loop-test .taken)
+
+-- src/search.rt:65:5
+loop-again : tie.Need-loop-again Inv-loop μ-loop
+loop-again c =
+    let a = c .before .before .before .before .before .before .before .args in
+    let p = c .before .before .before .before .before .before .before .pre in
+    let b = c .before .before .before .before .loop in
+    let mid : ℕ = b .low + (b .high - b .low) / 2 in
+    let t = c .before .before .before .loop-test .taken in
+    let o = c .before .before .order-of-row in
+    row-before (a .n) (a .at) (a .headers .now) (a .pool .now) (p .0) mid (b .low) (b .high) (o .result) (b .inv) (omega arith) (omega arith) (o .ensures) (c .enum-told2 .given .1)
+
+-- src/search.rt:71:35
+enum-told-3 : tie.Need-enum-told-3 Inv-loop μ-loop
+enum-told-3 c = search needs
+
+-- src/search.rt:71:35
+add-low : tie.Need-add-low Inv-loop μ-loop
+add-low c =
+    let a = c .before .before .before .before .before .before .before .args in
+    let e = tallied-length (a .n) (a .headers .now) (a .pool .now) in
+    let t = c .before .before .before .loop-test .taken in
+    search needs
+
+-- src/search.rt:65:5
+loop-less-2 : tie.Need-loop-less-2 Inv-loop μ-loop
+loop-less-2 c = omega (arith, c .before .before .before .loop-test .taken)
+
+-- src/search.rt:65:5
+loop-again-2 : tie.Need-loop-again-2 Inv-loop μ-loop
+loop-again-2 c =
+    let a = c .before .before .before .before .before .before .before .args in
+    let p = c .before .before .before .before .before .before .before .pre in
+    let b = c .before .before .before .before .loop in
+    let mid : ℕ = b .low + (b .high - b .low) / 2 in
+    let t = c .before .before .before .loop-test .taken in
+    let o = c .before .before .order-of-row in
+    row-after (a .n) (a .at) (a .headers .now) (a .pool .now) (p .0) mid (b .low) (b .high) (o .result) (b .inv) (omega arith) (omega arith) (o .ensures) (c .enum-told3 .given .1)
+
+-- src/search.rt:59:1
+returns-2 : tie.Need-returns-2 Inv-loop μ-loop
+returns-2 c =
+    let a = c .before .before .before .before .args in
+    let b = c .before .loop in
+    between-none (varsAt (a .pool .now) (a .at)) (tallied (a .n) (a .headers .now) (a .pool .now)) (b .low) (b .high) (b .inv) (c .loop-test .left)
+
+pub search-rows-spec : {M : Type 1} → statement M
+search-rows-spec =
+    tie.close
+    (tie.spec
+    Inv-loop
+    μ-loop
+    loop-holds
+    sub-mid
+    add-mid
+    order-of-row-requires
+    enum-told
+    returns
+    enum-told-2
+    loop-less
+    loop-again
+    enum-told-3
+    add-low
+    loop-less-2
+    loop-again-2
+    returns-2)

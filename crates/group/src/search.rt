@@ -1,0 +1,113 @@
+// Where the variables of a monomial in the pool stand among the rows.
+ghost use mathlib.Core.Path.{_≡_};
+ghost use Prim.Native.Nat.{_+_, _*_, _≤_, _<_};
+ghost use lib.ListN.{length, getD, take, drop};
+ghost use Rattle.monomial.specs.Words.{readMonomial};
+ghost use Rattle.monomial.specs.Orders.{orderOf};
+ghost use Rattle.group.specs.Grouped.{Rows, tallied, Spot, Between};
+use crate::Found;
+use monomial::vars::Order;
+
+fn wide(w: u32) -> usize
+    ensures { λ r. ⌜ r ≡ w ⌝ }
+{
+    w as usize
+}
+
+// Where the n variables that stand at `at` are in the order, seen from the m variables that stand at `from`.
+pub fn order_in(pool: &[u32], at: usize, n: usize, from: usize, m: usize) -> Order
+    requires { ⌜ (at + n ≤ length (now pool)) × (from + m ≤ length (now pool)) ⌝ }
+    ensures { λ r. ⌜ r ≡ orderOf (take n (drop at (now (pool .entry)))) (take m (drop from (now (pool .entry)))) ⌝ }
+{
+    if n < m {
+        return Order::Before;
+    }
+    if m < n {
+        return Order::After;
+    }
+    let mut i: usize = 0;
+    while i < n {
+        let x = pool[at + i];
+        let y = pool[from + i];
+        if x < y {
+            return Order::Before;
+        }
+        if y < x {
+            return Order::After;
+        }
+        i += 1;
+    }
+    Order::Same
+}
+
+// The same for the monomial that stands at `at`, seen from row i.
+fn order_of_row(headers: &[u32], i: usize, pool: &[u32], at: usize) -> Order
+    requires { ⌜ (4 * i + 4 ≤ length (now headers)) × (getD (now headers) (4 * i) 0 + 2 + getD (now headers) (4 * i + 2) 0 ≤ length (now pool)) × (at + 2 + getD (now pool) at 0 ≤ length (now pool)) ⌝ }
+    ensures { λ r. ⌜ r ≡ orderOf (readMonomial (drop at (now (pool .entry))) .vars) (take (getD (now (headers .entry)) (4 * i + 2) 0) (drop (getD (now (headers .entry)) (4 * i) 0 + 2) (now (pool .entry)))) ⌝ }
+{
+    let row = 4 * i;
+    order_in(
+        pool,
+        at + 2,
+        wide(pool[at]),
+        wide(headers[row]) + 2,
+        wide(headers[row + 2]),
+    )
+}
+
+// Searches the rows between two: those below `from` stand before the monomial's variables, those from `to` on behind them.
+fn search_rows(headers: &[u32], n: usize, from: usize, to: usize, pool: &[u32], at: usize) -> Found
+    requires { ⌜ Rows n (now headers) (now pool) × (at + 2 + getD (now pool) at 0 ≤ length (now pool)) × Between (readMonomial (drop at (now pool)) .vars) (tallied n (now headers) (now pool)) from to ⌝ }
+    ensures { λ r. ⌜ Spot (readMonomial (drop at (now (pool .entry))) .vars) (tallied n (now (headers .entry)) (now (pool .entry))) r ⌝ }
+{
+    let mut low = from;
+    let mut high = to;
+    while low < high {
+        let mid = low + (high - low) / 2;
+        let order = order_of_row(headers, mid, pool, at);
+        match order {
+            Order::Same => return Found::There(mid),
+            Order::Before => high = mid,
+            Order::After => low = mid + 1,
+        }
+    }
+    Found::Missing(low)
+}
+
+// Searches the rows from `from` on, in steps that double: those below stand before the monomial's variables.
+fn search_on(headers: &[u32], n: usize, from: usize, pool: &[u32], at: usize) -> Found
+    requires { ⌜ Rows n (now headers) (now pool) × (at + 2 + getD (now pool) at 0 ≤ length (now pool)) × Between (readMonomial (drop at (now pool)) .vars) (tallied n (now headers) (now pool)) from n ⌝ }
+    ensures { λ r. ⌜ Spot (readMonomial (drop at (now (pool .entry))) .vars) (tallied n (now (headers .entry)) (now (pool .entry))) r ⌝ }
+{
+    let mut low = from;
+    let mut step: usize = 1;
+    while step < n - low {
+        let k = low + step;
+        let order = order_of_row(headers, k, pool, at);
+        match order {
+            Order::Same => return Found::There(k),
+            Order::Before => return search_rows(headers, n, low, k, pool, at),
+            Order::After => {
+                low = k + 1;
+                step = 2 * step;
+            }
+        }
+    }
+    search_rows(headers, n, low, n, pool, at)
+}
+
+// Searches the n rows for the variables of the monomial that stands at `at`: near row `near` first, where there is one.
+pub fn find_near(headers: &[u32], n: usize, pool: &[u32], at: usize, near: usize) -> Found
+    requires { ⌜ Rows n (now headers) (now pool) × (at + 2 + getD (now pool) at 0 ≤ length (now pool)) ⌝ }
+    ensures { λ r. ⌜ Spot (readMonomial (drop at (now (pool .entry))) .vars) (tallied n (now (headers .entry)) (now (pool .entry))) r ⌝ }
+{
+    if n <= near {
+        return search_rows(headers, n, 0, n, pool, at);
+    }
+    let order = order_of_row(headers, near, pool, at);
+    match order {
+        Order::Same => Found::There(near),
+        Order::Before => search_rows(headers, n, 0, near, pool, at),
+        Order::After => search_on(headers, n, near + 1, pool, at),
+    }
+}
