@@ -46,142 +46,89 @@ loop-holds c = insert-start (c .before .before .before .before .before .pre) (c 
 sub-j : tie.Need-sub-j Inv-loop μ-loop
 sub-j c = search needs
 
+-- What holds of the next one that is put in.
+next : (c : tie.In-loop Inv-loop μ-loop) → let l = c .before .loop in
+    let a = c .before .before .before .before .before .before .before .args in
+    let i = l .j - 1 in
+    (getD (a .fronts .now) i 0 ≤ l .end) × Inside (a .pool .now) (getD (a .places .now) i 0) × (i < length (a .places .now)) × (i < length (a .fronts .now)) × (l .end ≤ a .n) × (l .j ≤ a .b)
+    × (4 * a .n + 4 * a .b ≤ length (l .headers))
+next c =
+    let l = c .before .loop in
+    let g = l .inv in
+    let p = c .before .before .before .before .before .before .before .pre in
+    let t = c .loop-test .taken in
+    let x = insert-next p g (l .j - 1) (omega arith) in
+    let u = g .upto in
+    let o = p .waiting .room in
+    let s = p .waiting .same in
+    (x .0, x .1, omega arith, omega arith, g .inner, u, g .fits)
+
 -- src/pending.rt:181:18
 mul-at : tie.Need-mul-at Inv-loop μ-loop
-mul-at c = let u = c .before .loop .inv .upto in
-    let o = c .before .before .before .before .before .before .before .pre .waiting .room in
-    let s = c .before .before .before .before .before .before .before .pre .waiting .same in
-    search needs
+mul-at c = let x = next c in search needs
 
 -- src/pending.rt:181:18
 shared-slice-read-at : tie.Need-shared-slice-read-at Inv-loop μ-loop
-shared-slice-read-at c = let u = c .before .before .loop .inv .upto in
-    let o = c .before .before .before .before .before .before .before .before .pre .waiting .room in
-    let s = c .before .before .before .before .before .before .before .before .pre .waiting .same in
-    omega arith
+shared-slice-read-at c = let x = next (c .before) in omega arith
 
 -- src/pending.rt:182:17
 mul-k : tie.Need-mul-k Inv-loop μ-loop
-mul-k c = let u = c .before .before .loop .inv .upto in
-    let o = c .before .before .before .before .before .before .before .before .pre .waiting .room in
-    let s = c .before .before .before .before .before .before .before .before .pre .waiting .same in
-    search needs
+mul-k c = let x = next (c .before) in search needs
 
 -- src/pending.rt:182:17
 shared-slice-read-k : tie.Need-shared-slice-read-k Inv-loop μ-loop
-shared-slice-read-k c = let u = c .before .before .before .loop .inv .upto in
-    let o = c .before .before .before .before .before .before .before .before .before .pre .waiting .room in
-    let s = c .before .before .before .before .before .before .before .before .before .pre .waiting .same in
-    omega arith
+shared-slice-read-k c = let x = next (c .before .before) in omega arith
 
 -- src/pending.rt:183:34
 mul-shift-up : tie.Need-mul-shift-up Inv-loop μ-loop
-mul-shift-up c = let v = c .before .before .before .before .loop .inv in
-    let x = insert-next (c .before .before .before .before .before .before .before .before .before .before .pre) v (c .before .before .before .before .loop .j - 1) (omega arith) in
-    let f = v .fits in
-    let i = v .inner in
-    let u = v .upto in
-    omega (arith, x .0)
+mul-shift-up c = let x = next (c .before .before .before) in omega arith
 
 -- src/pending.rt:183:41
 mul-shift-up-2 : tie.Need-mul-shift-up-2 Inv-loop μ-loop
-mul-shift-up-2 c = let v = c .before .before .before .before .loop .inv in
-    let x = insert-next (c .before .before .before .before .before .before .before .before .before .before .pre) v (c .before .before .before .before .loop .j - 1) (omega arith) in
-    let f = v .fits in
-    let i = v .inner in
-    let u = v .upto in
-    omega (arith, x .0)
+mul-shift-up-2 c = let x = next (c .before .before .before) in omega arith
 
 -- src/pending.rt:183:50
 mul-shift-up-3 : tie.Need-mul-shift-up-3 Inv-loop μ-loop
-mul-shift-up-3 c = let v = c .before .before .before .before .loop .inv in
-    let x = insert-next (c .before .before .before .before .before .before .before .before .before .before .pre) v (c .before .before .before .before .loop .j - 1) (omega arith) in
-    let f = v .fits in
-    let i = v .inner in
-    let u = v .upto in
-    omega (arith, x .0)
+mul-shift-up-3 c = let x = next (c .before .before .before) in omega arith
 
 -- src/pending.rt:183:50
 add-shift-up : tie.Need-add-shift-up Inv-loop μ-loop
-add-shift-up c = let v = c .before .before .before .before .loop .inv in
-    let x = insert-next (c .before .before .before .before .before .before .before .before .before .before .pre) v (c .before .before .before .before .loop .j - 1) (omega arith) in
-    let f = v .fits in
-    let i = v .inner in
-    let u = v .upto in
-    omega (arith, x .0)
+add-shift-up c = let x = next (c .before .before .before) in omega arith
 
 -- src/pending.rt:183:9
 shift-up-requires : tie.Need-shift-up-requires Inv-loop μ-loop
-shift-up-requires c κs = let v = c .before .before .before .before .loop .inv in
-    let x = insert-next (c .before .before .before .before .before .before .before .before .before .before .pre) v (c .before .before .before .before .loop .j - 1) (omega arith) in
-    let f = v .fits in
-    let i = v .inner in
-    let u = v .upto in
-    (omega (arith, x .0), omega (arith, x .0))
+shift-up-requires c κs = let x = next (c .before .before .before) in (omega arith, omega arith)
 
 -- src/pending.rt:184:26
 mul-put-row : tie.Need-mul-put-row Inv-loop μ-loop
-mul-put-row c = let v = c .before .before .before .before .before .before .before .before .loop .inv in
-    let x = insert-next (c .before .before .before .before .before .before .before .before .before .before .before .before .before .before .pre) v (c .before .before .before .before .before .before .before .before .loop .j - 1) (omega arith) in
-    let f = v .fits in
-    let i = v .inner in
-    let u = v .upto in
-    omega (arith, x .0, x .1 .1, x .1 .2)
+mul-put-row c = let x = next (c .before .before .before .before .before .before .before) in omega arith
 
 -- src/pending.rt:184:34
 mul-put-row-2 : tie.Need-mul-put-row-2 Inv-loop μ-loop
-mul-put-row-2 c = let v = c .before .before .before .before .before .before .before .before .loop .inv in
-    let x = insert-next (c .before .before .before .before .before .before .before .before .before .before .before .before .before .before .pre) v (c .before .before .before .before .before .before .before .before .loop .j - 1) (omega arith) in
-    let f = v .fits in
-    let i = v .inner in
-    let u = v .upto in
-    omega (arith, x .0, x .1 .1, x .1 .2)
+mul-put-row-2 c = let x = next (c .before .before .before .before .before .before .before) in omega arith
 
 -- src/pending.rt:184:26
 add-put-row : tie.Need-add-put-row Inv-loop μ-loop
-add-put-row c = let v = c .before .before .before .before .before .before .before .before .loop .inv in
-    let x = insert-next (c .before .before .before .before .before .before .before .before .before .before .before .before .before .before .pre) v (c .before .before .before .before .before .before .before .before .loop .j - 1) (omega arith) in
-    let f = v .fits in
-    let i = v .inner in
-    let u = v .upto in
-    omega (arith, x .0, x .1 .1, x .1 .2)
+add-put-row c = let x = next (c .before .before .before .before .before .before .before) in omega arith
 
 -- src/pending.rt:184:41
 cast-put-row : tie.Need-cast-put-row Inv-loop μ-loop
-cast-put-row c = let v = c .before .before .before .before .before .before .before .before .loop .inv in
-    let x = insert-next (c .before .before .before .before .before .before .before .before .before .before .before .before .before .before .pre) v (c .before .before .before .before .before .before .before .before .loop .j - 1) (omega arith) in
-    let f = v .fits in
-    let i = v .inner in
-    let u = v .upto in
-    omega (arith, x .0, x .1 .1, x .1 .2)
+cast-put-row c = let x = next (c .before .before .before .before .before .before .before) in omega arith
 
 -- src/pending.rt:184:52
 mul-put-row-3 : tie.Need-mul-put-row-3 Inv-loop μ-loop
-mul-put-row-3 c = let v = c .before .before .before .before .before .before .before .before .loop .inv in
-    let x = insert-next (c .before .before .before .before .before .before .before .before .before .before .before .before .before .before .pre) v (c .before .before .before .before .before .before .before .before .loop .j - 1) (omega arith) in
-    let f = v .fits in
-    let i = v .inner in
-    let u = v .upto in
-    omega (arith, x .0, x .1 .1, x .1 .2)
+mul-put-row-3 c = let x = next (c .before .before .before .before .before .before .before) in omega arith
 
 -- src/pending.rt:184:52
 shared-slice-read-put-row : tie.Need-shared-slice-read-put-row Inv-loop μ-loop
-shared-slice-read-put-row c = let v = c .before .before .before .before .before .before .before .before .before .loop .inv in
-    let x = insert-next (c .before .before .before .before .before .before .before .before .before .before .before .before .before .before .before .pre) v (c .before .before .before .before .before .before .before .before .before .loop .j - 1) (omega arith) in
-    let f = v .fits in
-    let i = v .inner in
-    let u = v .upto in
-    omega (arith, x .1 .1)
+shared-slice-read-put-row c = let x = next (c .before .before .before .before .before .before .before .before) in omega arith
 
 -- src/pending.rt:184:9
 put-row-requires : tie.Need-put-row-requires Inv-loop μ-loop
-put-row-requires c κs = let v = c .before .before .before .before .before .before .before .before .before .loop .inv in
-    let x = insert-next (c .before .before .before .before .before .before .before .before .before .before .before .before .before .before .before .pre) v (c .before .before .before .before .before .before .before .before .before .loop .j - 1) (omega arith) in
-    let f = v .fits in
-    let i = v .inner in
-    let u = v .upto in
+put-row-requires c κs =
+    let x = next (c .before .before .before .before .before .before .before .before) in
     let k = c .before .before .before .before .shift-up .kept .0 in
-    omega (arith, x .0)
+    omega arith
 
 -- src/pending.rt:179:5
 loop-less : tie.Need-loop-less Inv-loop μ-loop

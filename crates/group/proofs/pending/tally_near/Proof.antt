@@ -26,109 +26,55 @@ find-near-requires c κs = search needs
 enum-known-found : tie.Need-enum-known-found
 enum-known-found c = search needs
 
--- src/pending.rt:89:23
-mul-row : tie.Need-mul-row
-mul-row c =
+-- The monomial has a row.
+there : (c : tie.After-known-told) → let a = c .before .before .before .before .before .before .before .before .before .args in
+    Spot (varsAt (a .pool .now) (a .at)) (tallied (a .n) (a .headers .now) (a .pool .now)) (There (c .before .found .given .0 .0))
+there c =
+    let a = c .before .before .before .before .before .before .before .before .before .args in
+    subst (Spot (varsAt (a .pool .now) (a .at)) (tallied (a .n) (a .headers .now) (a .pool .now))) (c .before .found .given .1) (c .before .before .before .find-near .ensures)
+
+row : (c : tie.After-known-told) → let a = c .before .before .before .before .before .before .before .before .before .args in
+    let k = c .before .found .given .0 .0 in
+    (k < a .n) × (getD (a .headers .now) (4 * k + 3) 0 < 4294967295) × (4 * a .n ≤ length (a .headers .now))
+row c =
     let a = c .before .before .before .before .before .before .before .before .before .args in
     let p = c .before .before .before .before .before .before .before .before .before .pre in
-    let v : List ℕ = varsAt (a .pool .now) (a .at) in
     let k = c .before .found .given .0 .0 in
-    let s = subst (Spot v (tallied (a .n) (a .headers .now) (a .pool .now))) (c .before .found .given .1) (c .before .before .before .find-near .ensures) in
-    let h = there-lt (a .n) k (a .headers .now) (a .pool .now) v (p .0 .rows-are) s in
-    let t = there-small (a .n) k (a .headers .now) (a .pool .now) v (p .0 .rows-are) s in
-    let r = p .0 .rows-are .room in
-    search needs
+    let v : List ℕ = varsAt (a .pool .now) (a .at) in
+    let t = there-small (a .n) k (a .headers .now) (a .pool .now) v (p .0 .rows-are) (there c) in
+    (there-lt (a .n) k (a .headers .now) (a .pool .now) v (p .0 .rows-are) (there c), omega (arith, p .2), p .0 .rows-are .room)
+
+-- src/pending.rt:89:23
+mul-row : tie.Need-mul-row
+mul-row c = let x = row c in search needs
 
 -- src/pending.rt:90:40
 add-headers : tie.Need-add-headers
-add-headers c =
-    let a = c .before .before .before .before .before .before .before .before .before .args in
-    let p = c .before .before .before .before .before .before .before .before .before .pre in
-    let v : List ℕ = varsAt (a .pool .now) (a .at) in
-    let k = c .before .found .given .0 .0 in
-    let s = subst (Spot v (tallied (a .n) (a .headers .now) (a .pool .now))) (c .before .found .given .1) (c .before .before .before .find-near .ensures) in
-    let h = there-lt (a .n) k (a .headers .now) (a .pool .now) v (p .0 .rows-are) s in
-    let t = there-small (a .n) k (a .headers .now) (a .pool .now) v (p .0 .rows-are) s in
-    let r = p .0 .rows-are .room in
-    search needs
+add-headers c = let x = row c in search needs
 
 -- src/pending.rt:90:32
 mul-headers : tie.Need-mul-headers
-mul-headers c =
-    let a = c .before .before .before .before .before .before .before .before .before .args in
-    let p = c .before .before .before .before .before .before .before .before .before .pre in
-    let v : List ℕ = varsAt (a .pool .now) (a .at) in
-    let k = c .before .found .given .0 .0 in
-    let s = subst (Spot v (tallied (a .n) (a .headers .now) (a .pool .now))) (c .before .found .given .1) (c .before .before .before .find-near .ensures) in
-    let h = there-lt (a .n) k (a .headers .now) (a .pool .now) v (p .0 .rows-are) s in
-    let t = there-small (a .n) k (a .headers .now) (a .pool .now) v (p .0 .rows-are) s in
-    let r = p .0 .rows-are .room in
-    search needs
+mul-headers c = let x = row c in search needs
 
 -- src/pending.rt:90:32
 slice-read-headers : tie.Need-slice-read-headers
-slice-read-headers c =
-    let a = c .before .before .before .before .before .before .before .before .before .before .args in
-    let p = c .before .before .before .before .before .before .before .before .before .before .pre in
-    let v : List ℕ = varsAt (a .pool .now) (a .at) in
-    let k = c .before .before .found .given .0 .0 in
-    let s = subst (Spot v (tallied (a .n) (a .headers .now) (a .pool .now))) (c .before .before .found .given .1) (c .before .before .before .before .find-near .ensures) in
-    let h = there-lt (a .n) k (a .headers .now) (a .pool .now) v (p .0 .rows-are) s in
-    let t = there-small (a .n) k (a .headers .now) (a .pool .now) v (p .0 .rows-are) s in
-    let r = p .0 .rows-are .room in
-    search needs
+slice-read-headers c = let x = row (c .before) in search needs
 
 -- src/pending.rt:90:32
 add-headers-2 : tie.Need-add-headers-2
-add-headers-2 c =
-    let a = c .before .before .before .before .before .before .before .before .before .before .args in
-    let p = c .before .before .before .before .before .before .before .before .before .before .pre in
-    let v : List ℕ = varsAt (a .pool .now) (a .at) in
-    let k = c .before .before .found .given .0 .0 in
-    let s = subst (Spot v (tallied (a .n) (a .headers .now) (a .pool .now))) (c .before .before .found .given .1) (c .before .before .before .before .find-near .ensures) in
-    let h = there-lt (a .n) k (a .headers .now) (a .pool .now) v (p .0 .rows-are) s in
-    let t = there-small (a .n) k (a .headers .now) (a .pool .now) v (p .0 .rows-are) s in
-    let r = p .0 .rows-are .room in
-    search needs
+add-headers-2 c = let x = row (c .before) in search needs
 
 -- src/pending.rt:90:21
 add-headers-3 : tie.Need-add-headers-3
-add-headers-3 c =
-    let a = c .before .before .before .before .before .before .before .before .before .before .args in
-    let p = c .before .before .before .before .before .before .before .before .before .before .pre in
-    let v : List ℕ = varsAt (a .pool .now) (a .at) in
-    let k = c .before .before .found .given .0 .0 in
-    let s = subst (Spot v (tallied (a .n) (a .headers .now) (a .pool .now))) (c .before .before .found .given .1) (c .before .before .before .before .find-near .ensures) in
-    let h = there-lt (a .n) k (a .headers .now) (a .pool .now) v (p .0 .rows-are) s in
-    let t = there-small (a .n) k (a .headers .now) (a .pool .now) v (p .0 .rows-are) s in
-    let r = p .0 .rows-are .room in
-    search needs
+add-headers-3 c = let x = row (c .before) in search needs
 
 -- src/pending.rt:90:13
 mul-headers-2 : tie.Need-mul-headers-2
-mul-headers-2 c =
-    let a = c .before .before .before .before .before .before .before .before .before .before .args in
-    let p = c .before .before .before .before .before .before .before .before .before .before .pre in
-    let v : List ℕ = varsAt (a .pool .now) (a .at) in
-    let k = c .before .before .found .given .0 .0 in
-    let s = subst (Spot v (tallied (a .n) (a .headers .now) (a .pool .now))) (c .before .before .found .given .1) (c .before .before .before .before .find-near .ensures) in
-    let h = there-lt (a .n) k (a .headers .now) (a .pool .now) v (p .0 .rows-are) s in
-    let t = there-small (a .n) k (a .headers .now) (a .pool .now) v (p .0 .rows-are) s in
-    let r = p .0 .rows-are .room in
-    search needs
+mul-headers-2 c = let x = row (c .before) in search needs
 
 -- src/pending.rt:90:13
 slice-write-headers : tie.Need-slice-write-headers
-slice-write-headers c =
-    let a = c .before .before .before .before .before .before .before .before .before .before .args in
-    let p = c .before .before .before .before .before .before .before .before .before .before .pre in
-    let v : List ℕ = varsAt (a .pool .now) (a .at) in
-    let k = c .before .before .found .given .0 .0 in
-    let s = subst (Spot v (tallied (a .n) (a .headers .now) (a .pool .now))) (c .before .before .found .given .1) (c .before .before .before .before .find-near .ensures) in
-    let h = there-lt (a .n) k (a .headers .now) (a .pool .now) v (p .0 .rows-are) s in
-    let t = there-small (a .n) k (a .headers .now) (a .pool .now) v (p .0 .rows-are) s in
-    let r = p .0 .rows-are .room in
-    search needs
+slice-write-headers c = let x = row (c .before) in search needs
 
 -- src/pending.rt:93:24
 enum-known-found-2 : tie.Need-enum-known-found-2
@@ -142,11 +88,13 @@ may-follow-requires c κs = search needs
 mul-places : tie.Need-mul-places
 mul-places c = search needs
 
+-- It waits behind those that do.
+follows : (c : tie.Then1) → let a = c .before .before .before .before .before .before .before .before .before .before .before .before .args in MayFollow (a .b) (a .places .now) (a .pool .now) (a .at) true
+follows c = let a = c .before .before .before .before .before .before .before .before .before .before .before .before .args in subst (MayFollow (a .b) (a .places .now) (a .pool .now) (a .at)) (c .if1 .taken) (c .before .may-follow .ensures)
+
 -- src/pending.rt:95:17
 slice-write-places : tie.Need-slice-write-places
-slice-write-places c =
-    let m = subst (MayFollow (c .before .before .before .before .before .before .before .before .before .before .before .before .args .b) (c .before .before .before .before .before .before .before .before .before .before .before .before .args .places .now) (c .before .before .before .before .before .before .before .before .before .before .before .before .args .pool .now) (c .before .before .before .before .before .before .before .before .before .before .before .before .args .at)) (c .if1 .taken) (c .before .may-follow .ensures) in
-    omega (arith, m .0)
+slice-write-places c = omega (arith, follows c .0)
 
 -- src/pending.rt:96:17
 mul-fronts : tie.Need-mul-fronts
@@ -154,9 +102,7 @@ mul-fronts c = search needs
 
 -- src/pending.rt:96:17
 slice-write-fronts : tie.Need-slice-write-fronts
-slice-write-fronts c =
-    let m = subst (MayFollow (c .before .before .before .before .before .before .before .before .before .before .before .before .args .b) (c .before .before .before .before .before .before .before .before .before .before .before .before .args .places .now) (c .before .before .before .before .before .before .before .before .before .before .before .before .args .pool .now) (c .before .before .before .before .before .before .before .before .before .before .before .before .args .at)) (c .if1 .taken) (c .before .may-follow .ensures) in
-    omega (arith, m .0, c .before .before .before .before .before .before .before .before .before .before .before .before .pre .0 .waiting .same)
+slice-write-fronts c = omega (arith, follows c .0, c .before .before .before .before .before .before .before .before .before .before .before .before .pre .0 .waiting .same)
 
 -- src/pending.rt:97:36
 add-t27 : tie.Need-add-t27
@@ -186,8 +132,7 @@ returns c =
     let v : List ℕ = varsAt (a .pool .now) (a .at) in
     let k = c .before .before .before .before .before .found2 .given .0 .0 in
     let s = subst (Spot v (tallied (a .n) (a .headers .now) (a .pool .now))) (c .before .before .before .before .before .found2 .given .1) (c .before .before .before .before .before .before .before .find-near .ensures) in
-    let m = subst (MayFollow (a .b) (a .places .now) (a .pool .now) (a .at)) (c .before .if1 .taken) (c .before .before .may-follow .ensures) in
-    let x = batch-wait (a .n) (a .b) (a .headers .now) (a .pool .now) (a .places .now) (a .fronts .now) v (p .0) (a .at) k refl (p .1) s m in
+    let x = batch-wait (a .n) (a .b) (a .headers .now) (a .pool .now) (a .places .now) (a .fronts .now) v (p .0) (a .at) k refl (p .1) s (follows (c .before)) in
     (omega arith, x .0, x .1)
 
 -- src/pending.rt:73:1
@@ -198,14 +143,7 @@ same-length-4 c = search needs
 returns-2 : tie.Need-returns-2
 returns-2 c =
     let a = c .before .before .before .before .before .before .before .before .before .before .args in
-    let p = c .before .before .before .before .before .before .before .before .before .before .pre in
-    let v : List ℕ = varsAt (a .pool .now) (a .at) in
-    let k = c .before .before .found .given .0 .0 in
-    let s = subst (Spot v (tallied (a .n) (a .headers .now) (a .pool .now))) (c .before .before .found .given .1) (c .before .before .before .before .find-near .ensures) in
-    let h = there-lt (a .n) k (a .headers .now) (a .pool .now) v (p .0 .rows-are) s in
-    let t = there-small (a .n) k (a .headers .now) (a .pool .now) v (p .0 .rows-are) s in
-    let r = p .0 .rows-are .room in
-    let x = batch-count (a .n) (a .b) (a .headers .now) (a .pool .now) (a .places .now) (a .fronts .now) v (p .0) k s in
+    let x = batch-count (a .n) (a .b) (a .headers .now) (a .pool .now) (a .places .now) (a .fronts .now) (varsAt (a .pool .now) (a .at)) (c .before .before .before .before .before .before .before .before .before .before .pre .0) (c .before .before .found .given .0 .0) (there (c .before)) in
     (omega arith, x .0, x .1)
 
 -- src/pending.rt:73:1
