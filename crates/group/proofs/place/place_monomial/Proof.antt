@@ -1,10 +1,10 @@
 use mathlib.Core.Path.{_≡_, refl, sym, ap, subst, _∙_}
-use Prim.Native.Nat.{ℕ, _+_, _*_, _≤_}
+use Prim.Native.Nat.{ℕ, _+_, _*_, _≤_, _<_}
 use native.Mathlib.Omega.{arith}
 use lib.ListN.{length, getD, drop, set}
 use lib.Seq.{sets}
 use Rattle.monomial.specs.Words.{readMonomial}
-use Rattle.group.specs.declared.Found.the-variants.{Missing}
+use Rattle.group.specs.declared.Found.the-variants.{There, Missing}
 use Rattle.group.specs.Grouped.{tallied, Spot, itemAt, widthOf, termOf}
 use Rattle.group.proofs.Counting.{there-lt}
 use Rattle.group.proofs.PoolLists.{read-coef}
@@ -58,57 +58,34 @@ returns c =
     let s = subst (Spot v (tallied (a .n) (a .headers .now) P)) (c .enum-told .given .1) (c .before .before .find-near .ensures) in
     λ gs done x y. absurd (room-found gs done t v k refl y (subst (λ l. Spot v l (Missing k)) (x .tallies-are) s))
 
+-- The monomial has a row.
+there : (c : tie.After-known-told) → let a = c .before .before .before .before .before .before .before .before .before .args in
+    Spot (varsAt (a .pool .now) (a .at)) (tallied (a .n) (a .headers .now) (a .pool .now)) (There (c .before .found .given .0 .0))
+there c =
+    let a = c .before .before .before .before .before .before .before .before .before .args in
+    subst (Spot (varsAt (a .pool .now) (a .at)) (tallied (a .n) (a .headers .now) (a .pool .now))) (c .before .found .given .1) (c .before .before .before .find-near .ensures)
+
+row : (c : tie.After-known-told) → let a = c .before .before .before .before .before .before .before .before .before .args in (c .before .found .given .0 .0 < a .n) × (4 * a .n ≤ length (a .headers .now))
+row c =
+    let a = c .before .before .before .before .before .before .before .before .before .args in
+    let r = c .before .before .before .before .before .before .before .before .before .pre .0 .placing .rows-are in
+    (there-lt (a .n) (c .before .found .given .0 .0) (a .headers .now) (a .pool .now) (varsAt (a .pool .now) (a .at)) r (there c), r .room)
+
 -- src/place.rt:72:15
 mul-row : tie.Need-mul-row
-mul-row c =
-    let a = c .before .before .before .before .before .before .before .before .before .args in
-    let g = c .before .before .before .before .before .before .before .before .before .pre .0 in
-    let H = a .headers .now in
-    let P = a .pool .now in
-    let k = c .before .found .given .0 .0 in
-    let s = subst (Spot (varsAt P (a .at)) (tallied (a .n) H P)) (c .before .found .given .1) (c .before .before .before .find-near .ensures) in
-    let h = there-lt (a .n) k H P (varsAt P (a .at)) (g .placing .rows-are) s in
-    let r = g .placing .rows-are .room in
-    search needs
+mul-row c = let x = row c in search needs
 
 -- src/place.rt:73:26
 add-cursor : tie.Need-add-cursor
-add-cursor c =
-    let a = c .before .before .before .before .before .before .before .before .before .args in
-    let g = c .before .before .before .before .before .before .before .before .before .pre .0 in
-    let H = a .headers .now in
-    let P = a .pool .now in
-    let k = c .before .found .given .0 .0 in
-    let s = subst (Spot (varsAt P (a .at)) (tallied (a .n) H P)) (c .before .found .given .1) (c .before .before .before .find-near .ensures) in
-    let h = there-lt (a .n) k H P (varsAt P (a .at)) (g .placing .rows-are) s in
-    let r = g .placing .rows-are .room in
-    search needs
+add-cursor c = let x = row c in search needs
 
 -- src/place.rt:73:18
 mul-cursor : tie.Need-mul-cursor
-mul-cursor c =
-    let a = c .before .before .before .before .before .before .before .before .before .args in
-    let g = c .before .before .before .before .before .before .before .before .before .pre .0 in
-    let H = a .headers .now in
-    let P = a .pool .now in
-    let k = c .before .found .given .0 .0 in
-    let s = subst (Spot (varsAt P (a .at)) (tallied (a .n) H P)) (c .before .found .given .1) (c .before .before .before .find-near .ensures) in
-    let h = there-lt (a .n) k H P (varsAt P (a .at)) (g .placing .rows-are) s in
-    let r = g .placing .rows-are .room in
-    search needs
+mul-cursor c = let x = row c in search needs
 
 -- src/place.rt:73:18
 slice-read-cursor : tie.Need-slice-read-cursor
-slice-read-cursor c =
-    let a = c .before .before .before .before .before .before .before .before .before .before .args in
-    let g = c .before .before .before .before .before .before .before .before .before .before .pre .0 in
-    let H = a .headers .now in
-    let P = a .pool .now in
-    let k = c .before .before .found .given .0 .0 in
-    let s = subst (Spot (varsAt P (a .at)) (tallied (a .n) H P)) (c .before .before .found .given .1) (c .before .before .before .before .find-near .ensures) in
-    let h = there-lt (a .n) k H P (varsAt P (a .at)) (g .placing .rows-are) s in
-    let r = g .placing .rows-are .room in
-    omega arith
+slice-read-cursor c = let x = row (c .before) in omega arith
 
 -- src/place.rt:74:21
 wide-requires : tie.Need-wide-requires
@@ -119,27 +96,17 @@ put-term-requires : tie.Need-put-term-requires
 put-term-requires c κs =
     let a = c .before .before .before .before .before .before .before .before .before .before .before .before .args in
     let g = c .before .before .before .before .before .before .before .before .before .before .before .before .pre .0 in
-    let H = a .headers .now in
-    let P = a .pool .now in
-    let T = a .terms .now in
-    let t = itemAt (a .index) (a .field) (readMonomial (drop (a .at) P)) in
-    let k = c .before .before .before .before .found .given .0 .0 in
-    let s = subst (Spot (varsAt P (a .at)) (tallied (a .n) H P)) (c .before .before .before .before .found .given .1) (c .before .before .before .before .before .before .find-near .ensures) in
-    let q = term-fits (a .interaction) (g .gs) (a .n) H P T (g .done) t (t .vars) k (g .placing) (g .room) refl s in
-    subst (λ (i : ℕ). widthOf (a .interaction) * i + widthOf (a .interaction) ≤ length T) (sym (c .wide .ensures)) q
+    let t = itemAt (a .index) (a .field) (readMonomial (drop (a .at) (a .pool .now))) in
+    let q = term-fits (a .interaction) (g .gs) (a .n) (a .headers .now) (a .pool .now) (a .terms .now) (g .done) t (t .vars) (c .before .before .before .before .found .given .0 .0) (g .placing) (g .room) refl (there (c .before .before .before)) in
+    subst (λ (i : ℕ). widthOf (a .interaction) * i + widthOf (a .interaction) ≤ length (a .terms .now)) (sym (c .wide .ensures)) q
 
 -- src/place.rt:75:24
 add-headers : tie.Need-add-headers
 add-headers c =
     let a = c .before .before .before .before .before .before .before .before .before .before .before .before .before .before .before .args in
     let g = c .before .before .before .before .before .before .before .before .before .before .before .before .before .before .before .pre .0 in
-    let H = a .headers .now in
-    let P = a .pool .now in
-    let T = a .terms .now in
-    let t = itemAt (a .index) (a .field) (readMonomial (drop (a .at) P)) in
-    let k = c .before .before .before .before .before .before .before .found .given .0 .0 in
-    let s = subst (Spot (varsAt P (a .at)) (tallied (a .n) H P)) (c .before .before .before .before .before .before .before .found .given .1) (c .before .before .before .before .before .before .before .before .before .find-near .ensures) in
-    let q = cursor-small (a .interaction) (g .gs) (a .n) H P T (g .done) t (t .vars) k (g .placing) (g .room) refl s in
+    let t = itemAt (a .index) (a .field) (readMonomial (drop (a .at) (a .pool .now))) in
+    let q = cursor-small (a .interaction) (g .gs) (a .n) (a .headers .now) (a .pool .now) (a .terms .now) (g .done) t (t .vars) (c .before .before .before .before .before .before .before .found .given .0 .0) (g .placing) (g .room) refl (there (c .before .before .before .before .before .before)) in
     let z = g .placing .small in
     search needs
 
@@ -153,16 +120,7 @@ mul-headers c = let q = mul-cursor (c .before .before .before .before .before .b
 
 -- src/place.rt:75:5
 slice-write-headers : tie.Need-slice-write-headers
-slice-write-headers c =
-    let a = c .before .before .before .before .before .before .before .before .before .before .before .before .before .before .before .args in
-    let g = c .before .before .before .before .before .before .before .before .before .before .before .before .before .before .before .pre .0 in
-    let H = a .headers .now in
-    let P = a .pool .now in
-    let k = c .before .before .before .before .before .before .before .found .given .0 .0 in
-    let s = subst (Spot (varsAt P (a .at)) (tallied (a .n) H P)) (c .before .before .before .before .before .before .before .found .given .1) (c .before .before .before .before .before .before .before .before .before .find-near .ensures) in
-    let h = there-lt (a .n) k H P (varsAt P (a .at)) (g .placing .rows-are) s in
-    let r = g .placing .rows-are .room in
-    omega arith
+slice-write-headers c = let x = row (c .before .before .before .before .before .before) in omega arith
 
 -- src/place.rt:53:1
 same-length-2 : tie.Need-same-length-2
@@ -176,17 +134,14 @@ same-length-3 c = search needs
 returns-2 : tie.Need-returns-2
 returns-2 c =
     let a = c .before .before .before .before .before .before .before .before .before .before .before .before .before .before .before .args in
-    let g = c .before .before .before .before .before .before .before .before .before .before .before .before .before .before .before .pre .0 in
     let H = a .headers .now in
     let P = a .pool .now in
     let T = a .terms .now in
     let t = itemAt (a .index) (a .field) (readMonomial (drop (a .at) P)) in
     let k = c .before .before .before .before .before .before .before .found .given .0 .0 in
-    let s = subst (Spot (varsAt P (a .at)) (tallied (a .n) H P)) (c .before .before .before .before .before .before .before .found .given .1) (c .before .before .before .before .before .before .before .before .before .find-near .ensures) in
     let u = c .before .before .put-term in
-    let w = c .before .before .before .wide .ensures in
-    let f = u .ensures t refl refl (read-coef P (a .at)) ∙ ap (λ (i : ℕ). sets T (widthOf (a .interaction) * i) (termOf (a .interaction) t)) w in
-    λ gs done x y. place-one (a .interaction) gs (a .n) H P T done t (t .vars) k x y refl s (set H (4 * k + 1) (getD H (4 * k + 1) 0 + 1)) (u .last .0) f refl
+    let f = u .ensures t refl refl (read-coef P (a .at)) ∙ ap (λ (i : ℕ). sets T (widthOf (a .interaction) * i) (termOf (a .interaction) t)) (c .before .before .before .wide .ensures) in
+    λ gs done x y. place-one (a .interaction) gs (a .n) H P T done t (t .vars) k x y refl (there (c .before .before .before .before .before .before)) (set H (4 * k + 1) (getD H (4 * k + 1) 0 + 1)) (u .last .0) f refl
 
 pub place-monomial-spec : {M : Type 1} → statement M
 place-monomial-spec =
