@@ -183,7 +183,7 @@ items-label r [] = refl
 items-label r (m ∷ ms) =
     ap (λ (l : List Item). cond (eqb (m .coef) 0) l (record { vars = m .vars; index = r .index; field = r .field; coef = m .coef } ∷ l)) (items-label r ms)
 
-total-nil : total [] ≡ 0
+pub total-nil : total [] ≡ 0
 unfolding total
 total-nil = refl
 

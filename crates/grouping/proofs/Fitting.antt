@@ -1,18 +1,18 @@
 -- A family of roots, from counting to the finished slices: what its groups are, and the first slice that is too short.
 use mathlib.Core.Path.{_≡_, refl, sym, ap, subst, _∙_}
 use mathlib.Core.Logic.{_⊎_, inl, inr}
-use mathlib.Core.Bool.{Bool}
+use mathlib.Core.Bool.{Bool, true, false}
 use mathlib.Core.List.{List, [], _∷_, _++_, map, flatMap}
 use Prim.Native.Nat.{ℕ, _+_, _*_, _-_, _≤_, _<_}
 use native.Mathlib.Omega.{arith}
 use lib.Dec.{leb}
-use lib.ListN.{length, take, drop, replicate, length-append, length-map, length-replicate}
+use lib.ListN.{length, take, drop, length-append, length-map}
 use lib.Seq.{take-append-seam}
 use borrow.Author.Tests.{le-leb, lt-leb}
 use Rattle.semantics.specs.Arithmetic.{prime}
 use Rattle.semantics.specs.Monomial.{Monomial, listAt}
 use Rattle.semantics.specs.Check.{readSheet}
-use Rattle.semantics.specs.Group.{Root, constraintRoots, countRoots, fieldRoots, Item, itemsOf, items, Group, groups, headers, variables, terms, layout, rows}
+use Rattle.semantics.specs.Group.{Root, Item, itemsOf, items, Group, groups, headers, variables, terms, layout, rows}
 use Rattle.semantics.specs.Call.{zeros, padded, firstShort}
 use Rattle.semantics.proofs.Basics.{cond-true, cond-false}
 use Rattle.semantics.proofs.Sorting.{All}
@@ -20,11 +20,13 @@ use Rattle.semantics.proofs.Grouping.{headers-length, terms-length}
 use Rattle.records.specs.Access.{recordsOf}
 use Rattle.group.specs.declared.Tallied.{Tallied}
 use Rattle.group.specs.declared.Tallied.the-variants.{Headers, Full}
+use Rattle.grouping.specs.declared.families.Family.{Family}
+use Rattle.grouping.specs.declared.families.Family.the-variants.{Constraints, Counts, Fields}
 use Rattle.grouping.specs.declared.Lengths.{Lengths}
 use Rattle.grouping.specs.declared.Grouped.{Grouped}
 use Rattle.grouping.specs.declared.Grouped.the-variants.{Written, Short}
 use Rattle.group.specs.Grouped.{Tally, tallyAll, total, tallied, Rows, Counted, select, countOf, placed, Room, column, sum, listOf, InPool, Rooted, varsNamed, termOf, widthOf, Placing, Places, varsIn, headersOf}
-use Rattle.grouping.specs.Families.{ToTally, ToPlaceRoots, Standing, Grouping, groupsOf, Measured, Front, Laid}
+use Rattle.grouping.specs.Families.{rootsOf, nodesOf, ToTally, ToPlaceRoots, Standing, Grouping, groupsOf, Measured, Front, Laid}
 use Rattle.group.proofs.Gathering.{gathered}
 use Rattle.group.proofs.Tallies.{counted, counted-gathered, gathered-whole, count-all}
 use Rattle.group.proofs.Labels.{Labels, constraint-labels, count-labels, field-labels, groups-gathered, list-ascends}
@@ -32,8 +34,8 @@ use Rattle.group.proofs.Places.{placed-all, padded-is}
 use Rattle.group.proofs.Headers.{tallied-length}
 use Rattle.group.proofs.PoolLists.{stored-list, stored-in}
 use Rattle.group.proofs.Placements.{term-wide}
-use Rattle.grouping.proofs.Finished.{total-is, vars-total, family-small}
-use Rattle.grouping.proofs.RootItems.{nodesOf, items-named, constraints-few, counts-few, fields-few}
+use Rattle.grouping.proofs.Finished.{total-is, vars-total, total-nil, family-small}
+use Rattle.grouping.proofs.RootItems.{items-named, constraints-few, counts-few, fields-few}
 
 -- Groups as tallies.
 headers-are : (v t : ℕ) (gs : List Group) → headersOf v t (map counted gs) ≡ headers v t gs
@@ -83,16 +85,12 @@ module _ (term : Item → List ℕ) (gs : List Group) (a b c : ℕ) where
           ∙ cond-true (leb (length (terms term gs)) c) _ 3 (le-leb (length (terms term gs)) c l)
 
 -- No rows yet.
-rows-none : (H P : List ℕ) (k : ℕ) → H ≡ replicate k 0 → Rows 0 H P × (tallied 0 H P ≡ [])
-unfolding tallied rows zeros
-rows-none H P k e =
-    let z : length H - 4 * 0 ≡ k = ap (λ (l : List ℕ). length l - 4 * 0) e ∙ omega (arith, length-replicate {A = ℕ} k 0) in
+rows-none : (H P : List ℕ) → H ≡ zeros (length H) → Rows 0 H P × (tallied 0 H P ≡ [])
+unfolding tallied rows
+rows-none H P e =
+    let z : length H ≡ length H - 4 * 0 = omega arith in
     let d : 4 * 0 ≡ 0 = omega arith in
-    (record { room = omega arith; inside = tt; ascends = tt; rest = ap (λ (k : ℕ). drop k H) d ∙ e ∙ ap (λ (n : ℕ). replicate n 0) (sym z) }, refl)
-
-total-none : total [] ≡ 0
-unfolding total
-total-none = refl
+    (record { room = omega arith; inside = tt; ascends = tt; rest = ap (λ (k : ℕ). drop k H) d ∙ e ∙ ap zeros z }, refl)
 
 -- Words in front of a slice, and zeros behind them.
 pub padded-starts : (words slice : List ℕ) → slice ≡ padded words (length slice) → Front words slice
@@ -102,21 +100,14 @@ padded-starts words slice e =
     (omega arith, ap (take (length words)) p ∙ take-append-seam words (zeros (length slice - length words)))
 
 -- A family of roots whose lists stand in the pool.
-pub record Family (ws P : List ℕ) (roots : List Root) : Type 0 where
+pub record Known (ws P : List ℕ) (roots : List Root) : Type 0 where
   pub grouping : Grouping ws P roots
   pub labels : Labels roots
   pub few : length roots ≤ 65536
 
--- Before its names are counted: the headers are zeros.
-pub record Begun (ws P : List ℕ) (roots : List Root) (H names : List ℕ) : Type 0 where
-  pub family : Family ws P roots
-  pub size : ℕ
-  pub clear : H ≡ replicate size 0
-  pub names-are : names ≡ nodesOf roots
-
 -- Its rows are counted.
 pub record Rowed (ws P : List ℕ) (roots : List Root) (n : ℕ) (H : List ℕ) : Type 0 where
-  pub family : Family ws P roots
+  pub known : Known ws P roots
   pub rows-are : Rows n H P
   pub tallies-are : tallied n H P ≡ tallyAll (varsNamed P (nodesOf roots)) []
   pub total-small : total (tallied n H P) ≤ 16777216
@@ -127,13 +118,18 @@ pub record Fits (ws P : List ℕ) (roots : List Root) (b : Bool) (n : ℕ) (H W 
   pub rowed : Rowed ws P roots n H
   pub measured : Measured n (widthOf b) (sum (column 2 n H)) (sum (column 3 n H)) (length W) (length T) (Written c)
 
--- Headers and terms are ready for the terms of the roots, as the words name them.
-pub record Started (ws P : List ℕ) (roots : List Root) (b : Bool) (n : ℕ) (H W T : List ℕ) (c : Lengths) (H₁ T₁ : List ℕ) (named : List Root) : Type 0 where
+-- Headers and terms are ready for the terms of the roots.
+pub record Started (ws P : List ℕ) (roots : List Root) (b : Bool) (n : ℕ) (H W T : List ℕ) (c : Lengths) (H₁ T₁ : List ℕ) : Type 0 where
   pub fits : Fits ws P roots b n H W T c
   pub placing : Placing b (tallied n H P) n H₁ P T₁ []
-  pub roots-are : named ≡ roots
 
-module _ {ws P : List ℕ} {roots : List Root} (f : Family ws P roots) where
+-- Each family of a checked sheet.
+pub known : (f : Family) {ws P : List ℕ} → Grouping ws P (rootsOf f (readSheet ws)) → Known ws P (rootsOf f (readSheet ws))
+known Constraints {ws} g = record { grouping = g; labels = constraint-labels (readSheet ws); few = constraints-few ws (g .checked) }
+known Counts {ws} g = record { grouping = g; labels = count-labels (readSheet ws); few = counts-few ws (g .checked) }
+known Fields {ws} g = record { grouping = g; labels = field-labels (readSheet ws); few = fields-few ws (g .checked) }
+
+module _ {ws P : List ℕ} {roots : List Root} (f : Known ws P roots) where
   abbrev list : ℕ → List Monomial
   list = listAt prime (recordsOf ws)
 
@@ -189,67 +185,72 @@ module _ {ws P : List ℕ} {roots : List Root} (f : Family ws P roots) where
       let e = ap (λ (l : List (List ℕ)). countOf v (tallyAll l [])) (sym (items-named P roots)) ∙ count-all v (items (listOf P) roots) in
       omega arith
 
--- Counting starts with no rows.
-module _ {ws P : List ℕ} {roots : List Root} {H names : List ℕ} (g : Begun ws P roots H names) where
+-- Counting starts with no rows; the names are those of the roots' records.
+module _ {ws P : List ℕ} {roots : List Root} (f : Known ws P roots) {H names : List ℕ} (z : H ≡ zeros (length H)) (e : names ≡ nodesOf roots) where
   pub fit-start : ToTally 0 H P names
   fit-start =
-      let r = rows-none H P (g .size) (g .clear) in
-      let t = ap total (r .1) ∙ total-none in
-      let l = ap length (g .names-are) in
-      let k = nodes-few (g .family) in
-      record { rows-are = r .0; lists = subst (All (Rooted P)) (sym (g .names-are)) (rooted (g .family)); small = omega arith }
+      let r = rows-none H P z in
+      let t = ap total (r .1) ∙ total-nil in
+      let l = ap length e in
+      let k = nodes-few f in
+      record { rows-are = r .0; lists = subst (All (Rooted P)) (sym e) (rooted f); small = omega arith }
 
-  counted-from : tallyAll (varsNamed P names) (tallied 0 H P) ≡ tallyAll (varsNamed P (nodesOf roots)) []
-  counted-from = λ i. tallyAll (varsNamed P (g .names-are i)) (rows-none H P (g .size) (g .clear) .1 i)
+  pub fit-counted : (H′ : List ℕ) (u : Tallied) → Counted H′ P (tallyAll (varsNamed P names) (tallied 0 H P)) u
+      → Counted H′ P (tallyAll (varsNamed P (nodesOf roots)) []) u
+  fit-counted H′ u c = subst (λ (gs : List Tally). Counted H′ P gs u) (λ i. tallyAll (varsNamed P (e i)) (rows-none H P z .1 i)) c
 
-  module _ (H′ : List ℕ) (u : Tallied) (c : Counted H′ P (tallyAll (varsNamed P names) (tallied 0 H P)) u) where
-    pub fit-full : u ≡ Full → (b : Bool) (W T : List ℕ) → Laid (termOf b) (groupsOf ws roots) H′ W T (Short 1)
-    fit-full e b W T =
-        let d = subst (Counted H′ P (tallyAll (varsNamed P names) (tallied 0 H P))) e c in
-        let s = headers-size (g .family) in
-        let l = ap length counted-from in
-        (short-one (termOf b) (groupsOf ws roots) (length H′) (length W) (length T) (omega arith), λ z. absurd (omega arith))
+-- What counting answers.
+module _ {ws P : List ℕ} {roots : List Root} (f : Known ws P roots) (H : List ℕ) (u : Tallied) (c : Counted H P (tallyAll (varsNamed P (nodesOf roots)) []) u) where
+  pub fit-full : u ≡ Full → (b : Bool) (W T : List ℕ) → Laid (termOf b) (groupsOf ws roots) H W T (Short 1)
+  fit-full e b W T =
+      let d = subst (Counted H P (tallyAll (varsNamed P (nodesOf roots)) [])) e c in
+      let s = headers-size f in
+      (short-one (termOf b) (groupsOf ws roots) (length H) (length W) (length T) (omega arith), λ z. absurd (omega arith))
 
-    pub fit-rows : {n : ℕ} → u ≡ Headers n → Rowed ws P roots n H′
-    fit-rows {n} e =
-        let d = subst (Counted H′ P (tallyAll (varsNamed P names) (tallied 0 H P))) e c in
-        let t = d .1 ∙ counted-from in
-        let s = family-small n H′ P (nodesOf roots) t (rooted (g .family)) (nodes-few (g .family)) in
-        record { family = g .family; rows-are = d .0; tallies-are = t; total-small = s .0; rows-few = s .1 }
+  pub fit-rows : {n : ℕ} → u ≡ Headers n → Rowed ws P roots n H
+  fit-rows {n} e =
+      let d = subst (Counted H P (tallyAll (varsNamed P (nodesOf roots)) [])) e c in
+      let s = family-small n H P (nodesOf roots) (d .1) (rooted f) (nodes-few f) in
+      record { known = f; rows-are = d .0; tallies-are = d .1; total-small = s .0; rows-few = s .1 }
+
+-- A term has at most three words.
+width-few : (b : Bool) → widthOf b ≤ 3
+width-few false = omega arith
+width-few true = omega arith
 
 -- The rows are counted.
 module _ {ws P : List ℕ} {roots : List Root} {n : ℕ} {H : List ℕ} (r : Rowed ws P roots n H) where
-  pub fit-room : (4 * n ≤ length H) × (n ≤ 16777216) × (sum (column 3 n H) ≤ 16777216)
-  fit-room =
+  pub fit-room : (b : Bool) {w : ℕ} → w ≡ widthOf b → (4 * n ≤ length H) × (n ≤ 16777216) × (sum (column 3 n H) ≤ 16777216) × (w ≤ 3)
+  fit-room b e =
       let t = total-is n H P (r .rows-are) in
       let s = r .total-small in
-      (r .rows-are .room, r .rows-few, omega arith)
+      (r .rows-are .room, r .rows-few, omega arith, omega (arith, width-few b))
 
   sizes : (b : Bool)
       → (length (headers 0 0 (groupsOf ws roots)) ≡ 4 * n) × (length (variables (groupsOf ws roots)) ≡ sum (column 2 n H))
       × (length (terms (termOf b) (groupsOf ws roots)) ≡ widthOf b * sum (column 3 n H))
   sizes b =
       let l = sym (tallied-length n H P) ∙ ap length (r .tallies-are) in
-      let h = headers-size (r .family) in
-      let k = counted-are (r .family) ∙ sym (r .tallies-are) in (
+      let h = headers-size (r .known) in
+      let k = counted-are (r .known) ∙ sym (r .tallies-are) in (
         omega arith,
         ap length (sym (vars-are (groupsOf ws roots)) ∙ ap varsIn k) ∙ sym (vars-total n H P (r .rows-are)),
         terms-count b (groupsOf ws roots) ∙ ap (λ (l : List Tally). widthOf b * total l) k
             ∙ ap (λ (k : ℕ). widthOf b * k) (sym (total-is n H P (r .rows-are))),
       )
 
-  module _ (b : Bool) (W T : List ℕ) (u : Grouped) (m : Measured n (widthOf b) (sum (column 2 n H)) (sum (column 3 n H)) (length W) (length T) u) where
+  module _ (b : Bool) {w : ℕ} (q : w ≡ widthOf b) (W T : List ℕ) (u : Grouped) (m : Measured n w (sum (column 2 n H)) (sum (column 3 n H)) (length W) (length T) u) where
+    measured-as : {v : Grouped} → u ≡ v → Measured n (widthOf b) (sum (column 2 n H)) (sum (column 3 n H)) (length W) (length T) v
+    measured-as {v} e =
+        subst (λ (w : ℕ). Measured n w (sum (column 2 n H)) (sum (column 3 n H)) (length W) (length T) v) q
+        (subst (Measured n w (sum (column 2 n H)) (sum (column 3 n H)) (length W) (length T)) e m)
+
     pub fit-fits : {c : Lengths} → u ≡ Written c → Fits ws P roots b n H W T c
-    fit-fits e = record {
-      rowed = r;
-      measured = subst (Measured n (widthOf b) (sum (column 2 n H)) (sum (column 3 n H)) (length W) (length T)) e m;
-    }
+    fit-fits e = record { rowed = r; measured = measured-as e }
 
     -- Variables or terms have no room.
     pub fit-short : {k : ℕ} → u ≡ Short k → Laid (termOf b) (groupsOf ws roots) H W T u
-    fit-short {k} e =
-        subst (Laid (termOf b) (groupsOf ws roots) H W T) (sym e)
-        (go (subst (Measured n (widthOf b) (sum (column 2 n H)) (sum (column 3 n H)) (length W) (length T)) e m))
+    fit-short {k} e = subst (Laid (termOf b) (groupsOf ws roots) H W T) (sym e) (go (measured-as e))
       where
         go : ((k ≡ 2) × (length W < sum (column 2 n H))) ⊎ ((k ≡ 3) × (sum (column 2 n H) ≤ length W) × (length T < widthOf b * sum (column 3 n H)))
             → Laid (termOf b) (groupsOf ws roots) H W T (Short k)
@@ -272,23 +273,22 @@ pub fit-terms : {ws P : List ℕ} {roots : List Root} {b : Bool} {n : ℕ} {H W 
 fit-terms {ws} {P} {roots} {b} {n} {H} {W} {T} g = subst (λ (k : ℕ). widthOf b * k ≤ length T) (total-is n H P (g .rowed .rows-are)) (g .measured .4)
 
 -- The terms are placed.
-module _ {ws P : List ℕ} {roots : List Root} {b : Bool} {n : ℕ} {H W T : List ℕ} {c : Lengths} {H₁ T₁ : List ℕ} {named : List Root}
-    (g : Started ws P roots b n H W T c H₁ T₁ named) where
+module _ {ws P : List ℕ} {roots : List Root} {b : Bool} {n : ℕ} {H W T : List ℕ} {c : Lengths} {H₁ T₁ : List ℕ}
+    (g : Started ws P roots b n H W T c H₁ T₁) where
   abbrev r : Rowed ws P roots n H
   r = g .fits .rowed
 
-  room-now : Room (tallied n H P) (items (listOf P) named)
-  room-now = λ v. subst (λ (l : List Tally). length (select v (items (listOf P) named)) ≤ countOf v l) (sym (r .tallies-are))
-      (subst (λ (l : List Root). length (select v (items (listOf P) l)) ≤ countOf v (tallyAll (varsNamed P (nodesOf roots)) [])) (sym (g .roots-are)) (room-is (r .family) v))
+  room-now : Room (tallied n H P) (items (listOf P) roots)
+  room-now = λ v. subst (λ (l : List Tally). length (select v (items (listOf P) roots)) ≤ countOf v l) (sym (r .tallies-are)) (room-is (r .known) v)
 
-  pub fit-place : ToPlaceRoots b n H₁ P T₁ named
+  pub fit-place : ToPlaceRoots b n H₁ P T₁ roots
   fit-place = record {
     to-place = record { gs = tallied n H P; done = []; placing = g .placing; room = room-now };
-    lists = subst (All (λ (x : Root). InPool P (x .node))) (sym (g .roots-are)) (in-pool (r .family));
+    lists = in-pool (r .known);
   }
 
-  module _ (H₂ T₂ : List ℕ) (p : Places b n P H₁ T₁ H₂ T₂ (items (listOf P) named)) where
-    placed-now : Placing b (tallied n H P) n H₂ P T₂ (items (listOf P) named)
+  module _ (H₂ T₂ : List ℕ) (p : Places b n P H₁ T₁ H₂ T₂ (items (listOf P) roots)) where
+    placed-now : Placing b (tallied n H P) n H₂ P T₂ (items (listOf P) roots)
     placed-now = p (tallied n H P) [] (g .placing) room-now
 
     pub fit-finish : Rows n H₂ P × (n ≤ 16777216) × (total (tallied n H₂ P) ≤ 16777216) × (length (varsIn (tallied n H₂ P)) ≤ length W)
@@ -308,29 +308,18 @@ module _ {ws P : List ℕ} {roots : List Root} {b : Bool} {n : ℕ} {H W T : Lis
         let o = r .rows-are .room in
         let h = g .fits .measured in
         let gs : List Group = groupsOf ws roots in
-        let t : tallied n H₂ P ≡ map counted gs = placed-now .tallies-are ∙ r .tallies-are ∙ sym (counted-are (r .family)) in
+        let t : tallied n H₂ P ≡ map counted gs = placed-now .tallies-are ∙ r .tallies-are ∙ sym (counted-are (r .known)) in
         let hs = ap (headersOf 0 0) t ∙ headers-are 0 0 gs in
         let vw = ap varsIn t ∙ vars-are gs in
-        let its : items (listOf P) named ≡ items (listOf P) roots = ap (items (listOf P)) (g .roots-are) in
-        let ts : placed (termOf b) (widthOf b) (tallied n H P) (items (listOf P) named) ≡ terms (termOf b) gs =
-        (λ i. placed (termOf b) (widthOf b) ((r .tallies-are ∙ sym (counted-are (r .family)) ∙ ap (map counted) (groups-are (r .family))) i) (its i))
+        let ts : placed (termOf b) (widthOf b) (tallied n H P) (items (listOf P) roots) ≡ terms (termOf b) gs =
+        ap (λ (l : List Tally). placed (termOf b) (widthOf b) l (items (listOf P) roots)) (r .tallies-are ∙ sym (counted-are (r .known)) ∙ ap (map counted) (groups-are (r .known)))
         ∙ placed-all (termOf b) (widthOf b) (term-wide b) (gathered (items (listOf P) roots)) (items (listOf P) roots) (gathered-whole (items (listOf P) roots))
-        ∙ ap (terms (termOf b)) (sym (groups-are (r .family))) in (
+        ∙ ap (terms (termOf b)) (sym (groups-are (r .known))) in (
           short-none (termOf b) gs (length H₃) (length W₃) (length T₂) (omega (arith, s .0)) (omega (arith, s .1, h .3)) (omega (arith, s .2, h .4)),
           subst (λ (w : List ℕ). Front w H₃) hs x,
           subst (λ (w : List ℕ). Front w W₃) vw y,
-          subst (λ (w : List ℕ). Front w T₂) ts (padded-starts (placed (termOf b) (widthOf b) (tallied n H P) (items (listOf P) named)) T₂ (placed-now .terms-are)),
+          subst (λ (w : List ℕ). Front w T₂) ts (padded-starts (placed (termOf b) (widthOf b) (tallied n H P) (items (listOf P) roots)) T₂ (placed-now .terms-are)),
           h .0 ∙ sym (s .0),
           h .1 ∙ sym (s .1),
           h .2 ∙ sym (s .2),
         )
-
--- The three families of a checked sheet.
-pub constraint-family : {ws P : List ℕ} → Grouping ws P (constraintRoots (readSheet ws)) → Family ws P (constraintRoots (readSheet ws))
-constraint-family {ws} g = record { grouping = g; labels = constraint-labels (readSheet ws); few = constraints-few ws (g .checked) }
-
-pub count-family : {ws P : List ℕ} → Grouping ws P (countRoots (readSheet ws)) → Family ws P (countRoots (readSheet ws))
-count-family {ws} g = record { grouping = g; labels = count-labels (readSheet ws); few = counts-few ws (g .checked) }
-
-pub field-family : {ws P : List ℕ} → Grouping ws P (fieldRoots (readSheet ws)) → Family ws P (fieldRoots (readSheet ws))
-field-family {ws} g = record { grouping = g; labels = field-labels (readSheet ws); few = fields-few ws (g .checked) }

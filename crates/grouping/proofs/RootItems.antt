@@ -1,7 +1,7 @@
 -- Placing the terms of roots: what is left to place gives the whole; the roots that the words name.
 use mathlib.Core.Path.{_≡_, refl, sym, ap, subst, _∙_}
 use mathlib.Core.Bool.{Bool}
-use mathlib.Core.List.{List, [], _∷_, _++_, map, flatMap, append-assoc, append-nil}
+use mathlib.Core.List.{List, [], _∷_, _++_, flatMap, append-assoc, append-nil}
 use Prim.Native.Nat.{ℕ, suc, _+_, _*_, _-_, _≤_, _<_}
 use native.Mathlib.Omega.{arith}
 use native.Mathlib.Numerals.{add-one}
@@ -19,7 +19,9 @@ use Rattle.records.proofs.Reading.{count-word, message-is, next-stands, first-s
 use Rattle.records.proofs.Steps.{inside}
 use Rattle.semantics.proofs.GraphSheets.{interaction-facts}
 use Rattle.group.specs.Grouped.{Room, listOf, InPool, itemsAt, Placing, ToPlace, Places, varsNamed}
-use Rattle.grouping.specs.Families.{constraintRoot, fieldRoot, interactionIn, eachRoots, countRootAt, fieldRootsAt, ToPlaceRoots}
+use Rattle.grouping.specs.declared.families.Family.{Family}
+use Rattle.grouping.specs.declared.families.Family.the-variants.{Constraints, Counts, Fields}
+use Rattle.grouping.specs.Families.{rootsOf, nodesOf, constraintRoot, fieldRoot, interactionIn, eachRoots, countRootAt, fieldRootsAt, ToPlaceRoots}
 use Rattle.group.proofs.Tallies.{varsOf}
 use Rattle.group.proofs.Placements.{room-front}
 use Rattle.group.proofs.PoolLists.{items-vars}
@@ -39,9 +41,6 @@ module _ (list : ℕ → List Monomial) where
   items-one r = append-nil (itemsOf r (list (r .node))) ∙ items-label r (list (r .node))
 
 -- The variables of the items of roots are those of the lists of the roots' records.
-unfoldable pub nodesOf : List Root → List ℕ
-nodesOf rs = map (λ (r : Root). r .node) rs
-
 vars-append : (ts us : List Item) → varsOf (ts ++ us) ≡ varsOf ts ++ varsOf us
 vars-append [] us = refl
 vars-append (t ∷ ts) us = ap (λ (l : List (List ℕ)). t .vars ∷ l) (vars-append ts us)
@@ -325,6 +324,10 @@ each-any m (x ∷ xs) = (tt, each-any (suc m) xs)
 one-each : (f : ℕ → ℕ → Root) (n : ℕ) (xs : List ℕ) → length (labelled (λ i c. f i c ∷ []) n xs) ≤ length xs
 one-each f n xs = omega (arith, labelled-length (λ i c. f i c ∷ []) 1 (λ (m : ℕ) (x : ℕ). Unit {0}) (λ n m x u. omega arith) n 0 xs (each-any 0 xs))
 
+-- The roots of a family that is known.
+roots-as : (ws : List ℕ) {f g : Family} → f ≡ g → rootsOf g (readSheet ws) ≡ rootsOf f (readSheet ws)
+roots-as ws k = ap (λ (f : Family). rootsOf f (readSheet ws)) (sym k)
+
 module _ (ws : List ℕ) (checked : check prime ws ≡ good (readSheet ws)) where
   pub constraints-few : length (constraintRoots (readSheet ws)) ≤ 65536
   unfolding constraintRoots
@@ -353,11 +356,12 @@ module _ (ws : List ℕ) (checked : check prime ws ≡ good (readSheet ws)) wher
         let i = constraints-inside ws checked .inside in
         (omega arith, omega (arith, counts-small ws checked .1))
 
-    pub constraint-names : part at count ws ≡ nodesOf (constraintRoots (readSheet ws))
-    constraint-names = (λ i. part (a i) (c i) ws) ∙ sym (constraint-nodes ws checked)
+    module _ {f : Family} (k : f ≡ Constraints) where
+      pub constraint-names : part at count ws ≡ nodesOf (rootsOf f (readSheet ws))
+      constraint-names = (λ i. part (a i) (c i) ws) ∙ sym (constraint-nodes ws checked) ∙ ap nodesOf (roots-as ws k)
 
-    pub constraint-labelled : labelled constraintRoot 0 (part at count ws) ≡ constraintRoots (readSheet ws)
-    constraint-labelled = (λ i. labelled constraintRoot 0 (part (a i) (c i) ws)) ∙ sym (constraint-roots ws checked)
+      pub constraint-labelled : labelled constraintRoot 0 (part at count ws) ≡ rootsOf f (readSheet ws)
+      constraint-labelled = (λ i. labelled constraintRoot 0 (part (a i) (c i) ws)) ∙ sym (constraint-roots ws checked) ∙ roots-as ws k
 
   -- The same for the interactions.
   module _ {at count : ℕ} (a : at ≡ interactionsAt ws) (c : count ≡ length (readSheet ws .interactions)) where
@@ -368,14 +372,26 @@ module _ (ws : List ℕ) (checked : check prime ws ≡ good (readSheet ws)) wher
       omega (arith, counts-small ws checked .2),
     )
 
-    pub count-names : countWords ws at count ≡ nodesOf (countRoots (readSheet ws))
-    count-names = (λ i. countWords ws (a i) (c i)) ∙ sym (count-nodes ws checked)
+    module _ {f : Family} (k : f ≡ Counts) where
+      pub count-names : countWords ws at count ≡ nodesOf (rootsOf f (readSheet ws))
+      count-names = (λ i. countWords ws (a i) (c i)) ∙ sym (count-nodes ws checked) ∙ ap nodesOf (roots-as ws k)
 
-    pub count-labelled : eachRoots (countRootAt ws) ws 0 at count ≡ countRoots (readSheet ws)
-    count-labelled = (λ i. eachRoots (countRootAt ws) ws 0 (a i) (c i)) ∙ sym (count-roots ws checked)
+      pub count-labelled : eachRoots (countRootAt ws) ws 0 at count ≡ rootsOf f (readSheet ws)
+      count-labelled = (λ i. eachRoots (countRootAt ws) ws 0 (a i) (c i)) ∙ sym (count-roots ws checked) ∙ roots-as ws k
 
-    pub field-names : fieldWords ws at count ≡ nodesOf (fieldRoots (readSheet ws))
-    field-names = (λ i. fieldWords ws (a i) (c i)) ∙ sym (field-nodes ws checked)
+    module _ {f : Family} (k : f ≡ Fields) where
+      pub field-names : fieldWords ws at count ≡ nodesOf (rootsOf f (readSheet ws))
+      field-names = (λ i. fieldWords ws (a i) (c i)) ∙ sym (field-nodes ws checked) ∙ ap nodesOf (roots-as ws k)
 
-    pub field-labelled : eachRoots (fieldRootsAt ws) ws 0 at count ≡ fieldRoots (readSheet ws)
-    field-labelled = (λ i. eachRoots (fieldRootsAt ws) ws 0 (a i) (c i)) ∙ sym (field-roots ws checked)
+      pub field-labelled : eachRoots (fieldRootsAt ws) ws 0 at count ≡ rootsOf f (readSheet ws)
+      field-labelled = (λ i. eachRoots (fieldRootsAt ws) ws 0 (a i) (c i)) ∙ sym (field-roots ws checked) ∙ roots-as ws k
+
+-- Placing the terms of roots that words name.
+module _ {b′ b : Bool} {named roots : List Root} (k : b ≡ b′) (e : named ≡ roots) (n : ℕ) (P H T : List ℕ) where
+  pub named-ready : ToPlaceRoots b n H P T roots → ToPlaceRoots b′ n H P T named
+  named-ready t = subst (λ (c : Bool). ToPlaceRoots c n H P T named) k (subst (ToPlaceRoots b n H P T) (sym e) t)
+
+  pub named-placed : (H′ T′ : List ℕ) → Places b′ n P H T H′ T′ (items (listOf P) named) → Places b n P H T H′ T′ (items (listOf P) roots)
+  named-placed H′ T′ p =
+      subst (λ (c : Bool). Places c n P H T H′ T′ (items (listOf P) roots)) (sym k)
+      (subst (λ (l : List Root). Places b′ n P H T H′ T′ (items (listOf P) l)) e p)

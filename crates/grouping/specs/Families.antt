@@ -1,16 +1,17 @@
 -- The families of roots as a sheet's words name them: what counting their lists and placing their terms asks and does.
 use mathlib.Core.Path.{_≡_}
 use mathlib.Core.Logic.{_⊎_}
-use mathlib.Core.Bool.{Bool}
-use mathlib.Core.List.{List, [], _∷_, _++_}
+use mathlib.Core.Bool.{Bool, true, false}
+use mathlib.Core.List.{List, [], _∷_, _++_, map}
 use Prim.Native.Nat.{ℕ, zero, suc, _+_, _*_, _≤_, _<_}
 use lib.ListN.{length, getD, take}
 use Rattle.semantics.specs.Arithmetic.{prime}
 use Rattle.semantics.specs.Answer.{good}
+use Rattle.semantics.specs.Sheet.{Sheet}
 use Rattle.semantics.specs.Check.{readSheet, check}
 use Rattle.semantics.specs.Monomial.{Monomial, listAt}
 use Rattle.semantics.specs.Expand.{listSize}
-use Rattle.semantics.specs.Group.{Root, labelled, Item, items, Group, groups, headers, variables, terms, layout}
+use Rattle.semantics.specs.Group.{Root, labelled, constraintRoots, countRoots, fieldRoots, Item, items, Group, groups, headers, variables, terms, layout}
 use Rattle.semantics.specs.Call.{firstShort}
 use Rattle.semantics.proofs.Sorting.{All}
 use Rattle.records.specs.declared.Interaction.{Interaction}
@@ -18,7 +19,24 @@ use Rattle.records.specs.Access.{recordsOf, messageLength, interactionFrom, fie
 use Rattle.monomial.specs.Words.{Stored}
 use Rattle.grouping.specs.declared.Grouped.{Grouped}
 use Rattle.grouping.specs.declared.Grouped.the-variants.{Written, Short}
+use Rattle.grouping.specs.declared.families.Family.{Family}
+use Rattle.grouping.specs.declared.families.Family.the-variants.{Constraints, Counts, Fields}
 use Rattle.group.specs.Grouped.{total, tallied, Rows, listOf, InPool, ToPlace, Rooted}
+
+-- The roots of a family, and whether its terms are those of interactions.
+abbrev pub rootsOf : Family → Sheet → List Root
+rootsOf Constraints s = constraintRoots s
+rootsOf Counts s = countRoots s
+rootsOf Fields s = fieldRoots s
+
+abbrev pub isInteraction : Family → Bool
+isInteraction Constraints = false
+isInteraction Counts = true
+isInteraction Fields = true
+
+-- The records of roots.
+unfoldable pub nodesOf : List Root → List ℕ
+nodesOf rs = map (λ (r : Root). r .node) rs
 
 -- What counting the lists of these records asks.
 pub record ToTally (n : ℕ) (headers pool names : List ℕ) : Type 0 where

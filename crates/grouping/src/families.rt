@@ -1,16 +1,40 @@
 // The families of roots: the lists of the records that words name are counted, and their terms are placed under the roots' labels.
+ghost use mathlib.Core.Path.{_≡_};
 ghost use mathlib.Core.Bool.{true, false};
+ghost use mathlib.Core.List.{[]};
 ghost use Prim.Native.Nat.{_+_, _≤_};
 ghost use lib.ListN.{length};
+ghost use Rattle.semantics.specs.Arithmetic.{prime};
+ghost use Rattle.semantics.specs.Answer.{good};
+ghost use Rattle.semantics.specs.Check.{readSheet, check};
 ghost use Rattle.semantics.specs.Group.{labelled, items};
+ghost use Rattle.semantics.specs.Call.{zeros};
 ghost use Rattle.records.specs.Access.{recordsOf, part, countWords, fieldWords, AllRootsInside};
-ghost use Rattle.group.specs.Grouped.{tallyAll, tallied, Counted, listOf, varsNamed, Places};
-ghost use Rattle.grouping.specs.Families.{ToTally, constraintRoot, fieldRoot, eachRoots, countRootAt, fieldRootsAt, ToPlaceRoots};
+ghost use Rattle.group.specs.Grouped.{tallyAll, tallied, Counted, listOf, varsNamed, widthOf, Places};
+ghost use Rattle.grouping.specs.Families.{ToTally, constraintRoot, fieldRoot, eachRoots, countRootAt, fieldRootsAt, ToPlaceRoots, Grouping, rootsOf, isInteraction, nodesOf};
 use group::Tallied;
 use group::place;
 
+// Which records of a sheet are grouped: its constraints, the counts of its interactions, or their fields.
+pub enum Family {
+    Constraints,
+    Counts,
+    Fields,
+}
+
+// How many words a family's terms have.
+pub fn width_of(family: Family) -> usize
+    ensures { λ r. ⌜ r ≡ widthOf (isInteraction family) ⌝ }
+{
+    match family {
+        Family::Constraints => 2,
+        Family::Counts => 3,
+        Family::Fields => 3,
+    }
+}
+
 // Counts the lists of the records that the words from `at` on name.
-pub fn tally_names(
+fn tally_names(
     sheet: &[u32],
     at: usize,
     count: usize,
@@ -36,7 +60,7 @@ pub fn tally_names(
 }
 
 // Counts the lists of the counts of the interactions from `at` on.
-pub fn tally_counts(
+fn tally_counts(
     sheet: &[u32],
     at: usize,
     count: usize,
@@ -64,7 +88,7 @@ pub fn tally_counts(
 }
 
 // Counts the lists of the fields of the interactions from `at` on.
-pub fn tally_fields(
+fn tally_fields(
     sheet: &[u32],
     at: usize,
     count: usize,
@@ -92,7 +116,7 @@ pub fn tally_fields(
 }
 
 // Places the terms of the constraints that the words from `at` on name.
-pub fn place_constraints(
+fn place_constraints(
     sheet: &[u32],
     at: usize,
     count: usize,
@@ -135,7 +159,7 @@ fn place_names(
 }
 
 // Places the terms of the counts of the interactions from `at` on.
-pub fn place_counts(
+fn place_counts(
     sheet: &[u32],
     at: usize,
     count: usize,
@@ -158,7 +182,7 @@ pub fn place_counts(
 }
 
 // Places the terms of the fields of the interactions from `at` on.
-pub fn place_fields(
+fn place_fields(
     sheet: &[u32],
     at: usize,
     count: usize,
@@ -186,5 +210,60 @@ pub fn place_fields(
         );
         from = x.next;
         i += 1;
+    }
+}
+
+// Counts the lists of a family's records; the headers are cleared.
+pub fn tally_family(sheet: &[u32], family: Family, headers: &mut [u32], pool: &[u32]) -> Tallied
+    requires { ⌜ Grouping (now sheet) (now pool) (rootsOf family (readSheet (now sheet))) × (now headers ≡ zeros (length (now headers))) ⌝ }
+    ensures { λ r. ⌜ Counted (now (headers .exit)) (now (pool .entry)) (tallyAll (varsNamed (now (pool .entry)) (nodesOf (rootsOf family (readSheet (now (sheet .entry)))))) []) r ⌝ }
+{
+    match family {
+        Family::Constraints => {
+            let at = records::constraints_at(sheet);
+            let count = records::num_constraints(sheet);
+            tally_names(sheet, at, count, headers, 0, pool)
+        }
+        Family::Counts => {
+            let at = records::interactions_at(sheet);
+            let count = records::num_interactions(sheet);
+            tally_counts(sheet, at, count, headers, 0, pool)
+        }
+        Family::Fields => {
+            let at = records::interactions_at(sheet);
+            let count = records::num_interactions(sheet);
+            tally_fields(sheet, at, count, headers, 0, pool)
+        }
+    }
+}
+
+// Places the terms of a family's records.
+pub fn place_family(
+    sheet: &[u32],
+    family: Family,
+    headers: &mut [u32],
+    n: usize,
+    pool: &[u32],
+    terms: &mut [u32],
+)
+    requires { ⌜ (check prime (now sheet) ≡ good (readSheet (now sheet))) × ToPlaceRoots (isInteraction family) n (now headers) (now pool) (now terms) (rootsOf family (readSheet (now sheet))) ⌝ }
+    ensures { λ _. ⌜ Places (isInteraction family) n (now (pool .entry)) (now (headers .entry)) (now (terms .entry)) (now (headers .exit)) (now (terms .exit)) (items (listOf (now (pool .entry))) (rootsOf family (readSheet (now (sheet .entry))))) ⌝ }
+{
+    match family {
+        Family::Constraints => {
+            let at = records::constraints_at(sheet);
+            let count = records::num_constraints(sheet);
+            place_constraints(sheet, at, count, headers, n, pool, terms);
+        }
+        Family::Counts => {
+            let at = records::interactions_at(sheet);
+            let count = records::num_interactions(sheet);
+            place_counts(sheet, at, count, headers, n, pool, terms);
+        }
+        Family::Fields => {
+            let at = records::interactions_at(sheet);
+            let count = records::num_interactions(sheet);
+            place_fields(sheet, at, count, headers, n, pool, terms);
+        }
     }
 }

@@ -5,11 +5,12 @@ ghost use Prim.Native.Nat.{_*_, _≤_};
 ghost use lib.ListN.{length};
 ghost use Rattle.semantics.specs.Check.{readSheet};
 ghost use Rattle.semantics.specs.Group.{constraintRoots, countRoots, fieldRoots, constraintTerm, interactionTerm};
-ghost use Rattle.group.specs.Grouped.{tallied, total, Rows, column, sum, widthOf, Placing, varsIn, headersOf};
-ghost use Rattle.grouping.specs.Families.{Measured, Front, Grouping, Laid, groupsOf};
+ghost use Rattle.group.specs.Grouped.{tallied, total, Rows, column, sum, termOf, widthOf, Placing, varsIn, headersOf};
+ghost use Rattle.grouping.specs.Families.{rootsOf, isInteraction, Measured, Front, Grouping, Laid, groupsOf};
 
 pub mod families;
 
+use families::Family;
 use group::Tallied;
 use group::place;
 use group::totals;
@@ -65,6 +66,34 @@ fn finish_groups(headers: &mut [u32], n: usize, pool: &[u32], variables: &mut [u
     totals::fill_offsets(headers, n);
 }
 
+// A family of a checked sheet.
+fn group_family(
+    sheet: &[u32],
+    pool: &[u32],
+    family: Family,
+    headers: &mut [u32],
+    variables: &mut [u32],
+    terms: &mut [u32],
+) -> Grouped
+    requires { ⌜ Grouping (now sheet) (now pool) (rootsOf family (readSheet (now sheet))) ⌝ }
+    ensures { λ r. ⌜ Laid (termOf (isInteraction family)) (groupsOf (now (sheet .entry)) (rootsOf family (readSheet (now (sheet .entry))))) (now (headers .exit)) (now (variables .exit)) (now (terms .exit)) r ⌝ }
+{
+    slices::zero_all(headers);
+    let counted = families::tally_family(sheet, family, headers, pool);
+    let Tallied::Headers(n) = counted else {
+        return Grouped::Short(1);
+    };
+    let width = families::width_of(family);
+    let fit = room_for(headers, n, width, variables.len(), terms.len());
+    let Grouped::Written(lengths) = fit else {
+        return fit;
+    };
+    start_groups(headers, n, pool, terms);
+    families::place_family(sheet, family, headers, n, pool, terms);
+    finish_groups(headers, n, pool, variables);
+    Grouped::Written(lengths)
+}
+
 // The constraints of a checked sheet.
 pub fn group_constraints(
     sheet: &[u32],
@@ -76,21 +105,7 @@ pub fn group_constraints(
     requires { ⌜ Grouping (now sheet) (now pool) (constraintRoots (readSheet (now sheet))) ⌝ }
     ensures { λ r. ⌜ Laid constraintTerm (groupsOf (now (sheet .entry)) (constraintRoots (readSheet (now (sheet .entry))))) (now (headers .exit)) (now (variables .exit)) (now (terms .exit)) r ⌝ }
 {
-    slices::zero_all(headers);
-    let at = records::constraints_at(sheet);
-    let count = records::num_constraints(sheet);
-    let counted = families::tally_names(sheet, at, count, headers, 0, pool);
-    let Tallied::Headers(n) = counted else {
-        return Grouped::Short(1);
-    };
-    let fit = room_for(headers, n, 2, variables.len(), terms.len());
-    let Grouped::Written(lengths) = fit else {
-        return fit;
-    };
-    start_groups(headers, n, pool, terms);
-    families::place_constraints(sheet, at, count, headers, n, pool, terms);
-    finish_groups(headers, n, pool, variables);
-    Grouped::Written(lengths)
+    group_family(sheet, pool, Family::Constraints, headers, variables, terms)
 }
 
 // The counts of a checked sheet's interactions.
@@ -104,21 +119,7 @@ pub fn group_counts(
     requires { ⌜ Grouping (now sheet) (now pool) (countRoots (readSheet (now sheet))) ⌝ }
     ensures { λ r. ⌜ Laid interactionTerm (groupsOf (now (sheet .entry)) (countRoots (readSheet (now (sheet .entry))))) (now (headers .exit)) (now (variables .exit)) (now (terms .exit)) r ⌝ }
 {
-    slices::zero_all(headers);
-    let at = records::interactions_at(sheet);
-    let count = records::num_interactions(sheet);
-    let counted = families::tally_counts(sheet, at, count, headers, 0, pool);
-    let Tallied::Headers(n) = counted else {
-        return Grouped::Short(1);
-    };
-    let fit = room_for(headers, n, 3, variables.len(), terms.len());
-    let Grouped::Written(lengths) = fit else {
-        return fit;
-    };
-    start_groups(headers, n, pool, terms);
-    families::place_counts(sheet, at, count, headers, n, pool, terms);
-    finish_groups(headers, n, pool, variables);
-    Grouped::Written(lengths)
+    group_family(sheet, pool, Family::Counts, headers, variables, terms)
 }
 
 // The fields of a checked sheet's interactions.
@@ -132,19 +133,5 @@ pub fn group_fields(
     requires { ⌜ Grouping (now sheet) (now pool) (fieldRoots (readSheet (now sheet))) ⌝ }
     ensures { λ r. ⌜ Laid interactionTerm (groupsOf (now (sheet .entry)) (fieldRoots (readSheet (now (sheet .entry))))) (now (headers .exit)) (now (variables .exit)) (now (terms .exit)) r ⌝ }
 {
-    slices::zero_all(headers);
-    let at = records::interactions_at(sheet);
-    let count = records::num_interactions(sheet);
-    let counted = families::tally_fields(sheet, at, count, headers, 0, pool);
-    let Tallied::Headers(n) = counted else {
-        return Grouped::Short(1);
-    };
-    let fit = room_for(headers, n, 3, variables.len(), terms.len());
-    let Grouped::Written(lengths) = fit else {
-        return fit;
-    };
-    start_groups(headers, n, pool, terms);
-    families::place_fields(sheet, at, count, headers, n, pool, terms);
-    finish_groups(headers, n, pool, variables);
-    Grouped::Written(lengths)
+    group_family(sheet, pool, Family::Fields, headers, variables, terms)
 }
