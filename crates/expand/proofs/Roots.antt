@@ -13,10 +13,11 @@ use Rattle.semantics.specs.Expand.{expandAll}
 use Rattle.semantics.proofs.Members.{not-in, Below, cons-below, append-below}
 use Rattle.sheet.specs.declared.Refusal.{Refusal}
 use Rattle.records.specs.declared.Interaction.{Interaction}
-use Rattle.records.specs.Access.{recordsOf, part, messageLength, interactionFrom, eachWords, countAt, fieldsAt, NamesInside, RootsInside, AllRootsInside}
+use Rattle.records.specs.Access.{recordsOf, part, messageLength, interactionFrom, eachWords, NamesInside, RootsInside, AllRootsInside}
 use Rattle.records.specs.Orders.{Visiting}
 use Rattle.records.proofs.Parts.{part-more}
-use Rattle.records.proofs.Rooting.{fold-append, order-none, order-walk, visiting-none, visiting-both, visiting-one, names-below, count-inside, message-inside, Passed, passed-none, passed-done, passed-next, passed-more}
+use Rattle.records.proofs.Rooting.{fold-append, order-none, order-walk, visiting-none, visiting-both, visiting-one, names-below, Passed, passed-none, passed-done, passed-next, passed-more}
+use Rattle.records.proofs.Takings.{Taken, taken-words, taken-names}
 use Rattle.expand.specs.declared.Expanded.{Expanded}
 use Rattle.expand.specs.declared.Expanded.the-variants.{Used, Refused}
 use Rattle.expand.specs.Walking.{Holds, Expands, Walking, Ready}
@@ -127,18 +128,6 @@ module _ {ws : List ℕ} {at count : ℕ} {work₀ pool₀ : List ℕ} {used₀ 
             ∙ ap (λ (xs : List ℕ). xs ++ rest) more
             ∙ append-assoc (part at j ws) (r ∷ []) rest)
 
--- What is taken of an interaction: so many words of it from a place on, which name records.
-pub record Taken (one : ℕ → List ℕ) (ws : List ℕ) (place size : Interaction → ℕ) : Type 0 where
-  pub words : (at : ℕ) → let x = interactionFrom at (messageLength ws at) in one at ≡ part (place x) (size x) ws
-  pub inside : (at : ℕ) → RootsInside (length (recordsOf ws)) ws at → let x = interactionFrom at (messageLength ws at) in NamesInside ws (place x) (size x)
-
--- The count, and the fields.
-pub count-taken : (ws : List ℕ) → Taken (countAt ws) ws (λ (x : Interaction). x .count) (λ (x : Interaction). 1)
-count-taken ws = record { words = λ at. refl; inside = λ at h. count-inside ws at h }
-
-pub fields-taken : (ws : List ℕ) → Taken (fieldsAt ws) ws (λ (x : Interaction). x .fields) (λ (x : Interaction). x .message)
-fields-taken ws = record { words = λ at. refl; inside = λ at h. message-inside ws at h (messageLength ws at) refl }
-
 -- What `one` takes of each interaction from `at` on; i of them are passed.
 pub record Passing (one : ℕ → List ℕ) (ws : List ℕ) (at count : ℕ) (work₀ pool₀ : List ℕ) (used₀ : ℕ) (work pool : List ℕ) (used from i : ℕ) : Type 0 where
   pub roots : List ℕ
@@ -163,19 +152,16 @@ module _ {one : ℕ → List ℕ} {ws : List ℕ} {at count : ℕ} {work₀ pool
       -- One more interaction.
       module _ {place size : Interaction → ℕ} (t : Taken one ws place size) {x : Interaction} (e : x ≡ interactionFrom from (messageLength ws from)) where
         pub names-next : NamesInside ws (place x) (size x)
-        names-next = subst (λ (y : Interaction). NamesInside ws (place y) (size y)) (sym e) (t .inside from next-inside)
-
-        words-next : part (place x) (size x) ws ≡ one from
-        words-next = ap (λ (y : Interaction). part (place y) (size y) ws) e ∙ sym (t .words from)
+        names-next = taken-names t e next-inside
 
         module _ (work₁ pool₁ : List ℕ) (u : Expanded) (f : Roots ws (part (place x) (size x) ws) pool used pool₁ u) where
           next : Roots ws (one from) pool used pool₁ u
-          next = subst (λ (xs : List ℕ). Roots ws xs pool used pool₁ u) words-next f
+          next = subst (λ (xs : List ℕ). Roots ws xs pool used pool₁ u) (taken-words t e) f
 
           pub passing-more : length work₁ ≡ length work → length pool₁ ≡ length pool → {n : ℕ} → u ≡ Used n
               → Passing one ws at count work₀ pool₀ used₀ work₁ pool₁ n (x .next) (i + 1)
           passing-more lw lp {n} g =
-              let b = subst (Below (length (recordsOf ws))) words-next (names-below ws (place x) (size x) names-next) in record {
+              let b = subst (Below (length (recordsOf ws))) (taken-words t e) (names-below ws (place x) (size x) names-next) in record {
                 roots = h .roots ++ one from;
                 passed = passed-more one ws at count from i (h .roots) (h .passed) l b (x .next) (ap (λ (y : Interaction). y .next) e);
                 far = far-more ws work₀ pool₀ used₀ p (h .roots) work pool used (h .far) (one from) work₁ pool₁ u next b lw lp n g;

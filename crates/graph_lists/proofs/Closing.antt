@@ -20,7 +20,8 @@ use Rattle.semantics.proofs.Encoding.{records-length, sheet-length, check-insid
 use Rattle.semantics.proofs.GraphSheets.{graph-shorter}
 use Rattle.nodes.specs.Memory.{tabulate, nodesOut}
 use Rattle.nodes.proofs.Marks.{tabulate-length, tabulate-from, tabulate-same}
-use Rattle.graph_lists.specs.Lists.{put, flagged, marksOf, plainWord, plainBelow, chosen, flaggedAmong}
+use Rattle.slices.specs.Putting.{put}
+use Rattle.graph_lists.specs.Lists.{flagged, marksOf, plainWord, plainBelow, chosen, flaggedAmong}
 use Rattle.graph_lists.proofs.Flags.{ascending, ascending-sorts, table-of}
 use Rattle.graph_lists.proofs.Sweeps.{put-padded}
 

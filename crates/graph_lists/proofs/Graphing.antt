@@ -23,8 +23,9 @@ use Rattle.records.proofs.Reading.{roots, counts-small, constraints-are, intera
 use Rattle.nodes.specs.Memory.{tabulate, mark, nodesOut, builtOf}
 use Rattle.nodes.proofs.States as states
 use Rattle.nodes.proofs.Marks.{tabulate-length}
-use Rattle.graph_lists.specs.Lists.{Finishing, allAdded, graphOut, graphLength, flagged, flaggedAmong, plainBelow, marksOf, nodeNumbers, put, renamedAll, Named, NamedInteractions}
-use Rattle.graph_lists.proofs.Sweeps.{put-length}
+use Rattle.slices.specs.Putting.{put}
+use Rattle.graph_lists.specs.Lists.{Finishing, allAdded, graphOut, graphLength, flagged, flaggedAmong, plainBelow, marksOf, nodeNumbers, renamedAll, Named, NamedInteractions}
+use Rattle.slices.proofs.Puts.{put-length}
 use Rattle.graph_lists.proofs.Renaming.{map-same, renamed-are, named-are}
 use Rattle.graph_lists.proofs.Closing.{plain-again, flagged-are, graph-words, graph-fits}
 

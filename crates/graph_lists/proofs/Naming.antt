@@ -9,8 +9,10 @@ use lib.Seq.{sets}
 use Rattle.records.specs.declared.Interaction.{Interaction}
 use Rattle.records.specs.Access.{part, messageLength, interactionFrom, eachWords}
 use Rattle.records.proofs.Parts.{part-more, part-length}
-use Rattle.graph_lists.specs.Lists.{put, nodeNumbers, marksOf, Named, NamedInteraction, NamedInteractions, renamedWords, renamedAll}
-use Rattle.graph_lists.proofs.Sweeps.{put-none, put-length, put-put, put-one, put-sets, put-next, set-next}
+use Rattle.slices.specs.Putting.{put}
+use Rattle.graph_lists.specs.Lists.{nodeNumbers, marksOf, Named, NamedInteraction, NamedInteractions, renamedWords, renamedAll}
+use Rattle.slices.proofs.Puts.{put-none, put-length, put-put, put-one}
+use Rattle.graph_lists.proofs.Sweeps.{put-sets, put-next, set-next}
 
 numbers-length : (ws : List ℕ) (at j : ℕ) (f : ℕ → ℕ) → at + j ≤ length ws → length (nodeNumbers f (part at j ws)) ≡ j
 numbers-length ws at j f h = length-map (part at j ws) (λ (x : ℕ). pred (f x)) ∙ part-length ws at j h

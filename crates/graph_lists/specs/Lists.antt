@@ -36,10 +36,6 @@ pub record Named (ws : List ℕ) (at count : ℕ) (scratch : List ℕ) : Type 0 
   pub named : (j : ℕ) → j < count
       → (getD ws (at + j) 0 < length scratch) × (0 < marksOf scratch (getD ws (at + j) 0)) × (marksOf scratch (getD ws (at + j) 0) ≤ length scratch)
 
--- Some words put at a place.
-abbrev pub put : List ℕ → ℕ → List ℕ → List ℕ
-put out at xs = take at out ++ (xs ++ drop (at + length xs) out)
-
 -- A word without its flag, and scratch with the flags of the first entries taken off.
 unfoldable pub plainWord : ℕ → ℕ
 plainWord w = cond (leb 65536 w) (w - 65536) w

@@ -6,7 +6,8 @@ ghost use lib.ListN.{length, getD, set};
 ghost use Rattle.semantics.specs.Check.{readSheet};
 ghost use Rattle.records.specs.Access.{constraintsAt, part, messageLength};
 ghost use Rattle.nodes.specs.Memory.{tabulate};
-ghost use Rattle.graph_lists.specs.Lists.{flagWord, plainWord, plainBelow, flagged, flaggedAmong, chosen, Wanted, put, nodeNumbers, marksOf, Named, NamedInteraction, NamedInteractions, renamedWords, renamedAll, Finishing, graphOut, graphLength};
+ghost use Rattle.slices.specs.Putting.{put};
+ghost use Rattle.graph_lists.specs.Lists.{flagWord, plainWord, plainBelow, flagged, flaggedAmong, chosen, Wanted, nodeNumbers, marksOf, Named, NamedInteraction, NamedInteractions, renamedWords, renamedAll, Finishing, graphOut, graphLength};
 
 // Above every mark: a mark is a node's number counted from 1.
 const FLAG: u32 = 65536;

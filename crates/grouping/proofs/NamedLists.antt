@@ -7,8 +7,8 @@ use lib.ListN.{length, getD, take, drop, length-append}
 use lib.Seq.{drop-cons}
 use Rattle.semantics.proofs.Sorting.{All}
 use Rattle.records.specs.declared.Interaction.{Interaction}
-use Rattle.records.specs.Access.{recordsOf, part, messageLength, eachWords, countAt, fieldsAt, NamesInside, RootsInside, AllRootsInside}
-use Rattle.records.proofs.Rooting.{count-inside, message-inside}
+use Rattle.records.specs.Access.{recordsOf, part, eachWords, RootsInside, AllRootsInside}
+use Rattle.records.proofs.Takings.{Taken, taken-words, taken-names}
 use Rattle.group.specs.declared.Tallied.{Tallied}
 use Rattle.group.specs.declared.Tallied.the-variants.{Headers, Full}
 use Rattle.group.specs.Grouped.{tallyAll, total, tallied, Rows, Counted, nonZero, listOf, InPool, Rooted, varsNamed}
@@ -83,25 +83,6 @@ each-first one ws at count = let b : count - 0 ≡ count = omega arith in ap (ea
 pub each-end : (one : ℕ → List ℕ) (ws : List ℕ) (from count i : ℕ) → count ≤ i → eachWords one ws from (count - i) ≡ []
 unfolding eachWords
 each-end one ws from count i h = let z : count - i ≡ 0 = omega arith in ap (eachWords one ws from) z
-
--- What is taken of an interaction: so many words of it from a place on, which name records.
-pub record Taken (one : ℕ → List ℕ) (ws : List ℕ) (place size : Interaction → ℕ) : Type 0 where
-  pub words : (at : ℕ) → let x = interactionIn ws at in one at ≡ part (place x) (size x) ws
-  pub inside : (at : ℕ) → RootsInside (length (recordsOf ws)) ws at → let x = interactionIn ws at in NamesInside ws (place x) (size x)
-
--- The count, and the fields.
-pub count-taken : (ws : List ℕ) → Taken (countAt ws) ws (λ (x : Interaction). x .count) (λ (x : Interaction). 1)
-count-taken ws = record { words = λ at. refl; inside = λ at h. count-inside ws at h }
-
-pub fields-taken : (ws : List ℕ) → Taken (fieldsAt ws) ws (λ (x : Interaction). x .fields) (λ (x : Interaction). x .message)
-fields-taken ws = record { words = λ at. refl; inside = λ at h. message-inside ws at h (messageLength ws at) refl }
-
-module _ {one : ℕ → List ℕ} {ws : List ℕ} {place size : Interaction → ℕ} (t : Taken one ws place size) {from : ℕ} {x : Interaction} (e : x ≡ interactionIn ws from) where
-  pub taken-words : part (place x) (size x) ws ≡ one from
-  taken-words = ap (λ (y : Interaction). part (place y) (size y) ws) e ∙ sym (t .words from)
-
-  pub taken-inside : RootsInside (length (recordsOf ws)) ws from → place x + size x ≤ length ws
-  taken-inside h = subst (λ (y : Interaction). place y + size y ≤ length ws) (sym e) (t .inside from h .inside)
 
 module _ (P : List ℕ) where
   pub vars-append : (xs ys : List ℕ) → varsNamed P (xs ++ ys) ≡ varsNamed P xs ++ varsNamed P ys
@@ -235,7 +216,7 @@ module _ {one : ℕ → List ℕ} {ws : List ℕ} {at count : ℕ} {H₀ : List 
     next-each = each-next one ws from count i (x .next) h (ap (λ (y : Interaction). y .next) e) ∙ ap (λ (l : List ℕ). l ++ behind) (sym (taken-words t e))
 
     pub each-ready : (place x + size x ≤ length ws) × ToTally rows H P (part (place x) (size x) ws)
-    each-ready = (taken-inside t e (rest-next (g .rest) h), names-next (g .left) (part (place x) (size x) ws) behind next-each)
+    each-ready = (taken-names t e (rest-next (g .rest) h) .inside, names-next (g .left) (part (place x) (size x) ws) behind next-each)
 
     module _ (H′ : List ℕ) (u : Tallied) (c : Counted H′ P (tallyAll (varsNamed P (part (place x) (size x) ws)) (tallied rows H P)) u) where
       pub each-more : length H′ ≡ length H → {k : ℕ} → u ≡ Headers k → EachAt one ws at count H₀ n P H′ k (x .next) (i + 1)

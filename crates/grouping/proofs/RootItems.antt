@@ -26,7 +26,8 @@ use Rattle.group.proofs.Tallies.{varsOf}
 use Rattle.group.proofs.Placements.{room-front}
 use Rattle.group.proofs.PoolLists.{items-vars}
 use Rattle.grouping.proofs.Finished.{items-label}
-use Rattle.grouping.proofs.NamedLists.{all-front, all-back, part-next, part-first, part-one, part-end, Rest, rest-start, rest-next, rest-more, Taken, count-taken, fields-taken, taken-words, taken-inside}
+use Rattle.grouping.proofs.NamedLists.{all-front, all-back, part-next, part-first, part-one, part-end, Rest, rest-start, rest-next, rest-more}
+use Rattle.records.proofs.Takings.{Taken, count-taken, fields-taken, taken-words, taken-names}
 
 module _ (list : ℕ → List Monomial) where
   pub items-append : (rs ss : List Root) → items list (rs ++ ss) ≡ items list rs ++ items list ss
@@ -230,7 +231,7 @@ module _ {one : ℕ → ℕ → List Root} {b : Bool} {ws : List ℕ} {at count 
         ∙ (λ z. now-is z ++ eachRoots one ws (sym (add-one i) z) (sym (ap (λ (y : places.Interaction). y .next) e) z) (count - (i + 1)))
 
     pub each-roots-ready : (place x + size x ≤ length ws) × ToPlaceRoots b n H P T now
-    each-roots-ready = (taken-inside (t .taken) e (rest-next (g .rest) h), roots-next (g .left) now behind next-each)
+    each-roots-ready = (taken-names (t .taken) e (rest-next (g .rest) h) .inside, roots-next (g .left) now behind next-each)
 
     pub each-roots-more : {H′ T′ : List ℕ} → length H′ ≡ length H → length T′ ≡ length T → Places b n P H T H′ T′ (items (listOf P) now)
         → EachRoots one b ws at count n P H₀ T₀ H′ T′ (x .next) (i + 1)

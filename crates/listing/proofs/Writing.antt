@@ -3,48 +3,24 @@ use mathlib.Core.Path.{_≡_, refl, sym, ap, _∙_}
 use mathlib.Core.List.{List, [], _∷_, _++_, append-assoc, append-nil}
 use Prim.Native.Nat.{ℕ, _+_, _≤_, _<_}
 use native.Mathlib.Omega.{arith}
-use native.Mathlib.Nat.{add-zero}
 use native.Mathlib.Numerals.{add-one}
-use lib.ListN.{length, getD, set, take, drop, length-append, length-take, length-drop, take-append-drop}
-use lib.Seq.{set-split, take-at, drop-at, drop-drop, take-suc}
-use Rattle.listing.specs.Putting.{put, Room, Puts}
-
-put-put : (out : List ℕ) (at : ℕ) (xs ys : List ℕ) → at + length xs + length ys ≤ length out
-    → put (put out at xs) (at + length xs) ys ≡ put out at (xs ++ ys)
-put-put out at xs ys h =
-    let P : List ℕ = take at out ++ xs in
-    let Q : List ℕ = drop (at + length xs) out in
-    let l : length P ≡ at + length xs = simp (length-append, length-take) (omega arith) in
-    let w : put out at xs ≡ P ++ Q = sym (append-assoc (take at out) xs Q) in
-    ap (λ (u : List ℕ). put u (at + length xs) ys) w
-    ∙ (λ i. take-at P Q (at + length xs) l i ++ (ys ++ skip i))
-    ∙ append-assoc (take at out) xs (ys ++ drop (at + length (xs ++ ys)) out)
-    ∙ ap (λ (r : List ℕ). take at out ++ r) (sym (append-assoc xs ys (drop (at + length (xs ++ ys)) out)))
-  where
-    more : at + length xs + length ys ≡ at + length (xs ++ ys)
-    more = simp length-append (omega arith)
-
-    skip : drop (at + length xs + length ys) (take at out ++ xs ++ drop (at + length xs) out) ≡ drop (at + length (xs ++ ys)) out
-    skip =
-        sym (drop-drop (length ys) (at + length xs) (take at out ++ xs ++ drop (at + length xs) out))
-        ∙ ap (drop (length ys)) (drop-at (take at out ++ xs) (drop (at + length xs) out) (at + length xs) (simp (length-append, length-take) (omega arith)))
-        ∙ drop-drop (length ys) (at + length xs) out
-        ∙ ap (λ (k : ℕ). drop k out) more
-
-pub put-length : (out : List ℕ) (at : ℕ) (xs : List ℕ) → Room out at xs → length (put out at xs) ≡ length out
-put-length out at xs h = simp (length-append, length-take, length-drop) (omega arith)
+use lib.ListN.{length, getD, set, take, length-append, length-take}
+use lib.Seq.{take-suc}
+use Rattle.slices.specs.Putting.{put}
+use Rattle.slices.proofs.Puts.{put-none, put-length, put-put, put-one}
+use Rattle.listing.specs.Putting.{Room, Puts}
 
 -- Nothing is put.
 pub puts-none : (out : List ℕ) (at : ℕ) → Puts out at [] out at
 puts-none out at = record {
-  out-is = sym (ap (λ (k : ℕ). take at out ++ drop k out) (add-zero at) ∙ take-append-drop at out);
+  out-is = sym (put-none out at);
   next-is = omega arith;
 }
 
 -- One byte.
 pub puts-one : (out : List ℕ) (at x : ℕ) → Room out at (x ∷ []) → Puts out at (x ∷ []) (set out at x) (at + 1)
 puts-one out at x h = record {
-  out-is = set-split out at x (omega arith) ∙ ap (λ (k : ℕ). take at out ++ (x ∷ drop k out)) (sym (add-one at));
+  out-is = put-one out at x (omega arith);
   next-is = omega arith;
 }
 

@@ -1,14 +1,11 @@
 -- Bytes written to a slice from a place on.
 use mathlib.Core.Path.{_≡_}
-use mathlib.Core.List.{List, _++_}
+use mathlib.Core.List.{List}
 use Prim.Native.Nat.{ℕ, _+_, _≤_}
-use lib.ListN.{length, take, drop}
+use lib.ListN.{length}
+use Rattle.slices.specs.Putting.{put}
 
--- Some bytes put at a place.
-abbrev pub put : List ℕ → ℕ → List ℕ → List ℕ
-put out at xs = take at out ++ (xs ++ drop (at + length xs) out)
-
--- There is room for them.
+-- There is room for some bytes.
 abbrev pub Room : (out : List ℕ) (at : ℕ) (xs : List ℕ) → Type 0
 Room out at xs = at + length xs ≤ length out
 

@@ -6,3 +6,4 @@ pub mod Rooting
 pub mod Interactions
 pub mod Reading
 pub mod Writing
+pub mod Takings

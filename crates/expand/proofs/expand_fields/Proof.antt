@@ -2,7 +2,8 @@ use mathlib.Core.Path.{_∙_}
 use Prim.Native.Nat.{_-_}
 use borrow.Author.Needs.{needs}
 use Rattle.records.specs.Access.{fieldsAt}
-use Rattle.expand.proofs.Roots.{fields-taken, Passing, passing-none, passing-walking, passing-done, next-inside, names-next, passing-more, passing-refused}
+use Rattle.records.proofs.Takings.{fields-taken}
+use Rattle.expand.proofs.Roots.{Passing, passing-none, passing-walking, passing-done, next-inside, names-next, passing-more, passing-refused}
 use Rattle.expand.proofs.expand_fields.Statement.{statement}
 use Rattle.expand.proofs.expand_fields.Tie as tie
 

@@ -5,8 +5,9 @@ use borrow.Author.Needs.{needs}
 use lib.ListN.{length}
 use native.Mathlib.Nat.{add-zero}
 use borrow.Author.Tests.{not-true, not-false}
-use Rattle.graph_lists.specs.Lists.{put, chosen, Wanted}
-use Rattle.graph_lists.proofs.Sweeps.{put-none, put-one}
+use Rattle.slices.specs.Putting.{put}
+use Rattle.graph_lists.specs.Lists.{chosen, Wanted}
+use Rattle.slices.proofs.Puts.{put-none, put-one}
 use Rattle.graph_lists.proofs.put_node.Statement.{statement}
 use Rattle.graph_lists.proofs.put_node.Tie as tie
 

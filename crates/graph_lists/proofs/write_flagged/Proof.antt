@@ -4,8 +4,10 @@ use native.Mathlib.Omega.{arith}
 use lib.ListN.{length}
 use Rattle.nodes.specs.Memory.{tabulate}
 use Rattle.nodes.proofs.Marks.{tabulate-length}
-use Rattle.graph_lists.specs.Lists.{put, plainBelow, flaggedAmong}
-use Rattle.graph_lists.proofs.Sweeps.{Swept, swept-none, swept-lengths, swept-wanted, swept-more, put-length}
+use Rattle.slices.specs.Putting.{put}
+use Rattle.graph_lists.specs.Lists.{plainBelow, flaggedAmong}
+use Rattle.slices.proofs.Puts.{put-length}
+use Rattle.graph_lists.proofs.Sweeps.{Swept, swept-none, swept-lengths, swept-wanted, swept-more}
 use Rattle.graph_lists.proofs.write_flagged.Statement.{statement}
 use Rattle.graph_lists.proofs.write_flagged.Tie as tie
 

@@ -4,7 +4,7 @@ use Prim.Native.Nat.{ℕ, _+_, _-_}
 use borrow.Author.Needs.{needs}
 use lib.ListN.{length}
 use Rattle.records.specs.declared.Interaction.{Interaction}
-use Rattle.graph_lists.specs.Lists.{put}
+use Rattle.slices.specs.Putting.{put}
 use Rattle.graph_lists.proofs.Naming.{Written, written-none, out-length, next-interaction, next-room, written-more, written-done}
 use Rattle.graph_lists.proofs.write_interactions.Statement.{statement}
 use Rattle.graph_lists.proofs.write_interactions.Tie as tie

@@ -5,8 +5,9 @@ use borrow.Author.Needs.{needs}
 use lib.ListN.{length, getD, length-set}
 use Prim.Native.Nat.{pred}
 use Rattle.records.specs.Access.{part}
-use Rattle.graph_lists.specs.Lists.{put, nodeNumbers, marksOf}
-use Rattle.graph_lists.proofs.Sweeps.{put-none}
+use Rattle.slices.specs.Putting.{put}
+use Rattle.graph_lists.specs.Lists.{nodeNumbers, marksOf}
+use Rattle.slices.proofs.Puts.{put-none}
 use Rattle.graph_lists.proofs.Naming.{plain-mark, node-small, naming-more}
 use Rattle.graph_lists.proofs.write_names.Statement.{statement}
 use Rattle.graph_lists.proofs.write_names.Tie as tie

@@ -2,7 +2,8 @@ use mathlib.Core.Path.{_∙_}
 use Prim.Native.Nat.{_-_}
 use borrow.Author.Needs.{needs}
 use Rattle.records.specs.Access.{countAt}
-use Rattle.grouping.proofs.NamedLists.{rest-next, count-taken, EachAt, each-start, each-done, each-ready, each-more, each-full}
+use Rattle.records.proofs.Takings.{count-taken}
+use Rattle.grouping.proofs.NamedLists.{rest-next, EachAt, each-start, each-done, each-ready, each-more, each-full}
 use Rattle.grouping.proofs.families.tally_counts.Statement.{statement}
 use Rattle.grouping.proofs.families.tally_counts.Tie as tie
 

@@ -2,7 +2,8 @@ use mathlib.Core.Path.{_∙_}
 use Prim.Native.Nat.{_-_}
 use borrow.Author.Needs.{needs}
 use Rattle.records.specs.Access.{fieldsAt}
-use Rattle.grouping.proofs.NamedLists.{rest-next, fields-taken, EachAt, each-start, each-done, each-ready, each-more, each-full}
+use Rattle.records.proofs.Takings.{fields-taken}
+use Rattle.grouping.proofs.NamedLists.{rest-next, EachAt, each-start, each-done, each-ready, each-more, each-full}
 use Rattle.grouping.proofs.families.tally_fields.Statement.{statement}
 use Rattle.grouping.proofs.families.tally_fields.Tie as tie
 
