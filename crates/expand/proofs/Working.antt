@@ -10,12 +10,12 @@ use borrow.Author.Tests.{lt-ltb, le-ltb, ltb-true, ltb-false}
 use Rattle.semantics.specs.Arithmetic.{prime}
 use Rattle.semantics.specs.Monomial.{Monomial, negMonomial, mulMonomial, products, combine}
 use Rattle.semantics.specs.Expand.{longer, workFault}
-use Rattle.semantics.proofs.Sorting.{All, all-append}
+use Rattle.semantics.proofs.Sorting.{All, all-append, all-map}
 use Rattle.semantics.proofs.Combining.{Asc}
 use Rattle.monomial.specs.Words.{held, listIn, readList, longestOf, insertAll, signed, Fits, ListFits, Summed}
 use Rattle.expand.specs.Making.{Makes}
 use Rattle.expand.specs.declared.kinds.Made.the-variants.{Held, Fault}
-use Rattle.monomial.proofs.Canons.{sum-append, sum-combine, fits-sum, asc-sum, fits-negative, all-map, fits-product, sort-length, small-of-fits}
+use Rattle.monomial.proofs.Canons.{sum-append, sum-combine, fits-sum, asc-sum, fits-negative, fits-product, sort-length, small-of-fits}
 use Rattle.monomial.proofs.ListLaws.{list-zero, list-suc}
 use Rattle.monomial.proofs.Sizes.{held-zero, longest-cons, longest-nil}
 use Rattle.monomial.proofs.Products.{products-nil, products-cons}

@@ -2,7 +2,7 @@
 -- So to sum monomials from the first to the last gives what combining gives.
 use mathlib.Core.Path.{_≡_, refl, sym, _∙_, ap}
 use mathlib.Core.Bool.{Bool, true, false, cond}
-use mathlib.Core.List.{List, [], _∷_, _++_, map}
+use mathlib.Core.List.{List, [], _∷_, _++_}
 use Prim.Native.Nat.{ℕ, suc, _+_, _≤_, _<_}
 use native.Mathlib.Omega.{arith}
 use lib.Dec.{eqb}
@@ -12,38 +12,11 @@ use Rattle.semantics.specs.Arithmetic.{prime, addM}
 use Rattle.semantics.specs.Monomial.{Monomial, beforeVars, sort, above, keep, plus, negMonomial, mulMonomial, insertMonomial, combine}
 use Rattle.semantics.proofs.Basics.{by-test}
 use Rattle.semantics.proofs.Arithmetic.{addM-lt, mulM-lt, negM-lt, addM-comm, addM-cancel, zero-addM, addM-zero, mulM-zero, mulM-one, sums}
-use Rattle.semantics.proofs.Order.{beforeVars-irrefl, beforeVars-total}
+use Rattle.semantics.proofs.Order.{beforeVars-irrefl, beforeVars-total, sameVars}
 use Rattle.semantics.proofs.Sorting.{All, Sorted, sort-same, sorted-sort}
 use Rattle.semantics.proofs.Monomials.{one, val, val-cons, val-one, val-lt}
-use Rattle.semantics.proofs.Combining.{by-order, Above, Asc, NoZero, above-trans, val-insert, val-combine, asc-insert, asc-combine, nz-insert, nz-combine}
+use Rattle.semantics.proofs.Combining.{by-order, Above, Asc, NoZero, above-trans, val-insert, val-combine, asc-insert, asc-combine, nz-insert, nz-combine, Small, all-insert, all-combine, small-plus}
 use Rattle.monomial.specs.Words.{Fits, insertAll}
-
-abbrev pub Small : ℕ → Monomial → Type 0
-Small p m = m .coef < p
-
--- What is kept by a sum of two monomials is kept by summing into a list.
-module _ (p : ℕ) (P : Monomial → Type 0) (both : (m x : Monomial) → P m → P x → P (plus p m x)) where
-  all-keep : (m : Monomial) (xs : List Monomial) → P m → All P xs → All P (keep m xs)
-  unfolding keep
-  all-keep m xs h k = by-test (All P) (eqb (m .coef) 0) (λ e. k) (λ e. (h, k))
-
-  pub all-insert : (m : Monomial) (xs : List Monomial) → P m → All P xs → All P (insertMonomial p m xs)
-  all-insert m xs h = elim xs [
-    | [] ↦ λ k. unfold insertMonomial in (all-keep m [] h k)
-    | x ∷ (t → ih) ↦ λ k. by-order (All P) p m x t
-        (λ e. all-keep m (x ∷ t) h k)
-        (λ e. (k .0, ih (k .1)))
-        (λ e. all-keep (plus p m x) t (both m x h (k .0)) (k .1))
-  ]
-
-  pub all-combine : (xs : List Monomial) → All P xs → All P (combine p xs)
-  unfolding combine
-  all-combine [] k = tt
-  all-combine (x ∷ xs) k = all-insert x (combine p xs) (k .0) (all-combine xs (k .1))
-
--- Of two variable lists, whether they are the same, by their order.
-unfoldable pub sameVars : List ℕ → List ℕ → Bool
-sameVars v u = cond (beforeVars v u) false (cond (beforeVars u v) false true)
 
 -- The weight of one variable list: `val p (onlyAt v)` is the coefficient at v.
 unfoldable pub onlyAt : List ℕ → List ℕ → ℕ
@@ -109,19 +82,15 @@ module _ (p : ℕ) (big : 1 < p) where
           let r : xs ≡ ys = ih (tail-same x y xs ys q h) in
           cc
 
-  small-plus : (m x : Monomial) → m .coef < p → x .coef < p → plus p m x .coef < p
-  unfolding plus
-  small-plus m x h k = addM-lt p big (m .coef) (x .coef)
-
   pub canon-insert : (m : Monomial) (xs : List Monomial) → m .coef < p → Canon p xs → Canon p (insertMonomial p m xs)
   canon-insert m xs h c = record {
     asc = asc-insert p m xs (c .asc);
     nz = nz-insert p m xs (c .nz);
-    small = all-insert p (Small p) small-plus m xs h (c .small);
+    small = all-insert p (Small p) (small-plus p big) m xs h (c .small);
   }
 
   pub canon-combine : (xs : List Monomial) → All (Small p) xs → Canon p (combine p xs)
-  canon-combine xs k = record { asc = asc-combine p xs; nz = nz-combine p xs; small = all-combine p (Small p) small-plus xs k }
+  canon-combine xs k = record { asc = asc-combine p xs; nz = nz-combine p xs; small = all-combine p (Small p) (small-plus p big) xs k }
 
   -- A canonical list with the coefficients of xs is what xs combines to.
   pub combine-is : (xs ys : List Monomial) → All (Small p) xs → Canon p ys → Alike p xs ys → combine p xs ≡ ys
@@ -186,10 +155,6 @@ asc-sum (m ∷ ms) acc k = asc-sum ms (insertMonomial prime m acc) (asc-insert p
 pub fits-negative : (m : Monomial) → Fits m → Fits (negMonomial prime m)
 unfolding negMonomial
 fits-negative m h = record { few = h .few; sorted = h .sorted; small = negM-lt prime prime-big (m .coef) }
-
-pub all-map : {X Y : Type 0} (P : X → Type 0) (Q : Y → Type 0) (f : X → Y) → ((x : X) → P x → Q (f x)) → (xs : List X) → All P xs → All Q (map f xs)
-all-map P Q f h [] k = tt
-all-map P Q f h (x ∷ xs) k = (h x (k .0), all-map P Q f h xs (k .1))
 
 above-asym : (x y : ℕ) → above x y ≡ true → above y x ≡ false
 unfolding above

@@ -1,15 +1,16 @@
--- Combined lists: their value, and that they ascend strictly with no coefficient 0.
-use mathlib.Core.Path.{_≡_, refl, sym, _∙_, ap, subst}
-use mathlib.Core.Bool.{Bool, true, false, cond}
-use mathlib.Core.List.{List, [], _∷_, _++_}
-use Prim.Native.Nat.{ℕ, zero, suc, _<_}
+-- Combined lists: their value, that they ascend strictly with no coefficient 0, and what they keep.
+use mathlib.Core.Path.{_≡_, refl}
+use mathlib.Core.Bool.{true}
+use mathlib.Core.List.{List, [], _∷_}
+use Prim.Native.Nat.{ℕ, _<_}
 use lib.Dec.{eqb}
 use borrow.Author.Tests.{eqb-true, eqb-false}
-use Rattle.semantics.specs.Arithmetic.{addM, mulM}
+use Rattle.semantics.specs.Arithmetic.{addM}
 use Rattle.semantics.specs.Monomial.{Monomial, beforeVars, keep, plus, insertMonomial, combine}
 use Rattle.semantics.proofs.Basics.{by-test}
-use Rattle.semantics.proofs.Arithmetic.{zero-addM, zero-mulM, addM-mulM, sums}
+use Rattle.semantics.proofs.Arithmetic.{addM-lt, zero-addM, zero-mulM, addM-mulM, sums}
 use Rattle.semantics.proofs.Order.{beforeVars-trans, beforeVars-total}
+use Rattle.semantics.proofs.Sorting.{All}
 use Rattle.semantics.proofs.Monomials.{one, val, val-cons, val-one, val-lt}
 
 -- What holds of an insertion, by the three cases of its first step.
@@ -118,3 +119,31 @@ pub nz-combine : (p : ℕ) (xs : List Monomial) → NoZero (combine p xs)
 unfolding combine
 nz-combine p [] = tt
 nz-combine p (x ∷ xs) = nz-insert p x (combine p xs) (nz-combine p xs)
+
+-- A coefficient below p.
+abbrev pub Small : ℕ → Monomial → Type 0
+Small p m = m .coef < p
+
+-- What is kept by a sum of two monomials is kept by summing into a list.
+module _ (p : ℕ) (P : Monomial → Type 0) (both : (m x : Monomial) → P m → P x → P (plus p m x)) where
+  pub all-keep : (m : Monomial) (xs : List Monomial) → P m → All P xs → All P (keep m xs)
+  unfolding keep
+  all-keep m xs h k = by-test (All P) (eqb (m .coef) 0) (λ e. k) (λ e. (h, k))
+
+  pub all-insert : (m : Monomial) (xs : List Monomial) → P m → All P xs → All P (insertMonomial p m xs)
+  all-insert m xs h = elim xs [
+    | [] ↦ λ k. unfold insertMonomial in (all-keep m [] h k)
+    | x ∷ (t → ih) ↦ λ k. by-order (All P) p m x t
+        (λ e. all-keep m (x ∷ t) h k)
+        (λ e. (k .0, ih (k .1)))
+        (λ e. all-keep (plus p m x) t (both m x h (k .0)) (k .1))
+  ]
+
+  pub all-combine : (xs : List Monomial) → All P xs → All P (combine p xs)
+  unfolding combine
+  all-combine [] k = tt
+  all-combine (x ∷ xs) k = all-insert x (combine p xs) (k .0) (all-combine xs (k .1))
+
+pub small-plus : (p : ℕ) → 1 < p → (m x : Monomial) → Small p m → Small p x → Small p (plus p m x)
+unfolding plus
+small-plus p big m x h k = addM-lt p big (m .coef) (x .coef)

@@ -1,36 +1,40 @@
 -- Demand 3, proved for every modulus above 1.
 use mathlib.Core.Path.{_≡_, refl, sym, _∙_, ap, subst}
-use mathlib.Core.Bool.{Bool, true, false}
 use mathlib.Core.List.{List, [], _∷_, _++_, map, flatMap, map-append}
-use Prim.Native.Nat.{ℕ, zero, suc, _+_, _*_, _≤_, _<_}
+use Prim.Native.Nat.{ℕ, suc, _+_, _*_, _≤_, _<_}
 use native.Mathlib.Omega.{arith}
 use lib.Dec.{lit<}
 use lib.ListN.{length, getD}
-use Rattle.semantics.specs.Answer.{Answer, good, refused, andThen}
+use Rattle.semantics.specs.Answer.{Answer, good, andThen}
 use Rattle.semantics.specs.Arithmetic.{prime}
-use Rattle.semantics.specs.Sheet.{Record, Interaction, Sheet, Inside, Each, GoodInteraction, encode, lengthOf}
+use Rattle.semantics.specs.Sheet.{Interaction, Sheet, Inside, Each, GoodInteraction, encode, lengthOf}
 use Rattle.semantics.specs.Check.{check}
-use Rattle.semantics.specs.Value.{Leaf, valueAt}
-use Rattle.semantics.specs.Walk.{order}
-use Rattle.semantics.specs.Graph.{graphOf, graphRoots, built}
+use Rattle.semantics.specs.Value.{valueAt}
+use Rattle.semantics.specs.Walk.{member, order}
+use Rattle.semantics.specs.Graph.{graphOf, graphRoots}
 use Rattle.semantics.specs.Monomial.{Monomial, listAt}
 use Rattle.semantics.specs.Expand.{expandAll}
-use Rattle.semantics.specs.Group.{Root, labelled, constraintRoots, countRoots, fieldRoots, Item, constraintTerm, interactionTerm, Listed, listed, layout}
+use Rattle.semantics.specs.Group.{Root, labelled, constraintRoots, countRoots, fieldRoots, Item, constraintTerm, interactionTerm, listed, layout}
 use Rattle.semantics.specs.Call.{Outcome, Result, Accepted, handedBack, needs, result, onSheet, builderCall, fitted, family, expansion, constraintOutputs, constraintCall, interactionOutputs, maxFieldsLen, interactionCall}
-use Rattle.semantics.specs.Demand.{Assignment, productOf, sumOf, ofConstraint, ofCount, ofField, second, first, Ascending, NonZero, noInteraction, constraintAt, interactionAt, fieldAt, listsFrom, ReachedRule, GraphRule, ConstraintRule, InteractionRule, GraphListsRule, Demand}
+use Rattle.semantics.specs.Refusals.{ofSheet, ofExpansion}
+use Rattle.semantics.specs.Demand.{Assignment, productOf, sumOf, ofConstraint, ofCount, ofField, second, first, Ascending, NonZero, noInteraction, constraintAt, interactionAt, fieldAt, listsFrom, GraphRule, ConstraintRule, InteractionRule, GraphListsRule, Demand}
 use Rattle.semantics.proofs.Members.{Mem, mem-left, mem-right, mem-here, mem-getD, Below, cons-below, append-below, flat-mem, flat-below, not-in}
 use Rattle.semantics.proofs.Orders.{order-closed, order-roots, order-below, order-reached, order-all, order-distinct}
 use Rattle.semantics.proofs.Records.{LowRecord, each-low}
 use Rattle.semantics.proofs.Encoding.{check-inside, check-encode, good-injective}
-use Rattle.semantics.proofs.GraphSheets.{named-below, InteractionFacts, interaction-facts, graph-roots, graph-inside, graph-shorter, graph-nodes, constraint-place, same-interactions, same-fields, constraint-kept, count-kept, field-kept}
+use Rattle.semantics.proofs.GraphSheets.{named-below, interaction-facts, graph-roots, graph-inside, graph-shorter, graph-nodes, constraint-place, same-interactions, same-fields, constraint-kept, count-kept, field-kept}
 use Rattle.semantics.proofs.Monomials.{val}
+use Rattle.semantics.proofs.Sorting.{All}
+use Rattle.semantics.proofs.Combining.{Small}
 use Rattle.semantics.proofs.Expansions.{walk-fine, lists-keep}
+use Rattle.semantics.proofs.RecordLists.{lists-small}
 use Rattle.semantics.proofs.Grouping.{laid, laid-ascends, laid-nonzero, constraint-wide, constraint-coef, interaction-wide, interaction-coef, constraint-sum, count-sum, field-sum}
 use Rattle.semantics.proofs.Calls.{handed-back}
-use Rattle.semantics.proofs.Acceptance.{Real, check-real, then-real, needs-real, walk-real, fitted-real, accepted-result, then-result, needs-result, fitted-result}
+use Rattle.semantics.proofs.Acceptance.{accepted-result, then-result, needs-result, fitted-result}
+use Rattle.semantics.proofs.Refusals.{builder-within, expansion-within}
 
 -- The records that roots name.
-abbrev nodes : List Root → List ℕ
+abbrev pub nodes : List Root → List ℕ
 nodes roots = map (λ (r : Root). r .node) roots
 
 labelled-nodes : {X : Type 0} (f : ℕ → X → List Root) (g : X → List ℕ) → ((n : ℕ) (x : X) → nodes (f n x) ≡ g x)
@@ -66,10 +70,10 @@ interaction-nodes s =
     map-append (λ (r : Root). r .node) (countRoots s) (fieldRoots s) ∙ (λ i. count-nodes s i ++ field-nodes s i)
 
 module _ (p : ℕ) (s : Sheet) (w : Inside p s) where
-  constraints-named : Below (length (s .records)) (nodes (constraintRoots s))
+  pub constraints-named : Below (length (s .records)) (nodes (constraintRoots s))
   constraints-named = rw (constraint-nodes s) (named-below (length (s .records)) (s .constraints) (w .constraints))
 
-  interactions-named : Below (length (s .records)) (nodes (countRoots s ++ fieldRoots s))
+  pub interactions-named : Below (length (s .records)) (nodes (countRoots s ++ fieldRoots s))
   interactions-named =
       let n : ℕ = length (s .records) in
       rw (interaction-nodes s)
@@ -118,19 +122,12 @@ module _ (p : ℕ) (ws : List ℕ) (work pool : ℕ) (lent : List ℕ) (roots : 
   answer : Answer Result
   answer = onSheet p ws (λ s. needs 14 4096 work (after-work s))
 
-  answer-real : Real answer
-  unfolding answer after-work after-pool walk onSheet
-  answer-real =
-      then-real (check p ws) _ (check-real p ws)
-      (λ s. needs-real 14 4096 work (after-work s) (omega arith)
-      (needs-real 14 (2 * length (s .records)) pool (after-pool s) (omega arith)
-      (then-real (walk s) _ (walk-real p (s .records) pool _) (λ used. fitted-real (outputs s) lent (numbers s)))))
-
   pub expanded : Accepted (expansion p ws work pool lent roots outputs numbers)
       → Expanded p ws pool roots outputs (expansion p ws work pool lent roots outputs numbers)
   unfolding expansion answer after-work after-pool walk onSheet
   expanded a =
-      let r = accepted-result (work ∷ pool ∷ []) lent answer answer-real a in
+      let within = expansion-within p ws work pool lent roots outputs numbers in
+      let r = accepted-result (work ∷ pool ∷ []) lent (ofSheet ++ ofExpansion) answer (unfold member in refl) within a in
       let c = then-result (check p ws) (λ s. needs 14 4096 work (after-work s)) (r .0) (r .1) in
       let s : Sheet = c .0 in
       let n = needs-result 14 4096 work (after-work s) (r .0) (c .2) in
@@ -167,6 +164,11 @@ unfolding listsFrom family layout
 lists-laid p width k s o term roots outputs words h v t =
     λ i. listed width ((words k ∙ h) i) ((words (suc k) ∙ v) i) ((words (suc (suc k)) ∙ t) i)
 
+-- The lists of roots have coefficients below p.
+roots-small : (p : ℕ) → 1 < p → (s : Sheet) → Inside p s → (roots : List Root) → All (λ (r : Root). All (Small p) (listAt p (s .records) (r .node))) roots
+roots-small p big s w [] = tt
+roots-small p big s w (r ∷ roots) = (lists-small p big (s .records) (w .records) (r .node), roots-small p big s w roots)
+
 module _ (p : ℕ) (big : 1 < p) where
   pub constraint-rule : (ws : List ℕ) (work pool h v t : ℕ) → Accepted (constraintCall p ws work pool h v t)
       → (s : Sheet) × (check p ws ≡ good s) × ConstraintRule p s (constraintCall p ws work pool h v t)
@@ -183,7 +185,8 @@ module _ (p : ℕ) (big : 1 < p) where
         record {
           words = e .words;
           ascending = subst Ascending (sym l) (laid-ascends constraintTerm 2 constraint-wide (listAt p (s .records)) (constraintRoots s));
-          nonZero = subst (NonZero second) (sym l) (laid-nonzero constraintTerm 2 constraint-wide second constraint-coef (listAt p (s .records)) (constraintRoots s));
+          nonZero = subst (NonZero p second) (sym l)
+              (laid-nonzero constraintTerm 2 constraint-wide second constraint-coef p (listAt p (s .records)) (constraintRoots s) (roots-small p big s w (constraintRoots s)));
           value = λ A j b. ap (sumOf p (A .at) (ofConstraint j) second) l ∙ constraint-sum p big (A .at) (listAt p (s .records)) s j b
               ∙ root-value p big s w (nodes (constraintRoots s)) (constraints-named p s w) pool (e .used) (e .walked) A (constraintAt s j) (constraint-in s j b);
         },
@@ -213,8 +216,10 @@ module _ (p : ℕ) (big : 1 < p) where
             subst Ascending (sym d) (laid-ascends interactionTerm 3 interaction-wide list (fieldRoots s)),
           );
           nonZero = (
-            subst (NonZero first) (sym n) (laid-nonzero interactionTerm 3 interaction-wide first interaction-coef list (countRoots s)),
-            subst (NonZero first) (sym d) (laid-nonzero interactionTerm 3 interaction-wide first interaction-coef list (fieldRoots s)),
+            subst (NonZero p first) (sym n)
+                (laid-nonzero interactionTerm 3 interaction-wide first interaction-coef p list (countRoots s) (roots-small p big s w (countRoots s))),
+            subst (NonZero p first) (sym d)
+                (laid-nonzero interactionTerm 3 interaction-wide first interaction-coef p list (fieldRoots s) (roots-small p big s w (fieldRoots s))),
           );
           count = λ A i b. ap (sumOf p (A .at) (ofCount i) first) n ∙ count-sum p big (A .at) list s i b ∙ value A (interactionAt s i .count) (count-in s i b);
           field = λ A i f b c. ap (sumOf p (A .at) (ofField i f) first) d ∙ field-sum p big (A .at) list s i f b c ∙ value A (fieldAt s i f) (field-in s i f b c);
@@ -231,8 +236,8 @@ module _ (p : ℕ) (big : 1 < p) where
   unfolding builderCall builder-answer onSheet result
   builder-words ws scratch out a =
       let rest : Sheet → Answer Result = λ s. needs 14 (length (s .records)) scratch (needs 15 (lengthOf s) out (result (encode (graphOf p s) ∷ []) [])) in
-      let real = then-real (check p ws) rest (check-real p ws) (λ s. needs-real 14 _ scratch _ (omega arith) (needs-real 15 _ out _ (omega arith) tt)) in
-      let r = accepted-result (scratch ∷ []) (out ∷ []) (builder-answer ws scratch out) real a in
+      let within = builder-within p ws scratch out in
+      let r = accepted-result (scratch ∷ []) (out ∷ []) (ofSheet ++ (14 ∷ 15 ∷ [])) (builder-answer ws scratch out) (unfold member in refl) within a in
       let c = then-result (check p ws) rest (r .0) (r .1) in
       let s : Sheet = c .0 in
       let n = needs-result 14 (length (s .records)) scratch _ (r .0) (c .2) in

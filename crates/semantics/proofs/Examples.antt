@@ -1,12 +1,11 @@
 -- The examples that 01 marks P, and the listing of `sheetlist`, by computation over the definitions.
 use mathlib.Core.Path.{_≡_, refl}
-use mathlib.Core.Bool.{Bool, true, false, cond}
 use mathlib.Core.List.{List, [], _∷_, _++_, flatMap}
-use Prim.Native.Nat.{ℕ, zero, suc}
-use lib.ListN.{length, getD, take, drop, replicate}
-use Rattle.semantics.specs.Answer.{Answer, good, refused, andThen}
+use Prim.Native.Nat.{ℕ, zero, suc, _+_, _-_}
+use lib.ListN.{length, replicate}
+use Rattle.semantics.specs.Answer.{andThen}
 use Rattle.semantics.specs.Arithmetic.{prime, addM, subM, mulM, negM, signedOf}
-use Rattle.semantics.specs.Sheet.{Record, Interaction, Sheet, recordOf, recordWords, interactionWords, headWords, encode, lengthOf, table, row, fits, recordTests, names, interactionTests, headTests}
+use Rattle.semantics.specs.Sheet.{Record, Sheet, recordOf, recordWords, interactionWords, headWords, encode, lengthOf, table, row, fits, recordTests, names, interactionTests, headTests}
 use Rattle.semantics.specs.Check.{scanWords, scanPart, scanParts, scanSpare, scanSheet, readRecord, readRecords, readInteraction, readInteractions, readSheet, judged, check}
 use Rattle.semantics.specs.Block.{wordBytes, wordAt, wordsOf, total, checkWord, blockGood, badLength, readBlocks, blockBytes, firstWords, writeBlocks, blocksFor}
 use Rattle.semantics.specs.Packing.{packed, packFault, leafTests, packRecord, pack}
@@ -16,7 +15,7 @@ use Rattle.semantics.specs.Graph.{ifConstants, isConst, ifNeg, addRule, 
 use Rattle.semantics.specs.Monomial.{before, beforeVars, insertSorted, sort, above, negMonomial, mulMonomial, products, keep, plus, insertMonomial, combine, working, finished, recordList, lists, listAt}
 use Rattle.semantics.specs.Expand.{longer, workFault, listSize, recordFault, expandRecord, expandAll}
 use Rattle.semantics.specs.Group.{labelled, constraintRoots, countRoots, fieldRoots, itemsOf, items, key, later, push, split, groups, constraintTerm, interactionTerm, headers, variables, terms, layout, rows, listedAt, listed}
-use Rattle.semantics.specs.Call.{Reply, Outcome, zeros, padded, paddedAll, outcome, handedBack, needs, result, readerCall, onSheet, writerCall, builderCall, maxRotationCall, firstShort, fitted, family, expansion, constraintOutputs, constraintCall, interactionOutputs, maxFieldsLen, interactionCall}
+use Rattle.semantics.specs.Call.{Outcome, zeros, padded, paddedAll, outcome, handedBack, needs, result, packCall, readerCall, onSheet, writerCall, builderCall, maxRotationCall, firstShort, fitted, family, expansion, constraintOutputs, constraintCall, interactionOutputs, maxFieldsLen, interactionCall}
 use Rattle.semantics.specs.Sheetlist.{digits, decimal, hexDigit, hexDigits, integer, signed, line, tLine, uLine, wLine, headerLines, step, interactionLines, constraintLines, graphLines, sheetLines, sheetlist}
 
 -- v and w: main, part 0, offset 0, columns 0 and 1.
@@ -27,72 +26,94 @@ abbrev w : Record
 w = recordOf 1 1 0 0 1
 
 -- The names below open all that they stand on, so that the list of examples names them alone.
-packs : Record → Answer ℕ
-unfolding pack andThen judged scanWords leafTests recordWords fits row table packRecord packed packFault
-packs r = pack r
+packs : Record → Outcome
+unfolding packCall outcome result pack andThen judged scanWords leafTests recordWords fits row table packRecord packed packFault
+packs r = packCall r
+
+-- Number 0 with these numbers, or a refusal; nothing is lent for writing.
+answers : List ℕ → Outcome
+answers ns = record { reply = record { number = 0; place = 0; counts = []; numbers = ns }; slices = [] }
+
+refuses : (number place : ℕ) → Outcome
+refuses number place = record { reply = record { number = number; place = place; counts = []; numbers = [] }; slices = [] }
 
 sheetOf : List Record → List ℕ → Sheet
 sheetOf rs cs = record { records = rs; constraints = cs; interactions = [] }
 
--- The words that the builder hands back, with as much room as it asks for.
-graph : Sheet → List ℕ
-unfolding sheetOf handedBack builderCall outcome onSheet needs result andThen zeros padded paddedAll check judged scanSheet scanWords scanPart scanParts scanSpare recordTests interactionTests headTests names fits row table readSheet readRecords readRecord readInteractions readInteraction encode headWords recordWords interactionWords lengthOf flatMap graphOf built build addRecord takeIn pick nodeFor setNum intern find equalRecords addRule subRule negRule mulRule ifConstants isConst ifNeg graphRoots insertOnce sortedOnce renamed order visit foldLeft member children childrenAt recordAt nodeOf leafOf addM subM mulM negM
-graph s = handedBack 1 (builderCall prime (encode s) (length (s .records)) (lengthOf s)) 0
+-- The builder, lent what it asks for and three words more each.
+builds : List Record → List ℕ → Outcome
+unfolding sheetOf builderCall outcome onSheet needs result andThen zeros padded paddedAll check judged scanSheet scanWords scanPart scanParts scanSpare recordTests interactionTests headTests names fits row table readSheet readRecords readRecord readInteractions readInteraction encode headWords recordWords interactionWords lengthOf flatMap graphOf built build addRecord takeIn pick nodeFor setNum intern find equalRecords addRule subRule negRule mulRule ifConstants isConst ifNeg graphRoots insertOnce sortedOnce renamed order visit foldLeft member children childrenAt recordAt nodeOf leafOf addM subM mulM negM
+builds rs cs = builderCall prime (encode (sheetOf rs cs)) (length rs + 3) (lengthOf (sheetOf rs cs) + 3)
 
--- The nodes of a graph, and its constraints, as the words of the sheet that has them.
+-- Nodes and constraints as the words of the sheet that has them.
 words : List Record → List ℕ → List ℕ
-unfolding graph
+unfolding builds
 words rs cs = encode (sheetOf rs cs)
 
--- The slices of the constraint call on a graph: headers, variables, terms.
-slices : List ℕ → List (List ℕ)
-unfolding graph constraintCall expansion expandAll expandRecord recordFault workFault longer listSize packFault fitted firstShort constraintOutputs family layout groups split push sort insertSorted later key items itemsOf labelled constraintRoots constraintTerm headers variables terms listAt lists fill recordList finished working combine insertMonomial keep plus products mulMonomial negMonomial above before beforeVars packed
-slices g =
-    let o : Outcome = constraintCall prime g 4096 1000 100 100 100 in
-    handedBack 2 o 0 ∷ handedBack 2 o 1 ∷ handedBack 2 o 2 ∷ []
+-- Number 0 and the count of words; scratch of so many words is zero; the words, and so many zeros behind them.
+graph : (scratch : ℕ) (ws : List ℕ) (behind : ℕ) → Outcome
+graph scratch ws behind = record {
+  reply = record { number = 0; place = 0; counts = length ws ∷ []; numbers = [] };
+  slices = replicate scratch 0 ∷ (ws ++ replicate behind 0) ∷ [];
+}
 
-none : List (List ℕ)
-none = [] ∷ [] ∷ [] ∷ []
+-- The constraint call on some words, lent a pool of 60 words and outputs of 8.
+expands : List ℕ → Outcome
+unfolding builds constraintCall expansion expandAll expandRecord recordFault workFault longer listSize packFault fitted firstShort constraintOutputs family layout groups split push sort insertSorted later key items itemsOf labelled constraintRoots constraintTerm headers variables terms listAt lists fill recordList finished working combine insertMonomial keep plus products mulMonomial negMonomial above before beforeVars packed
+expands ws = constraintCall prime ws 4096 60 8 8 8
+
+-- Number 0 and the three counts; work and pool are zero; headers, variables and terms, with zeros behind them.
+expanded : (hs vs ts : List ℕ) → Outcome
+expanded hs vs ts = record {
+  reply = record { number = 0; place = 0; counts = length hs ∷ length vs ∷ length ts ∷ []; numbers = [] };
+  slices =
+      replicate 4096 0 ∷ replicate 60 0 ∷ (hs ++ replicate (8 - length hs) 0) ∷ (vs ++ replicate (8 - length vs) 0) ∷ (ts ++ replicate (8 - length ts) 0) ∷ [];
+}
+
+constZero : Record
+constZero = recordOf 5 0 0 0 0
 
 examples :
     -- "v packs to hex 00000001; part 255, offset 15, column 65,535 to fffffff1; public column 3 to 00030003"
-    (packs v ≡ good 1)
-    × (packs (recordOf 1 1 255 15 65535) ≡ good 0xfffffff1)
-    × (packs (recordOf 1 3 0 0 3) ≡ good 0x00030003)
+    (packs v ≡ answers (1 ∷ []))
+    × (packs (recordOf 1 1 255 15 65535) ≡ answers (0xfffffff1 ∷ []))
+    × (packs (recordOf 1 3 0 0 3) ≡ answers (0x00030003 ∷ []))
     -- "offset 16 gives 11, part 256 gives 10, column 65,536 gives 8, a challenge gives 9"
-    × (packs (recordOf 1 1 0 16 0) ≡ refused 11 0)
-    × (packs (recordOf 1 1 256 0 0) ≡ refused 10 0)
-    × (packs (recordOf 1 1 0 0 65536) ≡ refused 8 0)
-    × (packs (recordOf 1 2 0 0 0) ≡ refused 9 0)
+    × (packs (recordOf 1 1 0 16 0) ≡ refuses 11 0)
+    × (packs (recordOf 1 1 256 0 0) ≡ refuses 10 0)
+    × (packs (recordOf 1 1 0 0 65536) ≡ refuses 8 0)
+    × (packs (recordOf 1 2 0 0 0) ≡ refuses 9 0)
     -- "v + (−w): four nodes v, w, Neg, Sub"
-    × (graph (sheetOf (v ∷ w ∷ recordOf 8 1 0 1 0 ∷ recordOf 6 0 2 1 0 ∷ []) (3 ∷ []))
-    ≡ words (v ∷ w ∷ recordOf 8 1 0 1 0 ∷ recordOf 7 0 1 1 0 ∷ []) (3 ∷ []))
+    × (builds (v ∷ w ∷ recordOf 8 1 0 1 0 ∷ recordOf 6 0 2 1 0 ∷ []) (3 ∷ [])
+    ≡ graph 7 (words (v ∷ w ∷ recordOf 8 1 0 1 0 ∷ recordOf 7 0 1 1 0 ∷ []) (3 ∷ [])) 3)
     -- "−(−v): three nodes", "0 − v: three nodes"
-    × (graph (sheetOf (v ∷ recordOf 8 0 0 1 0 ∷ recordOf 8 1 0 1 0 ∷ []) (2 ∷ []))
-    ≡ words (v ∷ recordOf 8 0 0 1 0 ∷ recordOf 8 1 0 1 0 ∷ []) (2 ∷ []))
-    × (graph (sheetOf (v ∷ recordOf 5 0 0 0 0 ∷ recordOf 7 1 0 1 0 ∷ []) (2 ∷ []))
-    ≡ words (recordOf 5 0 0 0 0 ∷ v ∷ recordOf 7 0 1 1 0 ∷ []) (2 ∷ []))
+    × (builds (v ∷ recordOf 8 0 0 1 0 ∷ recordOf 8 1 0 1 0 ∷ []) (2 ∷ [])
+    ≡ graph 6 (words (v ∷ recordOf 8 0 0 1 0 ∷ recordOf 8 1 0 1 0 ∷ []) (2 ∷ [])) 3)
+    × (builds (v ∷ constZero ∷ recordOf 7 1 0 1 0 ∷ []) (2 ∷ [])
+    ≡ graph 6 (words (constZero ∷ v ∷ recordOf 7 0 1 1 0 ∷ []) (2 ∷ [])) 3)
     -- "v·0: two nodes, no headers", "constraint 0: one node, no headers"
-    × (graph (sheetOf (v ∷ recordOf 5 0 0 0 0 ∷ recordOf 9 0 1 1 0 ∷ []) (2 ∷ [])) ≡ words (v ∷ recordOf 5 0 0 0 0 ∷ []) (1 ∷ []))
-    × (slices (words (v ∷ recordOf 5 0 0 0 0 ∷ []) (1 ∷ [])) ≡ none)
-    × (graph (sheetOf (recordOf 5 0 0 0 0 ∷ []) (0 ∷ [])) ≡ words (recordOf 5 0 0 0 0 ∷ []) (0 ∷ []))
-    × (slices (words (recordOf 5 0 0 0 0 ∷ []) (0 ∷ [])) ≡ none)
+    × (builds (v ∷ constZero ∷ recordOf 9 0 1 1 0 ∷ []) (2 ∷ []) ≡ graph 6 (words (v ∷ constZero ∷ []) (1 ∷ [])) 8)
+    × (expands (words (v ∷ constZero ∷ []) (1 ∷ [])) ≡ expanded [] [] [])
+    × (builds (constZero ∷ []) (0 ∷ []) ≡ graph 4 (words (constZero ∷ []) (0 ∷ [])) 3)
+    × (expands (words (constZero ∷ []) (0 ∷ [])) ≡ expanded [] [] [])
     -- "v + w with degree words 1 and 2, both constraints: four nodes, two indices, two headers of two terms"
-    × (graph (sheetOf (v ∷ w ∷ recordOf 6 0 1 1 0 ∷ recordOf 6 0 1 2 0 ∷ []) (2 ∷ 3 ∷ []))
-    ≡ words (v ∷ w ∷ recordOf 6 0 1 1 0 ∷ recordOf 6 0 1 2 0 ∷ []) (2 ∷ 3 ∷ []))
-    × (slices (words (v ∷ w ∷ recordOf 6 0 1 1 0 ∷ recordOf 6 0 1 2 0 ∷ []) (2 ∷ 3 ∷ []))
-    ≡ (0 ∷ 0 ∷ 1 ∷ 2 ∷ 1 ∷ 2 ∷ 1 ∷ 2 ∷ []) ∷ (1 ∷ 65537 ∷ []) ∷ (0 ∷ 1 ∷ 1 ∷ 1 ∷ 0 ∷ 1 ∷ 1 ∷ 1 ∷ []) ∷ [])
-    -- "the same Add twice: one index"
-    × (graph (sheetOf (v ∷ w ∷ recordOf 6 0 1 1 0 ∷ recordOf 6 0 1 1 0 ∷ []) (2 ∷ 3 ∷ []))
-    ≡ words (v ∷ w ∷ recordOf 6 0 1 1 0 ∷ []) (2 ∷ []))
+    × (builds (v ∷ w ∷ recordOf 6 0 1 1 0 ∷ recordOf 6 0 1 2 0 ∷ []) (2 ∷ 3 ∷ [])
+    ≡ graph 7 (words (v ∷ w ∷ recordOf 6 0 1 1 0 ∷ recordOf 6 0 1 2 0 ∷ []) (2 ∷ 3 ∷ [])) 3)
+    × (expands (words (v ∷ w ∷ recordOf 6 0 1 1 0 ∷ recordOf 6 0 1 2 0 ∷ []) (2 ∷ 3 ∷ []))
+    ≡ expanded (0 ∷ 0 ∷ 1 ∷ 2 ∷ 1 ∷ 2 ∷ 1 ∷ 2 ∷ []) (1 ∷ 65537 ∷ []) (0 ∷ 1 ∷ 1 ∷ 1 ∷ 0 ∷ 1 ∷ 1 ∷ 1 ∷ []))
+    -- "the same Add twice: one index": as two records, and as one record named twice
+    × (builds (v ∷ w ∷ recordOf 6 0 1 1 0 ∷ recordOf 6 0 1 1 0 ∷ []) (2 ∷ 3 ∷ [])
+    ≡ graph 7 (words (v ∷ w ∷ recordOf 6 0 1 1 0 ∷ []) (2 ∷ [])) 9)
+    × (builds (v ∷ w ∷ recordOf 6 0 1 1 0 ∷ []) (2 ∷ 2 ∷ [])
+    ≡ graph 6 (words (v ∷ w ∷ recordOf 6 0 1 1 0 ∷ []) (2 ∷ [])) 4)
     -- "(p − 1)·(p − 1): two nodes, the second 1"
-    × (graph (sheetOf (recordOf 5 2013265920 0 0 0 ∷ recordOf 9 0 0 0 0 ∷ []) (1 ∷ []))
-    ≡ words (recordOf 5 2013265920 0 0 0 ∷ recordOf 5 1 0 0 0 ∷ []) (1 ∷ []))
+    × (builds (recordOf 5 2013265920 0 0 0 ∷ recordOf 9 0 0 0 0 ∷ []) (1 ∷ [])
+    ≡ graph 5 (words (recordOf 5 2013265920 0 0 0 ∷ recordOf 5 1 0 0 0 ∷ []) (1 ∷ [])) 3)
     -- "(v + w)·(v − w): v·v with 1, w·w with p − 1"
-    × (slices (words (v ∷ w ∷ recordOf 6 0 1 1 0 ∷ recordOf 7 0 1 1 0 ∷ recordOf 9 2 3 2 0 ∷ []) (4 ∷ []))
-    ≡ (0 ∷ 0 ∷ 2 ∷ 1 ∷ 2 ∷ 1 ∷ 2 ∷ 1 ∷ []) ∷ (1 ∷ 1 ∷ 65537 ∷ 65537 ∷ []) ∷ (0 ∷ 1 ∷ 0 ∷ 2013265920 ∷ []) ∷ [])
-unfolding packs sheetOf graph words slices none
-examples = (refl, refl, refl, refl, refl, refl, refl, refl, refl, refl, refl, refl, refl, refl, refl, refl, refl, refl, refl)
+    × (expands (words (v ∷ w ∷ recordOf 6 0 1 1 0 ∷ recordOf 7 0 1 1 0 ∷ recordOf 9 2 3 2 0 ∷ []) (4 ∷ []))
+    ≡ expanded (0 ∷ 0 ∷ 2 ∷ 1 ∷ 2 ∷ 1 ∷ 2 ∷ 1 ∷ []) (1 ∷ 1 ∷ 65537 ∷ 65537 ∷ []) (0 ∷ 1 ∷ 0 ∷ 2013265920 ∷ []))
+unfolding packs answers refuses sheetOf builds words graph expands expanded constZero
+examples = (refl, refl, refl, refl, refl, refl, refl, refl, refl, refl, refl, refl, refl, refl, refl, refl, refl, refl, refl, refl)
 
 -- The sheet of the listing.
 listingSheet : Sheet
@@ -104,7 +125,7 @@ listingSheet = record {
 
 -- What `sheetlist` prints for it, from the block that the writer makes.
 listing : List ℕ
-unfolding listingSheet slices writerCall writeBlocks blockBytes firstWords blocksFor wordBytes wordAt wordsOf total checkWord sheetlist readerCall badLength readBlocks blockGood sheetLines graphLines constraintLines interactionLines step headerLines tLine uLine wLine line signed integer signedOf decimal digits hexDigits hexDigit maxRotationCall maxRotation rotation interactionCall interactionOutputs maxFieldsLen countRoots fieldRoots interactionTerm listed listedAt rows
+unfolding listingSheet expands handedBack writerCall writeBlocks blockBytes firstWords blocksFor wordBytes wordAt wordsOf total checkWord sheetlist readerCall badLength readBlocks blockGood sheetLines graphLines constraintLines interactionLines step headerLines tLine uLine wLine line signed integer signedOf decimal digits hexDigits hexDigit maxRotationCall maxRotation rotation interactionCall interactionOutputs maxFieldsLen countRoots fieldRoots interactionTerm listed listedAt rows
 listing = sheetlist prime (handedBack 0 (writerCall prime (encode listingSheet) 512) 0)
 
 -- The text in 01, line by line.
@@ -145,16 +166,16 @@ seventeen : List Record
 seventeen = manyVars 0 17 ++ (recordOf 6 0 1 1 0 ∷ sumsFrom 17 2 15)
 
 fault : Record → ℕ
-unfolding slices
+unfolding expands
 fault r = recordFault prime (seventeen ++ (r ∷ [])) 33
 
 further :
-    -- the graph's constraints are sorted by node, not by source
-    (graph (sheetOf (v ∷ w ∷ recordOf 6 0 1 1 0 ∷ []) (2 ∷ 0 ∷ [])) ≡ words (v ∷ w ∷ recordOf 6 0 1 1 0 ∷ []) (0 ∷ 2 ∷ []))
-    × (slices (graph (sheetOf (v ∷ w ∷ recordOf 6 0 1 1 0 ∷ []) (2 ∷ 0 ∷ [])))
-    ≡ (0 ∷ 0 ∷ 1 ∷ 2 ∷ 1 ∷ 2 ∷ 1 ∷ 1 ∷ []) ∷ (1 ∷ 65537 ∷ []) ∷ (0 ∷ 1 ∷ 1 ∷ 1 ∷ 1 ∷ 1 ∷ []) ∷ [])
+    -- the graph's constraints are sorted by node, not by source, and its terms carry their places there
+    (builds (v ∷ w ∷ recordOf 6 0 1 1 0 ∷ []) (2 ∷ 0 ∷ []) ≡ graph 6 (words (v ∷ w ∷ recordOf 6 0 1 1 0 ∷ []) (0 ∷ 2 ∷ [])) 3)
+    × (expands (words (v ∷ w ∷ recordOf 6 0 1 1 0 ∷ []) (0 ∷ 2 ∷ []))
+    ≡ expanded (0 ∷ 0 ∷ 1 ∷ 2 ∷ 1 ∷ 2 ∷ 1 ∷ 1 ∷ []) (1 ∷ 65537 ∷ []) (0 ∷ 1 ∷ 1 ∷ 1 ∷ 1 ∷ 1 ∷ []))
     -- 256 working monomials pass, 272 give 12 although only 152 are left of them when they are combined
     × (fault (recordOf 9 31 31 2 0) ≡ 0)
     × (fault (recordOf 9 31 32 2 0) ≡ 12)
-unfolding sheetOf graph words slices fault seventeen manyVars sumsFrom
+unfolding sheetOf builds words graph expands expanded fault seventeen manyVars sumsFrom
 further = (refl, refl, refl, refl)

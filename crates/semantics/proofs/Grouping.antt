@@ -16,12 +16,13 @@ use Rattle.semantics.specs.Monomial.{Monomial, before, beforeVars, sort}
 use Rattle.semantics.specs.Group.{Root, labelled, constraintRoots, countRoots, fieldRoots, Item, itemsOf, items, key, later}
 use Rattle.semantics.specs.Group.{Group, push, split, groups, constraintTerm, interactionTerm}
 use Rattle.semantics.specs.Group.{headers, variables, terms, rows, Listed, listedAt, listed}
-use Rattle.semantics.specs.Demand.{productOf, coefficients, sumOf, ofConstraint, ofCount, ofField, first, second}
+use Rattle.semantics.specs.Demand.{productOf, sumTerms, sumOf, ofConstraint, ofCount, ofField, first, second}
 use Rattle.semantics.specs.Demand.{AllAfter, Ascending, NonZero, noInteraction, constraintAt, interactionAt, fieldAt}
 use Rattle.semantics.proofs.Basics.{by-test, not-both}
-use Rattle.semantics.proofs.Arithmetic.{addM-lt, mulM-lt, addM-zero, zero-addM, zero-mulM, addM-mulM, addM-assoc, sums}
+use Rattle.semantics.proofs.Arithmetic.{addM-lt, mulM-lt, addM-zero, zero-addM, zero-mulM, addM-assoc, sums}
 use Rattle.semantics.proofs.Order.{lex-inv, lex-head, lex-tail, lex-irrefl, lex-trans, lex-total, beforeVars-trans, beforeVars-total}
 use Rattle.semantics.proofs.Monomials.{val, val-cons, val-one, val-lt}
+use Rattle.semantics.proofs.Combining.{Small}
 use Rattle.semantics.proofs.Sorting.{All, all-append, sort-all, sort-same, Ahead, Sorted, sorted-sort}
 
 -- A group as it reads.
@@ -141,7 +142,7 @@ later-vars t u h = go (lex-inv (length (u .vars)) (length (t .vars)) (u .vars) (
     go (inr a) = lex-tail (length (u .vars)) (length (t .vars)) _ _ (a .0) (lex-append (u .vars) (t .vars) _ _ (a .0) (a .1))
 
 -- Where an item goes: into a group of its own in front, or into the first group, whose variables are then its own.
-push-by : (P : List Group → Type 0) (t : Item) (g : Group) (gs : List Group)
+pub push-by : (P : List Group → Type 0) (t : Item) (g : Group) (gs : List Group)
     → ((beforeVars (t .vars) (g .vars) ≡ true) ⊎ (beforeVars (g .vars) (t .vars) ≡ true) → P (record { vars = t .vars; terms = t ∷ [] } ∷ g ∷ gs))
     → (t .vars ≡ g .vars → P (record { vars = g .vars; terms = t ∷ g .terms } ∷ gs)) → P (push t (g ∷ gs))
 unfolding push
@@ -192,38 +193,49 @@ module _ (term : Item → List ℕ) where
   unfolding groups
   groups-ascend list roots = split-ascends (sort later (items list roots)) (sorted-sort later later-asym later-trans later-total (items list roots))
 
--- No coefficient is zero.
-items-nonzero : (list : ℕ → List Monomial) (roots : List Root) → All (λ (t : Item). t .coef ≡ 0 → ⊥) (items list roots)
-unfolding items flatMap
-items-nonzero list [] = tt
-items-nonzero list (r ∷ roots) =
-    all-append (λ (t : Item). t .coef ≡ 0 → ⊥) (itemsOf r (list (r .node))) (items list roots) (of-list r (list (r .node))) (items-nonzero list roots)
-  where
-    of-list : (r : Root) (ms : List Monomial) → All (λ (t : Item). t .coef ≡ 0 → ⊥) (itemsOf r ms)
-    of-list r ms = elim ms [
-      | [] ↦ unfold itemsOf in tt
-      | m ∷ (ms → ih) ↦ unfold itemsOf in
-          (by-test (All (λ (t : Item). t .coef ≡ 0 → ⊥)) (eqb (m .coef) 0) (λ e. ih) (λ e. (eqb-false (m .coef) 0 e, ih)))
-    ]
+-- A coefficient that is listed is a value, 1 to p − 1.
+abbrev pub Valued : ℕ → Item → Type 0
+Valued p t = (1 ≤ t .coef) × (t .coef < p)
 
-module _ (term : Item → List ℕ) (coefficient : List ℕ → ℕ) (same : (t : Item) → coefficient (term t) ≡ t .coef) where
-  push-nonzero : (t : Item) (gs : List Group) → (t .coef ≡ 0 → ⊥) → NonZero coefficient (map (shown term) gs)
-      → NonZero coefficient (map (shown term) (push t gs))
+-- What the lists of roots keep is kept by the items that they make: `P` of a monomial, `Q` of an item.
+module _ (P : Monomial → Type 0) (Q : Item → Type 0)
+    (made : (r : Root) (m : Monomial) → (m .coef ≡ 0 → ⊥) → P m → Q (record { vars = m .vars; index = r .index; field = r .field; coef = m .coef })) where
+  pub items-of : (r : Root) (ms : List Monomial) → All P ms → All Q (itemsOf r ms)
+  items-of r ms = elim ms [
+    | [] ↦ λ k. unfold itemsOf in tt
+    | m ∷ (ms → ih) ↦ λ k. unfold itemsOf in
+        (by-test (All Q) (eqb (m .coef) 0) (λ e. ih (k .1)) (λ e. (made r m (eqb-false (m .coef) 0 e) (k .0), ih (k .1))))
+  ]
+
+  pub items-all : (list : ℕ → List Monomial) (roots : List Root) → All (λ (r : Root). All P (list (r .node))) roots → All Q (items list roots)
+  unfolding items flatMap
+  items-all list [] k = tt
+  items-all list (r ∷ roots) k =
+      all-append Q (itemsOf r (list (r .node))) (items list roots) (items-of r (list (r .node)) (k .0)) (items-all list roots (k .1))
+
+module _ (p : ℕ) (term : Item → List ℕ) (coefficient : List ℕ → ℕ) (same : (t : Item) → coefficient (term t) ≡ t .coef) where
+  term-value : (t : Item) → Valued p t → (1 ≤ coefficient (term t)) × (coefficient (term t) < p)
+  term-value t h = subst (λ (c : ℕ). (1 ≤ c) × (c < p)) (sym (same t)) h
+
+  push-nonzero : (t : Item) (gs : List Group) → Valued p t → NonZero p coefficient (map (shown term) gs)
+      → NonZero p coefficient (map (shown term) (push t gs))
   unfolding shown
-  push-nonzero t [] h k = unfold push in (((λ e. h (sym (same t) ∙ e)), tt), tt)
+  push-nonzero t [] h k = let v = term-value t h in unfold push in ((v .0, v .1, tt), tt)
   push-nonzero t (g ∷ gs) h k =
-      push-by (λ (l : List Group). NonZero coefficient (map (shown term) l)) t g gs (λ e. (((λ f. h (sym (same t) ∙ f)), tt), k))
-      (λ e. (((λ f. h (sym (same t) ∙ f)), k .0), k .1))
+      let v = term-value t h in
+      push-by (λ (l : List Group). NonZero p coefficient (map (shown term) l)) t g gs (λ e. ((v .0, v .1, tt), k)) (λ e. ((v .0, v .1, k .0), k .1))
 
-  split-nonzero : (ts : List Item) → All (λ (t : Item). t .coef ≡ 0 → ⊥) ts → NonZero coefficient (map (shown term) (split ts))
+  split-nonzero : (ts : List Item) → All (Valued p) ts → NonZero p coefficient (map (shown term) (split ts))
   unfolding split
   split-nonzero [] k = tt
   split-nonzero (t ∷ ts) k = push-nonzero t (split ts) (k .0) (split-nonzero ts (k .1))
 
-  pub groups-nonzero : (list : ℕ → List Monomial) (roots : List Root) → NonZero coefficient (map (shown term) (groups list roots))
+  pub groups-nonzero : (list : ℕ → List Monomial) (roots : List Root) → All (λ (r : Root). All (Small p) (list (r .node))) roots
+      → NonZero p coefficient (map (shown term) (groups list roots))
   unfolding groups
-  groups-nonzero list roots =
-      split-nonzero (sort later (items list roots)) (sort-all later (λ (t : Item). t .coef ≡ 0 → ⊥) (items list roots) (items-nonzero list roots))
+  groups-nonzero list roots small =
+      split-nonzero (sort later (items list roots))
+      (sort-all later (Valued p) (items list roots) (items-all (Small p) (Valued p) (λ r m z h. (omega arith, h)) list roots small))
 
 -- The value of some items, of which those count whose index and field are asked for; and of some roots.
 share : (ℕ → ℕ → Bool) → Item → ℕ
@@ -300,17 +312,17 @@ module _ (p : ℕ) (big : 1 < p) (w : List ℕ → ℕ) (hit : ℕ → ℕ → B
 
 -- The sum of the listed terms.
 module _ (p : ℕ) (A : Leaf → ℕ) (carries : List ℕ → Bool) (coefficient : List ℕ → ℕ) where
-  coefficients-nil : coefficients p carries coefficient [] ≡ 0
-  unfolding coefficients
-  coefficients-nil = refl
+  terms-nil : (m : ℕ) → sumTerms p m carries coefficient [] ≡ 0
+  unfolding sumTerms
+  terms-nil m = refl
 
-  coefficients-cons : (t : List ℕ) (ts : List (List ℕ))
-      → coefficients p carries coefficient (t ∷ ts) ≡ addM p (cond (carries t) (coefficient t) 0) (coefficients p carries coefficient ts)
-  unfolding coefficients
-  coefficients-cons t ts = refl
+  terms-cons : (m : ℕ) (t : List ℕ) (ts : List (List ℕ)) → sumTerms p m carries coefficient (t ∷ ts)
+      ≡ addM p (cond (carries t) (mulM p (coefficient t) m) 0) (sumTerms p m carries coefficient ts)
+  unfolding sumTerms
+  terms-cons m t ts = refl
 
   sum-cons : (h : Listed) (hs : List Listed) → sumOf p A carries coefficient (h ∷ hs)
-      ≡ addM p (mulM p (coefficients p carries coefficient (h .terms)) (productOf p A (h .vars))) (sumOf p A carries coefficient hs)
+      ≡ addM p (sumTerms p (productOf p A (h .vars)) carries coefficient (h .terms)) (sumOf p A carries coefficient hs)
   unfolding sumOf
   sum-cons h hs = refl
 
@@ -320,19 +332,24 @@ module _ (p : ℕ) (big : 1 < p) (A : Leaf → ℕ) (hit : ℕ → ℕ → Bool)
   abbrev sumShown : List Group → ℕ
   sumShown gs = sumOf p A carries coefficient (map (shown term) gs)
 
-  term-share : (t : Item) → cond (carries (term t)) (coefficient (term t)) 0 ≡ share hit t
+  -- A coefficient is taken in before or after it is multiplied.
+  cond-mul : (b : Bool) (c m : ℕ) → cond b (mulM p c m) 0 ≡ mulM p (cond b c 0) m
+  cond-mul true c m = refl
+  cond-mul false c m = sym (zero-mulM p m)
+
+  term-share : (t : Item) (m : ℕ) → cond (carries (term t)) (mulM p (coefficient (term t)) m) 0 ≡ mulM p (share hit t) m
   unfolding share
-  term-share t = rw (asked t, same t)
+  term-share t m = rw (asked t, same t) (cond-mul (hit (t .index) (t .field)) (t .coef) m)
 
   new-sum : (t : Item) (gs : List Group) → sumShown (record { vars = t .vars; terms = t ∷ [] } ∷ gs)
       ≡ addM p (mulM p (share hit t) (productOf p A (t .vars))) (sumShown gs)
   unfolding shown
-  new-sum t gs = simp (sum-cons, coefficients-cons, coefficients-nil, term-share, addM-mulM, zero-mulM, addM-zero, mulM-lt)
+  new-sum t gs = simp (sum-cons, terms-cons, terms-nil, term-share, addM-zero, mulM-lt)
 
   old-sum : (t : Item) (g : Group) (gs : List Group) → t .vars ≡ g .vars → sumShown (record { vars = g .vars; terms = t ∷ g .terms } ∷ gs)
       ≡ addM p (mulM p (share hit t) (productOf p A (t .vars))) (sumShown (g ∷ gs))
   unfolding shown
-  old-sum t g gs e = simp (sum-cons, coefficients-cons, term-share, e, addM-mulM, addM-assoc)
+  old-sum t g gs e = simp (sum-cons, terms-cons, term-share, e, addM-assoc)
 
   push-sum : (t : Item) (gs : List Group)
       → sumShown (push t gs) ≡ addM p (mulM p (share hit t) (productOf p A (t .vars))) (sumShown gs)
@@ -450,8 +467,9 @@ module _ (term : Item → List ℕ) (width : ℕ) (wide : (t : Item) → length 
   laid-ascends list roots = rw (listed-layout term width wide (groups list roots)) (groups-ascend term list roots)
 
   module _ (coefficient : List ℕ → ℕ) (same : (t : Item) → coefficient (term t) ≡ t .coef) where
-    pub laid-nonzero : (list : ℕ → List Monomial) (roots : List Root) → NonZero coefficient (laid term width list roots)
-    laid-nonzero list roots = rw (listed-layout term width wide (groups list roots)) (groups-nonzero term coefficient same list roots)
+    pub laid-nonzero : (p : ℕ) (list : ℕ → List Monomial) (roots : List Root) → All (λ (r : Root). All (Small p) (list (r .node))) roots
+        → NonZero p coefficient (laid term width list roots)
+    laid-nonzero p list roots small = rw (listed-layout term width wide (groups list roots)) (groups-nonzero p term coefficient same list roots small)
 
     pub laid-sum : (p : ℕ) (big : 1 < p) (A : Leaf → ℕ) (hit : ℕ → ℕ → Bool) (carries : List ℕ → Bool)
         → ((t : Item) → carries (term t) ≡ hit (t .index) (t .field)) → (list : ℕ → List Monomial) (roots : List Root)

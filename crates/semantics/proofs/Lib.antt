@@ -15,11 +15,14 @@ pub mod Graphs
 pub mod Encoding
 pub mod GraphSheets
 pub mod Expansions
+pub mod RecordLists
 pub mod Grouping
 pub mod Packed
 pub mod Calls
 pub mod Access
 pub mod Blocks
 pub mod Acceptance
+pub mod Refusals
 pub mod Demands
+pub mod HeaderSizes
 pub mod Examples

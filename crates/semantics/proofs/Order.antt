@@ -1,12 +1,11 @@
 -- The order of lists of numbers is strict and total, and so is that of variable lists.
-use mathlib.Core.Path.{_≡_, refl, sym, _∙_, ap, subst}
+use mathlib.Core.Path.{_≡_, refl, sym, _∙_}
 use mathlib.Core.Logic.{_⊎_, inl, inr}
 use mathlib.Core.Bool.{Bool, true, false, cond, true≢false}
-use mathlib.Core.List.{List, [], _∷_, _++_}
-use Prim.Native.Nat.{ℕ, zero, suc, _+_, _*_, _≤_, _<_}
+use mathlib.Core.List.{List, [], _∷_}
+use Prim.Native.Nat.{ℕ, _<_}
 use native.Mathlib.Omega.{arith}
-use lib.Dec.{ltb, leb, eqb}
-use lib.ListN.{length}
+use lib.Dec.{ltb}
 use borrow.Author.Tests.{ltb-true, ltb-false, lt-ltb, le-ltb}
 use Rattle.semantics.specs.Monomial.{before, beforeVars}
 use Rattle.semantics.proofs.Basics.{by-test}
@@ -86,3 +85,21 @@ beforeVars-asym xs ys h = by-flag (beforeVars ys xs) refl
     by-flag : (t : Bool) → beforeVars ys xs ≡ t → beforeVars ys xs ≡ false
     by-flag false e = e
     by-flag true e = absurd (true≢false (sym (beforeVars-trans xs ys xs h e) ∙ beforeVars-irrefl xs))
+
+-- Of two variable lists, whether they are the same, by their order.
+unfoldable pub sameVars : List ℕ → List ℕ → Bool
+sameVars v u = cond (beforeVars v u) false (cond (beforeVars u v) false true)
+
+pub same-vars : (v : List ℕ) → sameVars v v ≡ true
+unfolding sameVars
+same-vars v = rw (beforeVars-irrefl v)
+
+pub same-not : (v u : List ℕ) → beforeVars v u ≡ true → sameVars v u ≡ false
+unfolding sameVars
+same-not v u h = rw h
+
+pub same-is : (v u : List ℕ) → sameVars v u ≡ true → v ≡ u
+unfolding sameVars
+same-is v u =
+    by-test (λ (t : Bool). t ≡ true → v ≡ u) (beforeVars v u) (λ e h. absurd (true≢false (sym h)))
+    (λ e. by-test (λ (t : Bool). t ≡ true → v ≡ u) (beforeVars u v) (λ f h. absurd (true≢false (sym h))) (λ f h. beforeVars-total v u e f))

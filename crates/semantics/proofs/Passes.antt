@@ -1,5 +1,5 @@
 -- A pass over records: what it makes of each, and that one more record changes nothing before it.
-use mathlib.Core.Path.{_≡_, refl, sym, _∙_, ap, subst}
+use mathlib.Core.Path.{_≡_, refl, sym, _∙_, ap}
 use mathlib.Core.List.{List, [], _∷_, _++_}
 use Prim.Native.Nat.{ℕ, zero, suc, _+_, _<_}
 use native.Mathlib.Omega.{arith}
@@ -7,6 +7,7 @@ use lib.ListN.{length, getD, length-append, List·getD-append}
 use lib.Seq.{getD-at}
 use Rattle.semantics.specs.Sheet.{Each}
 use Rattle.semantics.specs.Value.{fill}
+use Rattle.semantics.proofs.Sorting.{All, all-append, all-at}
 
 module _ {R X : Type 0} (step : R → (ℕ → X) → X) (d : X) where
   pub fill-length : (done : List X) (rs : List R) → length (fill step d done rs) ≡ length done + length rs
@@ -43,3 +44,13 @@ module _ {R X : Type 0} (step : R → (ℕ → X) → X) (d : X) (Low : ℕ → 
       let done′ : List X = done ++ (step r (λ i. getD done i d) ∷ []) in
       ap (λ (k : ℕ). getD (fill step d done′ rs) k d) (omega arith)
       ∙ fill-at (suc n) done′ rs z i (simp length-append (omega arith)) (w .1) (omega arith)
+
+-- What each step keeps, all that the pass makes has; `Q` is what the records have.
+module _ {R X : Type 0} (step : R → (ℕ → X) → X) (d : X) (Q : R → Type 0) (P : X → Type 0) (base : P d)
+    (kept : (r : R) (f : ℕ → X) → Q r → ((i : ℕ) → P (f i)) → P (step r f)) where
+  pub fill-all : (done : List X) (rs : List R) → All Q rs → All P done → All P (fill step d done rs)
+  unfolding fill
+  fill-all done [] q h = h
+  fill-all done (r ∷ rs) q h =
+      let x : X = step r (λ i. getD done i d) in
+      fill-all (done ++ (x ∷ [])) rs (q .1) (all-append P done (x ∷ []) h (kept r (λ i. getD done i d) (q .0) (λ i. all-at P done i d base h), tt))

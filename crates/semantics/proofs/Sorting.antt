@@ -1,7 +1,9 @@
 -- What sorting keeps, and that it sorts.
 use mathlib.Core.Path.{_≡_, refl, _∙_, ap, subst}
 use mathlib.Core.Bool.{Bool, true, false}
-use mathlib.Core.List.{List, [], _∷_, _++_}
+use mathlib.Core.List.{List, [], _∷_, _++_, map}
+use Prim.Native.Nat.{ℕ, zero, suc}
+use lib.ListN.{getD}
 use Rattle.semantics.specs.Monomial.{insertSorted, sort}
 use Rattle.semantics.proofs.Basics.{by-test, not-both}
 
@@ -13,6 +15,21 @@ All P (x ∷ xs) = P x × All P xs
 pub all-append : {X : Type 0} (P : X → Type 0) (xs ys : List X) → All P xs → All P ys → All P (xs ++ ys)
 all-append P [] ys h k = k
 all-append P (x ∷ xs) ys h k = (h .0, all-append P xs ys (h .1) k)
+
+-- What every element has, and what stands past the end, the element at any place has.
+pub all-at : {X : Type 0} (P : X → Type 0) (xs : List X) (i : ℕ) (d : X) → P d → All P xs → P (getD xs i d)
+all-at P [] i d h k = h
+all-at P (x ∷ xs) zero d h k = k .0
+all-at P (x ∷ xs) (suc i) d h k = all-at P xs i d h (k .1)
+
+pub all-imply : {X : Type 0} (P Q : X → Type 0) → ((x : X) → P x → Q x) → (xs : List X) → All P xs → All Q xs
+all-imply P Q h [] k = tt
+all-imply P Q h (x ∷ xs) k = (h x (k .0), all-imply P Q h xs (k .1))
+
+-- What a map gives each that has something, all of the mapped list have.
+pub all-map : {X Y : Type 0} (P : X → Type 0) (Q : Y → Type 0) (f : X → Y) → ((x : X) → P x → Q (f x)) → (xs : List X) → All P xs → All Q (map f xs)
+all-map P Q f h [] k = tt
+all-map P Q f h (x ∷ xs) k = (h x (k .0), all-map P Q f h xs (k .1))
 
 module _ {X : Type 0} (after : X → X → Bool) where
   -- Where an element goes: behind the first, or in front.

@@ -1,13 +1,13 @@
 -- Demand 3, in full, over the words that the calls hand back (01, "For demand 3").
 use mathlib.Core.Path.{_≡_}
-use mathlib.Core.Bool.{Bool, true, false, cond, _&&_}
-use mathlib.Core.List.{List, [], _∷_, _++_, map}
+use mathlib.Core.Bool.{Bool, true, cond, _&&_}
+use mathlib.Core.List.{List, [], _∷_}
 use Prim.Native.Nat.{ℕ, zero, suc, _≤_, _<_}
 use lib.Dec.{eqb}
 use lib.ListN.{length, getD}
-use Rattle.semantics.specs.Answer.{Answer, good, refused}
+use Rattle.semantics.specs.Answer.{good}
 use Rattle.semantics.specs.Arithmetic.{addM, mulM}
-use Rattle.semantics.specs.Sheet.{Record, Interaction, Sheet, Inside, encode, lengthOf}
+use Rattle.semantics.specs.Sheet.{Record, Interaction, Sheet, encode, lengthOf}
 use Rattle.semantics.specs.Check.{check}
 use Rattle.semantics.specs.Packing.{unpacked}
 use Rattle.semantics.specs.Value.{Leaf, leafOf, valueAt}
@@ -27,17 +27,17 @@ unfoldable pub productOf : (p : ℕ) → (Leaf → ℕ) → List ℕ → ℕ
 productOf p A [] = 1
 productOf p A (v ∷ vs) = mulM p (A (leafOf (unpacked v))) (productOf p A vs)
 
--- The sum of the coefficients of the terms that carry what is asked for.
-unfoldable pub coefficients : (p : ℕ) (carries : List ℕ → Bool) (coefficient : List ℕ → ℕ) → List (List ℕ) → ℕ
-coefficients p carries coefficient [] = 0
-coefficients p carries coefficient (t ∷ ts) =
-    addM p (cond (carries t) (coefficient t) 0) (coefficients p carries coefficient ts)
+-- The terms of one header that carry what is asked for, each coefficient times the product of the header's variables.
+unfoldable pub sumTerms : (p product : ℕ) (carries : List ℕ → Bool) (coefficient : List ℕ → ℕ) → List (List ℕ) → ℕ
+sumTerms p product carries coefficient [] = 0
+sumTerms p product carries coefficient (t ∷ ts) =
+    addM p (cond (carries t) (mulM p (coefficient t) product) 0) (sumTerms p product carries coefficient ts)
 
--- "the sum of its listed terms": each term's coefficient times its header's variables.
+-- "the sum of its listed terms"
 unfoldable pub sumOf : (p : ℕ) → (Leaf → ℕ) → (carries : List ℕ → Bool) (coefficient : List ℕ → ℕ) → List Listed → ℕ
 sumOf p A carries coefficient [] = 0
 sumOf p A carries coefficient (h ∷ hs) =
-    addM p (mulM p (coefficients p carries coefficient (h .terms)) (productOf p A (h .vars))) (sumOf p A carries coefficient hs)
+    addM p (sumTerms p (productOf p A (h .vars)) carries coefficient (h .terms)) (sumOf p A carries coefficient hs)
 
 -- A constraint's terms carry its place; a count's its interaction; a field's its interaction and its place in the message.
 unfoldable pub ofConstraint : ℕ → List ℕ → Bool
@@ -65,13 +65,14 @@ abbrev pub Ascending : List Listed → Type 0
 Ascending [] = Unit {0}
 Ascending (h ∷ hs) = AllAfter (h .vars) hs × Ascending hs
 
-abbrev pub NonZeroTerms : (List ℕ → ℕ) → List (List ℕ) → Type 0
-NonZeroTerms coefficient [] = Unit {0}
-NonZeroTerms coefficient (t ∷ ts) = (coefficient t ≡ 0 → ⊥) × NonZeroTerms coefficient ts
+-- Each coefficient is a value, 1 to p − 1.
+abbrev pub NonZeroTerms : (p : ℕ) → (List ℕ → ℕ) → List (List ℕ) → Type 0
+NonZeroTerms p coefficient [] = Unit {0}
+NonZeroTerms p coefficient (t ∷ ts) = (1 ≤ coefficient t) × (coefficient t < p) × NonZeroTerms p coefficient ts
 
-abbrev pub NonZero : (List ℕ → ℕ) → List Listed → Type 0
-NonZero coefficient [] = Unit {0}
-NonZero coefficient (h ∷ hs) = NonZeroTerms coefficient (h .terms) × NonZero coefficient hs
+abbrev pub NonZero : (p : ℕ) → (List ℕ → ℕ) → List Listed → Type 0
+NonZero p coefficient [] = Unit {0}
+NonZero p coefficient (h ∷ hs) = NonZeroTerms p coefficient (h .terms) × NonZero p coefficient hs
 
 -- The records that a sheet names.
 abbrev pub noInteraction : Interaction
@@ -120,7 +121,7 @@ module _ (p : ℕ) where
   pub record ConstraintRule (s : Sheet) (o : Outcome) : Type 0 where
     pub words : (k : ℕ) → handedBack 2 o k ≡ getD (constraintOutputs p s) k []
     pub ascending : Ascending (listsFrom 2 o 0)
-    pub nonZero : NonZero second (listsFrom 2 o 0)
+    pub nonZero : NonZero p second (listsFrom 2 o 0)
     pub value : (A : Assignment p) (j : ℕ) → j < length (s .constraints)
         → sumOf p (A .at) (ofConstraint j) second (listsFrom 2 o 0) ≡ valueAt p (A .at) (s .records) (constraintAt s j)
 
@@ -128,7 +129,7 @@ module _ (p : ℕ) where
   pub record InteractionRule (s : Sheet) (o : Outcome) : Type 0 where
     pub words : (k : ℕ) → handedBack 2 o k ≡ getD (interactionOutputs p s) k []
     pub ascending : Ascending (listsFrom 3 o 0) × Ascending (listsFrom 3 o 3)
-    pub nonZero : NonZero first (listsFrom 3 o 0) × NonZero first (listsFrom 3 o 3)
+    pub nonZero : NonZero p first (listsFrom 3 o 0) × NonZero p first (listsFrom 3 o 3)
     pub count : (A : Assignment p) (i : ℕ) → i < length (s .interactions)
         → sumOf p (A .at) (ofCount i) first (listsFrom 3 o 0) ≡ valueAt p (A .at) (s .records) (interactionAt s i .count)
     pub field : (A : Assignment p) (i f : ℕ) → i < length (s .interactions) → f < length (interactionAt s i .message)

@@ -1,7 +1,7 @@
 -- The walk of an expansion, and where it refuses (01: "8 to 13, 16", "for reached records only").
-use mathlib.Core.Bool.{Bool, true, false, cond, _||_}
+use mathlib.Core.Bool.{Bool, false, cond, _||_}
 use mathlib.Core.List.{List, [], _∷_}
-use Prim.Native.Nat.{ℕ, zero, suc, _+_, _*_}
+use Prim.Native.Nat.{ℕ, _+_, _*_}
 use lib.Dec.{eqb, leb, ltb}
 use lib.ListN.{length}
 use Rattle.semantics.specs.Answer.{Answer, good, refused, andThen}

@@ -13,3 +13,4 @@ pub mod Group
 pub mod Call
 pub mod Sheetlist
 pub mod Demand
+pub mod Refusals

@@ -1,18 +1,21 @@
 -- What the outcome of a call tells: its counts are inside its slices, and its refusals have a number.
 use mathlib.Core.Path.{_≡_, refl, sym, ap, subst, _∙_}
+use mathlib.Core.Bool.{false}
 use mathlib.Core.List.{List, [], _∷_, _++_, map}
-use Prim.Native.Nat.{ℕ, zero, suc, _+_, _*_, _-_, _/_, _≤_, _<_}
+use Prim.Native.Nat.{ℕ, zero, suc, _+_, _-_, _≤_, _<_}
 use native.Mathlib.Omega.{arith}
-use lib.ListN.{length, getD, drop, length-append, length-map}
+use lib.ListN.{length, getD, length-append, length-map}
 use lib.Seq.{getD-append-add}
 use Rattle.semantics.specs.Answer.{Answer, good, refused}
-use Rattle.semantics.specs.Sheet.{Sheet, lengthOf}
-use Rattle.semantics.specs.Check.{check}
-use Rattle.semantics.specs.Block.{blockGood, badLength, readBlocks}
-use Rattle.semantics.specs.Call.{Outcome, Result, Accepted, zeros, padded, paddedAll, outcome, result, onSheet, expansion, readerCall, builderCall, constraintCall, interactionCall}
+use Rattle.semantics.specs.Sheet.{Sheet}
+use Rattle.semantics.specs.Call.{Outcome, Result, Accepted, zeros, padded, paddedAll, outcome, expansion, readerCall, builderCall, constraintCall, interactionCall}
 use Rattle.semantics.specs.Sheetlist.{decimal, line, refusedText, step}
-use Rattle.semantics.proofs.Basics.{by-test}
-use Rattle.semantics.proofs.Acceptance.{Real, check-real, then-real, needs-real, walk-real, fitted-real}
+use Rattle.semantics.specs.Walk.{member}
+use Rattle.semantics.specs.Refusals.{ofSheet, ofExpansion}
+use Rattle.semantics.proofs.Basics.{not-both}
+use Rattle.semantics.proofs.Members.{Mem}
+use Rattle.semantics.proofs.Acceptance.{Within}
+use Rattle.semantics.proofs.Refusals.{reader-within, builder-within, expansion-within}
 use Rattle.sheet.specs.declared.Refusal.{Refusal}
 use Rattle.sheet.specs.Replies.{refusedReply}
 use Rattle.listing.proofs.Steps.{step-refused}
@@ -43,46 +46,32 @@ module _ (scratch lent : List ℕ) where
         ap (λ (n : ℕ). getD (map zeros scratch ++ paddedAll (r .outputs) lent) (n + k) []) (sym (length-map scratch zeros))
         ∙ getD-append-add (map zeros scratch) (paddedAll (r .outputs) lent) k []
 
-  pub outcome-sound : (a : Answer Result) → Real a → Sound (length scratch) (outcome scratch lent a)
+  pub outcome-sound : (ns : List ℕ) (a : Answer Result) → member 0 ns ≡ false → Within ns a → Sound (length scratch) (outcome scratch lent a)
   unfolding outcome
-  outcome-sound (good r) h = record {
+  outcome-sound ns (good r) z h = record {
     inside = λ k l. subst (λ (s : List ℕ). getD (map length (r .outputs)) k 0 ≤ length s) (sym (output-at r k))
         (pad-inside (r .outputs) lent k (omega (arith, all-length r)));
     real = λ e l a. omega (arith, all-length r, none-padded (r .outputs) lent e);
   }
-  outcome-sound (refused n k) h = record { inside = λ k l. omega arith; real = λ e l a. h a }
+  outcome-sound ns (refused n k) z h = record { inside = λ k l. omega arith; real = λ e l a. not-both (subst (λ (m : ℕ). Mem m ns) a h) z }
 
 -- The calls.
-read-real : (n number : ℕ) (bs : List ℕ) → Real (readBlocks n number bs)
-unfolding readBlocks
-read-real zero number bs = tt
-read-real (suc n) number bs =
-    let ih = read-real n (suc number) (drop 512 bs) in
-    by-test Real (blockGood (suc number) bs) (λ e. then-real (readBlocks n (suc number) (drop 512 bs)) _ ih (λ ws. tt)) (λ e. omega arith)
-
 pub reader-sound : (bytes : List ℕ) (out : ℕ) → Sound 0 (readerCall bytes out)
-unfolding readerCall result
-reader-sound bytes out =
-    outcome-sound [] (out ∷ []) _
-    (by-test Real (badLength (length bytes)) (λ e. omega arith)
-    (λ e. needs-real 15 (127 * (length bytes / 512)) out _ (omega arith) (then-real (readBlocks (length bytes / 512) 0 bytes) _ (read-real (length bytes / 512) 0 bytes) (λ ws. tt))))
+unfolding readerCall
+reader-sound bytes out = outcome-sound [] (out ∷ []) (1 ∷ 15 ∷ 2 ∷ []) _ (unfold member in refl) (reader-within bytes out)
 
 module _ (p : ℕ) (ws : List ℕ) where
   pub builder-sound : (scratch out : ℕ) → Sound 1 (builderCall p ws scratch out)
-  unfolding builderCall onSheet result
+  unfolding builderCall
   builder-sound scratch out =
-      outcome-sound (scratch ∷ []) (out ∷ []) _
-      (then-real (check p ws) _ (check-real p ws) (λ s. needs-real 14 _ scratch _ (omega arith) (needs-real 15 (lengthOf s) out _ (omega arith) tt)))
+      outcome-sound (scratch ∷ []) (out ∷ []) (ofSheet ++ (14 ∷ 15 ∷ [])) _ (unfold member in refl) (builder-within p ws scratch out)
 
   expansion-sound : (work pool : ℕ) (lent : List ℕ) (roots : _) (outputs : Sheet → List (List ℕ)) (numbers : Sheet → List ℕ)
       → Sound 2 (expansion p ws work pool lent roots outputs numbers)
-  unfolding expansion onSheet
+  unfolding expansion
   expansion-sound work pool lent roots outputs numbers =
-      outcome-sound (work ∷ pool ∷ []) lent _
-      (then-real (check p ws) _ (check-real p ws)
-      (λ s. needs-real 14 4096 work _ (omega arith)
-      (needs-real 14 (2 * length (s .records)) pool _ (omega arith)
-      (then-real _ _ (walk-real p (s .records) pool _) (λ used. fitted-real (outputs s) lent (numbers s))))))
+      outcome-sound (work ∷ pool ∷ []) lent (ofSheet ++ ofExpansion) _ (unfold member in refl)
+      (expansion-within p ws work pool lent roots outputs numbers)
 
   pub constraint-sound : (work pool h v t : ℕ) → Sound 2 (constraintCall p ws work pool h v t)
   unfolding constraintCall
