@@ -7,7 +7,7 @@ ghost use Rattle.group.specs.Grouped.{Rows, tallied, tallyAll, total, Co
 
 mod pending;
 pub mod place;
-pub mod search;
+mod search;
 pub mod totals;
 
 // The variables of a monomial are those of a row, or belong in front of one.
@@ -29,7 +29,7 @@ fn wide(w: u32) -> usize
 }
 
 // Counts the monomials of a list that stands at `at`: in runs, each of which has the monomials without a row put in at its end.
-pub fn tally_list(headers: &mut [u32], n: usize, pool: &[u32], at: usize, count: usize) -> Tallied
+fn tally_list(headers: &mut [u32], n: usize, pool: &[u32], at: usize, count: usize) -> Tallied
     requires { ⌜ Rows n (now headers) (now pool) × Standing count (now pool) at × (total (tallied n (now headers) (now pool)) + count ≤ 4294967295) ⌝ }
     ensures { λ r. ⌜ Counted (now (headers .exit)) (now (pool .entry)) (tallyAll (nonZero (listIn (now (pool .entry)) at count)) (tallied n (now (headers .entry)) (now (pool .entry)))) r ⌝ }
 {

@@ -8,7 +8,7 @@ ghost use Rattle.semantics.specs.Group.{constraintRoots, countRoots, fieldRoots
 ghost use Rattle.group.specs.Grouped.{tallied, total, Rows, column, sum, termOf, widthOf, Placing, varsIn, headersOf};
 ghost use Rattle.grouping.specs.Families.{rootsOf, isInteraction, Measured, Front, Grouping, Laid, groupsOf};
 
-pub mod families;
+mod families;
 
 use families::Family;
 use group::Tallied;
