@@ -21,7 +21,7 @@ use Rattle.semantics.proofs.Records.{fitsRow, isKind, kind-good, words-fit}
 use Rattle.packed_var.specs.declared.Packed.{Packed}
 use Rattle.packed_var.specs.declared.Packed.the-variants.{Var, Refused}
 use Rattle.packed_var.specs.declared.PackedVar.{PackedVar}
-use Rattle.packed_var.specs.declared.Refusal.{Refusal}
+use Rattle.symbolic_variable.specs.declared.Refusal.{Refusal}
 use Rattle.packed_var.specs.Packed.{packedAnswer}
 use Rattle.monomial.specs.Words.{held, Fits}
 use Rattle.expand.specs.Making.{single, constant, faultOf, Makes}

@@ -1,5 +1,6 @@
 // Packed variables, as PackedVar in monomial.rs.
 use symbolic_variable::Entry;
+use symbolic_variable::Refusal;
 use symbolic_variable::SymbolicVariable;
 ghost use mathlib.Core.Path.{_≡_};
 ghost use Prim.Native.Nat.{_+_, _*_, _<_};
@@ -8,11 +9,6 @@ ghost use Rattle.packed_var.specs.Packed.{variableRecord, refusedWith, p
 
 // A number with its own type: bits 0 to 3 type, 4 to 11 part, 12 to 15 offset, 16 to 31 column.
 pub struct PackedVar(pub u32);
-
-pub struct Refusal {
-    pub number: u32,
-    pub place: u32,
-}
 
 pub enum Packed {
     Var(PackedVar),

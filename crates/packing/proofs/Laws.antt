@@ -12,7 +12,7 @@ use Rattle.semantics.specs.Check.{Scan, reading, stopped, scanWords, judged}
 use Rattle.semantics.specs.Packing.{leafTests, packRecord, pack, unpacked, handsOut, unpack}
 use Rattle.symbolic_variable.specs.declared.Entry.{Entry}
 use Rattle.symbolic_variable.specs.declared.Entry.the-variants.{Preprocessed, Main, Public, Challenge}
-use Rattle.packed_var.specs.declared.Refusal.{Refusal}
+use Rattle.symbolic_variable.specs.declared.Refusal.{Refusal}
 use Rattle.packed_var.specs.declared.Packed.{Packed}
 use Rattle.packed_var.specs.declared.Packed.the-variants as packed′
 use Rattle.packed_var.specs.Packed.{entryRecord, packedAnswer}

@@ -7,7 +7,7 @@ use Rattle.semantics.specs.Check.{reading, scanWords, judged}
 use Rattle.semantics.specs.Packing.{leafTests}
 use Rattle.symbolic_variable.specs.declared.Entry.{Entry}
 use Rattle.symbolic_variable.specs.Variable.{variableOf}
-use Rattle.packed_var.specs.declared.Refusal.{Refusal}
+use Rattle.symbolic_variable.specs.declared.Refusal.{Refusal}
 use Rattle.packed_var.specs.Packed.{variableRecord}
 use Rattle.packing.specs.declared.leaf.Leaf.{Leaf}
 use Rattle.packing.specs.declared.leaf.Leaf.the-variants.{Variable, IsFirstRow, IsLastRow, IsTransition}

@@ -1,6 +1,6 @@
 // The leaf that a record's five words say: a variable or a row mark.
-use packed_var::Refusal;
 use symbolic_variable::Entry;
+use symbolic_variable::Refusal;
 use symbolic_variable::SymbolicVariable;
 ghost use mathlib.Core.Path.{_≡_};
 ghost use Prim.Native.Nat.{_≤_};

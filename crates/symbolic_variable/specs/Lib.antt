@@ -1,1 +1,2 @@
 pub mod Variable
+pub mod Replies

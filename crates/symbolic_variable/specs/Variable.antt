@@ -1,43 +1,33 @@
 -- Entries and variables of symbolic_variable.rs.
 use mathlib.Core.Bool.{cond}
+use mathlib.Core.List.{List, [], _∷_, _++_}
 use Prim.Native.Nat.{ℕ, _+_}
 use lib.Dec.{leb}
+use Rattle.semantics.specs.Answer.{Answer, good, refused, andThen}
 use Rattle.symbolic_variable.specs.declared.Entry.{Entry}
 use Rattle.symbolic_variable.specs.declared.Entry.the-variants.{Preprocessed, Main, Public, Challenge}
-use Rattle.symbolic_variable.specs.declared.EntryOffset.{EntryOffset}
-use Rattle.symbolic_variable.specs.declared.EntryOffset.the-variants.{At, Nowhere}
-use Rattle.symbolic_variable.specs.declared.Rotated.{Rotated}
-use Rattle.symbolic_variable.specs.declared.Rotated.the-variants.{To, TooFar}
 use Rattle.symbolic_variable.specs.declared.SymbolicVariable.{SymbolicVariable}
-use Rattle.symbolic_variable.specs.declared.RotatedVariable.{RotatedVariable}
-use Rattle.symbolic_variable.specs.declared.RotatedVariable.the-variants as variable
-use Rattle.symbolic_variable.specs.declared.Sum.{Sum}
-use Rattle.symbolic_variable.specs.declared.Sum.the-variants.{Fits, TooLarge}
 
--- A sum, where a usize holds it.
-unfoldable pub sumOf : ℕ → ℕ → Sum
-sumOf a b = cond (leb (a + b) 18446744073709551615) (Fits (a + b)) TooLarge
+-- "a entry (0 preprocessed, 1 main, 2 challenge, 3 public), b part (0 unless main), c offset (0 for 2 and 3)"
+abbrev pub entryWords : Entry → List ℕ
+entryWords (Preprocessed o) = 0 ∷ 0 ∷ o ∷ []
+entryWords (Main p o) = 1 ∷ p ∷ o ∷ []
+entryWords Challenge = 2 ∷ 0 ∷ 0 ∷ []
+entryWords Public = 3 ∷ 0 ∷ 0 ∷ []
 
-abbrev pub offsetOf : Entry → EntryOffset
-offsetOf (Preprocessed o) = At o
-offsetOf (Main p o) = At o
-offsetOf Public = Nowhere
-offsetOf Challenge = Nowhere
+-- The entry's offset as the one number of a list; a public or a challenge entry has none.
+abbrev pub entryOffset : Entry → List ℕ
+entryOffset (Preprocessed o) = o ∷ []
+entryOffset (Main p o) = o ∷ []
+entryOffset Public = []
+entryOffset Challenge = []
 
--- The entry at an offset that is a sum.
-abbrev pub entryAt : (ℕ → Entry) → Sum → Rotated
-entryAt make (Fits o) = To (make o)
-entryAt make TooLarge = TooFar
+abbrev pub variableOf : Entry → (column : ℕ) → SymbolicVariable
+variableOf e d = record { entry = e; index = d }
 
--- "Advance the internal offset of the entry by the given offset"; public and challenge entries have none.
-abbrev pub entryRotated : Entry → ℕ → Rotated
-entryRotated (Preprocessed o) k = entryAt Preprocessed (sumOf o k)
-entryRotated (Main p o) k = entryAt (Main p) (sumOf o k)
-entryRotated Public k = To Public
-entryRotated Challenge k = To Challenge
-
-abbrev pub variableOf : Entry → ℕ → SymbolicVariable
-variableOf e i = record { entry = e; index = i }
+-- The entry's words, and "d column".
+abbrev pub variableWords : SymbolicVariable → List ℕ
+variableWords v = entryWords (v .entry) ++ (v .index ∷ [])
 
 abbrev pub degreeMultiple : Entry → ℕ
 degreeMultiple (Preprocessed o) = 1
@@ -45,10 +35,17 @@ degreeMultiple (Main p o) = 1
 degreeMultiple Public = 0
 degreeMultiple Challenge = 0
 
--- The column stays.
-abbrev pub variableAt : (index : ℕ) → Rotated → RotatedVariable
-variableAt i (To e) = variable.To (variableOf e i)
-variableAt i TooFar = variable.TooFar
+-- An offset moved on; 11, place 0, where it is then above 2^64 − 1, the most that an entry holds.
+unfoldable pub offsetMoved : (offset by : ℕ) → Answer ℕ
+offsetMoved o k = cond (leb (o + k) 18446744073709551615) (good (o + k)) (refused 11 0)
 
-abbrev pub variableRotated : SymbolicVariable → ℕ → RotatedVariable
-variableRotated v k = variableAt (v .index) (entryRotated (v .entry) k)
+-- The Rust: "Advance the internal offset of the entry by the given `offset`"; public and challenge entries have none.
+abbrev pub entryRotated : Entry → ℕ → Answer Entry
+entryRotated (Preprocessed o) k = andThen (offsetMoved o k) (λ m. good (Preprocessed m))
+entryRotated (Main p o) k = andThen (offsetMoved o k) (λ m. good (Main p m))
+entryRotated Public k = good Public
+entryRotated Challenge k = good Challenge
+
+-- The column stays.
+abbrev pub variableRotated : SymbolicVariable → ℕ → Answer SymbolicVariable
+variableRotated v k = andThen (entryRotated (v .entry) k) (λ e. good (variableOf e (v .index)))

@@ -1,6 +1,13 @@
 // Entries and variables, as in symbolic_variable.rs.
 ghost use mathlib.Core.Path.{_≡_};
-ghost use Rattle.symbolic_variable.specs.Variable.{sumOf, offsetOf, entryRotated, variableOf, degreeMultiple, variableRotated};
+ghost use Rattle.symbolic_variable.specs.Variable.{offsetMoved, variableOf, degreeMultiple};
+ghost use Rattle.symbolic_variable.specs.Replies.{offsetOutcome, offsetCall, sumAnswer, rotatedOutcome, rotateCall, refusalOf, rotatedVariableOutcome, rotateVariableCall};
+
+// A refusal is a number and a place.
+pub struct Refusal {
+    pub number: u32,
+    pub place: u32,
+}
 
 pub enum Entry {
     Preprocessed { offset: usize },
@@ -15,10 +22,10 @@ pub enum EntryOffset {
     Nowhere,
 }
 
-// An entry with its offset moved on, or an offset too large for a usize.
+// An entry with its offset moved on, or 11 where no usize holds the offset.
 pub enum Rotated {
     To(Entry),
-    TooFar,
+    Refused(Refusal),
 }
 
 // A variable within the evaluation window.
@@ -29,7 +36,7 @@ pub struct SymbolicVariable {
 
 pub enum RotatedVariable {
     To(SymbolicVariable),
-    TooFar,
+    Refused(Refusal),
 }
 
 enum Sum {
@@ -40,7 +47,7 @@ enum Sum {
 const LARGEST: usize = 18446744073709551615;
 
 fn plus(a: usize, b: usize) -> Sum
-    ensures { λ r. ⌜ r ≡ sumOf a b ⌝ }
+    ensures { λ r. ⌜ sumAnswer r ≡ offsetMoved a b ⌝ }
 {
     if LARGEST - a < b {
         return Sum::TooLarge;
@@ -48,9 +55,27 @@ fn plus(a: usize, b: usize) -> Sum
     Sum::Fits(a + b)
 }
 
+// The refusal of an offset that no usize holds.
+const TOO_FAR: Refusal = Refusal {
+    number: 11,
+    place: 0,
+};
+
+fn refusal_of(rotated: Rotated) -> Refusal
+    ensures { λ r. ⌜ r ≡ refusalOf rotated ⌝ }
+{
+    match rotated {
+        Rotated::Refused(refusal) => refusal,
+        Rotated::To(_) => Refusal {
+            number: 0,
+            place: 0,
+        },
+    }
+}
+
 impl Entry {
     pub fn offset(self) -> EntryOffset
-        ensures { λ r. ⌜ r ≡ offsetOf self ⌝ }
+        ensures { λ r. ⌜ offsetOutcome r ≡ offsetCall self ⌝ }
     {
         match self {
             Entry::Preprocessed { offset } => EntryOffset::At(offset),
@@ -65,12 +90,12 @@ impl Entry {
 
     // Advance the offset of the entry by the given `offset`.
     pub fn rotate(self, offset: usize) -> Rotated
-        ensures { λ r. ⌜ r ≡ entryRotated self offset ⌝ }
+        ensures { λ r. ⌜ rotatedOutcome r ≡ rotateCall self offset ⌝ }
     {
         match self {
             Entry::Preprocessed { offset: old_offset } => {
                 let Sum::Fits(sum) = plus(old_offset, offset) else {
-                    return Rotated::TooFar;
+                    return Rotated::Refused(TOO_FAR);
                 };
                 Rotated::To(Entry::Preprocessed { offset: sum })
             }
@@ -79,7 +104,7 @@ impl Entry {
                 offset: old_offset,
             } => {
                 let Sum::Fits(sum) = plus(old_offset, offset) else {
-                    return Rotated::TooFar;
+                    return Rotated::Refused(TOO_FAR);
                 };
                 Rotated::To(Entry::Main {
                     part_index,
@@ -92,7 +117,7 @@ impl Entry {
     }
 
     pub fn next(self) -> Rotated
-        ensures { λ r. ⌜ r ≡ entryRotated self 1 ⌝ }
+        ensures { λ r. ⌜ rotatedOutcome r ≡ rotateCall self 1 ⌝ }
     {
         self.rotate(1)
     }
@@ -121,11 +146,12 @@ impl SymbolicVariable {
     }
 
     pub fn rotate(self, offset: usize) -> RotatedVariable
-        ensures { λ r. ⌜ r ≡ variableRotated self offset ⌝ }
+        ensures { λ r. ⌜ rotatedVariableOutcome r ≡ rotateVariableCall self offset ⌝ }
     {
         let entry = self.entry;
-        let Rotated::To(moved) = entry.rotate(offset) else {
-            return RotatedVariable::TooFar;
+        let rotated = entry.rotate(offset);
+        let Rotated::To(moved) = rotated else {
+            return RotatedVariable::Refused(refusal_of(rotated));
         };
         RotatedVariable::To(SymbolicVariable {
             entry: moved,
@@ -134,7 +160,7 @@ impl SymbolicVariable {
     }
 
     pub fn next(self) -> RotatedVariable
-        ensures { λ r. ⌜ r ≡ variableRotated self 1 ⌝ }
+        ensures { λ r. ⌜ rotatedVariableOutcome r ≡ rotateVariableCall self 1 ⌝ }
     {
         self.rotate(1)
     }

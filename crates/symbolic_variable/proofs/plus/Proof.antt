@@ -1,7 +1,8 @@
+-- The sum is made where it fits.
 use borrow.Author.Needs.{needs}
 use Prim.Native.Nat.{_+_}
 use borrow.Author.Tests.{le-leb, lt-leb}
-use Rattle.symbolic_variable.specs.Variable.{sumOf}
+use Rattle.symbolic_variable.specs.Variable.{offsetMoved}
 use Rattle.symbolic_variable.proofs.plus.Statement.{statement}
 use Rattle.symbolic_variable.proofs.plus.Tie as tie
 
@@ -9,7 +10,7 @@ sub-if1 : tie.Need-sub-if1
 sub-if1 c = search needs
 
 returns : tie.Need-returns
-unfolding sumOf
+unfolding offsetMoved
 returns c =
     let args = c .before .args in
     simp (lt-leb (args .a + args .b) 18446744073709551615 (search needs))
@@ -18,7 +19,7 @@ add-t3 : tie.Need-add-t3
 add-t3 c = search needs
 
 returns-2 : tie.Need-returns-2
-unfolding sumOf
+unfolding offsetMoved
 returns-2 c =
     let args = c .before .args in
     simp (le-leb (args .a + args .b) 18446744073709551615 (search needs))

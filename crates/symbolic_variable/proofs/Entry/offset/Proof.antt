@@ -1,6 +1,8 @@
+-- By the four kinds of entry.
 use borrow.Author.Needs.{needs}
 use mathlib.Core.Path.{sym, ap}
-use Rattle.symbolic_variable.specs.Variable.{offsetOf}
+use Rattle.semantics.specs.Call.{outcome, result, paddedAll}
+use Rattle.symbolic_variable.specs.Replies.{offsetCall}
 use Rattle.symbolic_variable.proofs.Entry.offset.Statement.{statement}
 use Rattle.symbolic_variable.proofs.Entry.offset.Tie as tie
 
@@ -17,16 +19,20 @@ enum-told-2 : tie.Need-enum-told-2
 enum-told-2 c = search needs
 
 returns : tie.Need-returns
-returns c = sym (ap offsetOf (c .before .self .given .1))
+unfolding offsetCall outcome result paddedAll
+returns c = sym (ap offsetCall (c .before .self .given .1))
 
 returns-2 : tie.Need-returns-2
-returns-2 c = sym (ap offsetOf (c .before .self2 .given .1))
+unfolding offsetCall outcome result paddedAll
+returns-2 c = sym (ap offsetCall (c .before .self2 .given .1))
 
 returns-3 : tie.Need-returns-3
-returns-3 c = search needs
+unfolding offsetCall outcome result paddedAll
+returns-3 c = sym (ap offsetCall (c .enum-told .given .1))
 
 returns-4 : tie.Need-returns-4
-returns-4 c = search needs
+unfolding offsetCall outcome result paddedAll
+returns-4 c = sym (ap offsetCall (c .enum-told2 .given .1))
 
 pub offset-spec : {M : Type 1} → statement M
 offset-spec =

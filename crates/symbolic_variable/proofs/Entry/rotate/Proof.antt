@@ -1,10 +1,8 @@
+-- By the four kinds of entry: where there is an offset, by the sum that `plus` answers; the others stay.
 use borrow.Author.Needs.{needs}
-use mathlib.Core.Path.{_≡_, refl, sym, ap, subst}
-use Rattle.symbolic_variable.specs.declared.Entry.{Entry}
+use mathlib.Core.Path.{refl}
 use Rattle.symbolic_variable.specs.declared.Entry.the-variants.{Preprocessed, Main}
-use Rattle.symbolic_variable.specs.declared.Rotated.the-variants.{To}
-use Rattle.symbolic_variable.specs.Variable.{entryRotated}
-use Rattle.symbolic_variable.proofs.Laws.{turned}
+use Rattle.symbolic_variable.proofs.Laws.{stays, turned}
 use Rattle.symbolic_variable.proofs.Entry.rotate.Statement.{statement}
 use Rattle.symbolic_variable.proofs.Entry.rotate.Tie as tie
 
@@ -22,9 +20,9 @@ enum-told c = search needs
 
 returns : tie.Need-returns
 returns c =
-    let args = c .before .before .before .before .before .before .args in
-    turned Preprocessed (args .self) (args .offset) (c .enum-told .given .1) (c .before .before .plus .ensures)
-    (ap (λ (e : Entry). entryRotated e (args .offset)) (c .before .before .before .before .self .given .1))
+    let summed = c .before .before in
+    let known = summed .before .before in
+    turned Preprocessed (λ o k. refl) _ (known .self .given .1) (summed .plus .ensures) (c .enum-told .given .1)
 
 enum-known-self-2 : tie.Need-enum-known-self-2
 enum-known-self-2 c = search needs
@@ -40,10 +38,9 @@ enum-told-2 c = search needs
 
 returns-2 : tie.Need-returns-2
 returns-2 c =
-    let self2 = c .before .before .before .before .self2 in
-    let args = c .before .before .before .before .before .before .args in
-    turned (Main (self2 .given .0 .0)) (args .self) (args .offset) (c .enum-told2 .given .1) (c .before .before .plus2 .ensures)
-    (ap (λ (e : Entry). entryRotated e (args .offset)) (self2 .given .1))
+    let summed = c .before .before in
+    let known = summed .before .before in
+    turned (Main (known .self2 .given .0 .0)) (λ o k. refl) _ (known .self2 .given .1) (summed .plus2 .ensures) (c .enum-told2 .given .1)
 
 enum-told-3 : tie.Need-enum-told-3
 enum-told-3 c = search needs
@@ -53,22 +50,21 @@ enum-told-4 c = search needs
 
 returns-3 : tie.Need-returns-3
 returns-3 c =
-    let args = c .before .before .before .before .before .before .before .args in
-    turned Preprocessed (args .self) (args .offset) (c .before .sum .given .1) (c .before .before .before .plus .ensures)
-    (ap (λ (e : Entry). entryRotated e (args .offset)) (c .before .before .before .before .before .self .given .1))
+    let summed = c .before .before .before in
+    let known = summed .before .before in
+    turned Preprocessed (λ o k. refl) _ (known .self .given .1) (summed .plus .ensures) (c .before .sum .given .1)
 
 returns-4 : tie.Need-returns-4
 returns-4 c =
-    let self2 = c .before .before .before .before .before .self2 in
-    let args = c .before .before .before .before .before .before .before .args in
-    turned (Main (self2 .given .0 .0)) (args .self) (args .offset) (c .before .sum2 .given .1) (c .before .before .before .plus2 .ensures)
-    (ap (λ (e : Entry). entryRotated e (args .offset)) (self2 .given .1))
+    let summed = c .before .before .before in
+    let known = summed .before .before in
+    turned (Main (known .self2 .given .0 .0)) (λ o k. refl) _ (known .self2 .given .1) (summed .plus2 .ensures) (c .before .sum2 .given .1)
 
 returns-5 : tie.Need-returns-5
-returns-5 c = subst (λ (e : Entry). To e ≡ entryRotated e (c .before .before .args .offset)) (sym (c .enum-told3 .given .1)) refl
+returns-5 c = stays _ (c .enum-told3 .given .1) refl
 
 returns-6 : tie.Need-returns-6
-returns-6 c = subst (λ (e : Entry). To e ≡ entryRotated e (c .before .before .args .offset)) (sym (c .enum-told4 .given .1)) refl
+returns-6 c = stays _ (c .enum-told4 .given .1) refl
 
 pub rotate-spec : {M : Type 1} → statement M
 rotate-spec =

@@ -1,24 +1,38 @@
+-- The answer is that of the entry, with the column behind it.
 use borrow.Author.Needs.{needs}
-use mathlib.Core.Path.{sym, ap, _∙_}
-use Rattle.symbolic_variable.specs.Variable.{variableAt}
+use mathlib.Core.Path.{ap, _∙_}
+use Rattle.symbolic_variable.specs.declared.Refusal.{Refusal}
+use Rattle.symbolic_variable.specs.declared.RotatedVariable.the-variants.{Refused}
+use Rattle.symbolic_variable.specs.Replies.{refusalOf, rotatedVariableOutcome}
+use Rattle.symbolic_variable.proofs.Laws.{variable-turned}
 use Rattle.symbolic_variable.proofs.SymbolicVariable.rotate.Statement.{statement}
 use Rattle.symbolic_variable.proofs.SymbolicVariable.rotate.Tie as tie
 
 rotate-requires : tie.Need-rotate-requires
 rotate-requires c κs = search needs
 
-enum-known-moved : tie.Need-enum-known-moved
-enum-known-moved c = search needs
+enum-known-rotated : tie.Need-enum-known-rotated
+enum-known-rotated c = search needs
 
 enum-told : tie.Need-enum-told
 enum-told c = search needs
 
+refusal-of-requires : tie.Need-refusal-of-requires
+refusal-of-requires c κs = search needs
+
 returns : tie.Need-returns
-returns c = ap (variableAt (c .before .before .before .args .self .index)) (sym (c .enum-told .given .1) ∙ c .before .before .rotate .ensures)
+returns c =
+    let rotated = c .before .before .before in
+    let self = rotated .before .args .self in
+    ap (λ (r : Refusal). rotatedVariableOutcome (Refused r)) (c .refusal-of .ensures ∙ ap refusalOf (c .before .enum-told .given .1))
+    ∙ variable-turned self _ (rotated .rotate .ensures) (c .before .enum-told .given .1)
 
 returns-2 : tie.Need-returns-2
 returns-2 c =
-    ap (variableAt (c .before .before .before .before .args .self .index)) (sym (c .before .moved .given .1) ∙ c .before .before .before .rotate .ensures)
+    let rotated = c .before .before .before in
+    variable-turned (rotated .before .args .self) _ (rotated .rotate .ensures) (c .before .rotated .given .1)
 
 pub rotate-spec : {M : Type 1} → statement M
-rotate-spec = tie.close (tie.spec rotate-requires enum-known-moved enum-told returns returns-2)
+rotate-spec =
+    tie.close
+    (tie.spec rotate-requires enum-known-rotated enum-told refusal-of-requires returns returns-2)

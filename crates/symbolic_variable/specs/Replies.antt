@@ -1,0 +1,59 @@
+-- The calls of this crate, and what their answers stand for (01, "What each call hands back").
+use mathlib.Core.List.{List, [], _∷_}
+use Prim.Native.Nat.{ℕ}
+use Rattle.semantics.specs.Answer.{Answer, good, refused, andThen}
+use Rattle.semantics.specs.Call.{Outcome, outcome, result}
+use Rattle.symbolic_variable.specs.declared.Refusal.{Refusal}
+use Rattle.symbolic_variable.specs.declared.Entry.{Entry}
+use Rattle.symbolic_variable.specs.declared.EntryOffset.{EntryOffset}
+use Rattle.symbolic_variable.specs.declared.EntryOffset.the-variants.{At, Nowhere}
+use Rattle.symbolic_variable.specs.declared.SymbolicVariable.{SymbolicVariable}
+use Rattle.symbolic_variable.specs.declared.Rotated.{Rotated}
+use Rattle.symbolic_variable.specs.declared.Rotated.the-variants as entry
+use Rattle.symbolic_variable.specs.declared.RotatedVariable.{RotatedVariable}
+use Rattle.symbolic_variable.specs.declared.RotatedVariable.the-variants as variable
+use Rattle.symbolic_variable.specs.declared.Sum.{Sum}
+use Rattle.symbolic_variable.specs.declared.Sum.the-variants.{Fits, TooLarge}
+use Rattle.symbolic_variable.specs.Variable.{entryWords, entryOffset, variableWords, entryRotated, variableRotated}
+
+-- Acceptance is number 0, here with numbers and no slices.
+abbrev pub acceptedOutcome : (numbers : List ℕ) → Outcome
+acceptedOutcome ns = record { reply = record { number = 0; place = 0; counts = []; numbers = ns }; slices = [] }
+
+-- "A refusal is a number and a place"
+abbrev pub refusedOutcome : Refusal → Outcome
+refusedOutcome r = record { reply = record { number = r .number; place = r .place; counts = []; numbers = [] }; slices = [] }
+
+-- An entry's offset: one number, or none.
+abbrev pub offsetOutcome : EntryOffset → Outcome
+offsetOutcome (At o) = acceptedOutcome (o ∷ [])
+offsetOutcome Nowhere = acceptedOutcome []
+
+unfoldable pub offsetCall : Entry → Outcome
+offsetCall e = outcome [] [] (result [] (entryOffset e))
+
+-- The sum of two offsets, or "11: offset above 15" for one that is too large.
+abbrev pub sumAnswer : Sum → Answer ℕ
+sumAnswer (Fits n) = good n
+sumAnswer TooLarge = refused 11 0
+
+-- An entry that was rotated: its three words.
+abbrev pub rotatedOutcome : Rotated → Outcome
+rotatedOutcome (entry.To e) = acceptedOutcome (entryWords e)
+rotatedOutcome (entry.Refused r) = refusedOutcome r
+
+unfoldable pub rotateCall : Entry → (offset : ℕ) → Outcome
+rotateCall e k = outcome [] [] (andThen (entryRotated e k) (λ m. result [] (entryWords m)))
+
+-- The refusal of a rotation that was refused.
+abbrev pub refusalOf : Rotated → Refusal
+refusalOf (entry.To e) = record { number = 0; place = 0 }
+refusalOf (entry.Refused r) = r
+
+-- A variable that was rotated: its entry's three words, then its column.
+abbrev pub rotatedVariableOutcome : RotatedVariable → Outcome
+rotatedVariableOutcome (variable.To v) = acceptedOutcome (variableWords v)
+rotatedVariableOutcome (variable.Refused r) = refusedOutcome r
+
+unfoldable pub rotateVariableCall : SymbolicVariable → (offset : ℕ) → Outcome
+rotateVariableCall v k = outcome [] [] (andThen (variableRotated v k) (λ m. result [] (variableWords m)))
