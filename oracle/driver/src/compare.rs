@@ -443,7 +443,7 @@ fn wrapped(record: &Record) -> Record {
 }
 
 /// The Rust's message where a variable cannot be packed.
-fn panic_of(number: u32) -> &'static str {
+pub fn panic_of(number: u32) -> &'static str {
     match number {
         8 => "symbolic column index exceeds PackedVar capacity",
         9 => "unsupported symbolic entry in zerocheck monomial extraction",

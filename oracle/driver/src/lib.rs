@@ -25,3 +25,4 @@ pub mod single;
 #[cfg(feature = "rattle")]
 pub mod stack;
 pub mod table;
+pub mod variables;

@@ -9,15 +9,18 @@ use driver::examples::{examples, Example};
 use driver::implementation::{Implementation, Plain};
 use driver::runs::{Run, STACK};
 use driver::sheets::SHAPES;
-use driver::table::Table;
-use driver::{parts, rust, sample};
+use driver::table::{print_parts, Table};
+use driver::{parts, rust, sample, variables};
 use plain::calls::WORK;
 
 const USAGE: &str = "usage:
   driver plain-vs-rust [SHEETS] [SEED]   random sheets: the plain Rust written from document 01 against the Rust
   driver examples                        the examples of document 01 and of the known differences, likewise
   driver sheetlist                       what sheetlist prints for standard input, by the plain Rust
-  driver sample                          sheets of all shapes with the Rust's graphs and lists, and refusals";
+  driver sample                          sheets of all shapes with the Rust's graphs and lists, and refusals
+  driver variables cases                 cases for the program variables, entries and variables around every bound
+  driver variables answers               what the Rust answers to them
+  driver variables compare PROGRAM [CASES] [SEED]   the program on these and on random cases, against the Rust";
 
 fn main() -> ExitCode {
     let arguments: Vec<String> = std::env::args().skip(1).collect();
@@ -26,14 +29,25 @@ fn main() -> ExitCode {
         None => Some(usual),
     };
     let texts: Vec<&str> = arguments.iter().map(String::as_str).collect();
-    let run: Box<dyn FnOnce() -> bool + Send> = match (&texts[..], number(1, 20_000), number(2, 1))
-    {
-        (["plain-vs-rust", ..], Some(sheets), Some(seed)) => {
+    let seeds = |k: usize, usual: u64| number(k, usual).zip(number(k + 1, 1));
+    type Steps = Box<dyn FnOnce() -> bool + Send>;
+    let run: Steps = match (&texts[..], seeds(1, 20_000), seeds(3, 100_000)) {
+        (["plain-vs-rust", ..], Some((sheets, seed)), _) => {
             Box::new(move || random_sheets(&Plain, sheets, seed))
         }
         (["examples"], ..) => Box::new(|| all_examples(&Plain)),
         (["sheetlist"], ..) => Box::new(list_input),
-        (["sample"], ..) => Box::new(|| print_sample(sample::sample())),
+        (["sample"], ..) => Box::new(|| print_text(sample::sample())),
+        (["variables", "cases"], ..) => {
+            Box::new(|| print_text(variables::input(&variables::edges())))
+        }
+        (["variables", "answers"], ..) => {
+            Box::new(|| print_text(variables::answers(&variables::edges())))
+        }
+        (["variables", "compare", program, ..], _, Some((cases, seed))) => {
+            let program = program.to_string();
+            Box::new(move || compare_variables(&program, cases, seed))
+        }
         _ => {
             eprintln!("{USAGE}");
             return ExitCode::from(2);
@@ -100,7 +114,18 @@ fn found(under_test: &dyn Implementation, example: &Example) -> (usize, usize, R
     (graph[1] as usize, graph[2] as usize, headers)
 }
 
-fn print_sample(text: String) -> bool {
+/// The program `variables` around every bound and on random cases; whether no difference is left unexplained and each kind has a
+/// case.
+fn compare_variables(program: &str, count: u64, seed: u64) -> bool {
+    let cases = [variables::edges(), variables::cases(count, seed)].concat();
+    let part = variables::compare(program, &cases);
+    let (differences, empty) = (part.table.differences(), part.empty().count());
+    print_parts(&[part]);
+    println!("\nunexplained differences: {differences}; kinds without a case: {empty}");
+    differences == 0 && empty == 0
+}
+
+fn print_text(text: String) -> bool {
     print!("{text}");
     true
 }

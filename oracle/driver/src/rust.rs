@@ -298,7 +298,7 @@ pub fn keep_caught_panics_quiet() {
     }));
 }
 
-fn caught<T>(run: impl FnOnce() -> T) -> Caught<T> {
+pub fn caught<T>(run: impl FnOnce() -> T) -> Caught<T> {
     CATCHING.set(true);
     let result = panic::catch_unwind(AssertUnwindSafe(run));
     CATCHING.set(false);
