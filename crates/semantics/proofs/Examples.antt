@@ -165,6 +165,10 @@ sumsFrom at next (suc n) = recordOf 6 at next 1 0 ∷ sumsFrom (suc at) (suc nex
 seventeen : List Record
 seventeen = manyVars 0 17 ++ (recordOf 6 0 1 1 0 ∷ sumsFrom 17 2 15)
 
+-- A sheet of v and w whose one interaction has the count `count` and the message `field`.
+oneField : (count field : ℕ) → List Record → Sheet
+oneField count field rs = record { records = rs; constraints = []; interactions = record { bus = 7; weight = 1; count = count; message = field ∷ [] } ∷ [] }
+
 fault : Record → ℕ
 unfolding expands
 fault r = recordFault prime (seventeen ++ (r ∷ [])) 33
@@ -174,8 +178,10 @@ further :
     (builds (v ∷ w ∷ recordOf 6 0 1 1 0 ∷ []) (2 ∷ 0 ∷ []) ≡ graph 6 (words (v ∷ w ∷ recordOf 6 0 1 1 0 ∷ []) (0 ∷ 2 ∷ [])) 3)
     × (expands (words (v ∷ w ∷ recordOf 6 0 1 1 0 ∷ []) (0 ∷ 2 ∷ []))
     ≡ expanded (0 ∷ 0 ∷ 1 ∷ 2 ∷ 1 ∷ 2 ∷ 1 ∷ 1 ∷ []) (1 ∷ 65537 ∷ []) (0 ∷ 1 ∷ 1 ∷ 1 ∷ 1 ∷ 1 ∷ []))
+    -- the field's record goes in before the count's
+    × (builderCall prime (encode (oneField 0 1 (v ∷ w ∷ []))) 2 19 ≡ graph 2 (encode (oneField 1 0 (w ∷ v ∷ []))) 0)
     -- 256 working monomials pass, 272 give 12 although only 152 are left of them when they are combined
     × (fault (recordOf 9 31 31 2 0) ≡ 0)
     × (fault (recordOf 9 31 32 2 0) ≡ 12)
-unfolding sheetOf builds words graph expands expanded fault seventeen manyVars sumsFrom
-further = (refl, refl, refl, refl)
+unfolding sheetOf builds words graph expands expanded oneField fault seventeen manyVars sumsFrom
+further = (refl, refl, refl, refl, refl)
