@@ -25,7 +25,7 @@ use Rattle.semantics.proofs.Sorting.{all-at}
 use Rattle.semantics.proofs.Acceptance.{Within, words-there, judged-sent, check-sent, then-sent, result-sent, needs-sent, pack-fault, walk-sent, fitted-sent}
 
 -- The number of a call's reply is 0 or that of its refusal.
-sends : (ns scratch lent : List ℕ) (a : Answer Result) → Within ns a → Sends ns (outcome scratch lent a)
+pub sends : (ns scratch lent : List ℕ) (a : Answer Result) → Within ns a → Sends ns (outcome scratch lent a)
 unfolding outcome member
 sends ns scratch lent (good r) h = refl
 sends ns scratch lent (refused n k) h = mem-there n 0 ns h

@@ -3,6 +3,7 @@ use mathlib.Core.List.{List, [], _∷_}
 use Prim.Native.Nat.{ℕ}
 use Rattle.semantics.specs.Answer.{Answer, good, refused, andThen}
 use Rattle.semantics.specs.Call.{Outcome, outcome, result}
+use Rattle.semantics.specs.Refusals.{Sends}
 use Rattle.symbolic_variable.specs.declared.Refusal.{Refusal}
 use Rattle.symbolic_variable.specs.declared.Entry.{Entry}
 use Rattle.symbolic_variable.specs.declared.EntryOffset.{EntryOffset}
@@ -57,3 +58,8 @@ rotatedVariableOutcome (variable.Refused r) = refusedOutcome r
 
 unfoldable pub rotateVariableCall : SymbolicVariable → (offset : ℕ) → Outcome
 rotateVariableCall v k = outcome [] [] (andThen (variableRotated v k) (λ m. result [] (variableWords m)))
+
+-- Of the listed refusals these calls send 11 alone.
+pub record RotateRefusals : Type 0 where
+  pub entry : (e : Entry) (offset : ℕ) → Sends (11 ∷ []) (rotateCall e offset)
+  pub variable : (v : SymbolicVariable) (offset : ℕ) → Sends (11 ∷ []) (rotateVariableCall v offset)
