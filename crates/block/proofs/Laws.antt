@@ -1,6 +1,6 @@
 -- Laws of words, sums and checks. Assumes nothing.
 use mathlib.Core.Path.{_≡_, refl, sym, ap, _∙_}
-use mathlib.Core.Bool.{Bool, cond}
+use mathlib.Core.Bool.{Bool, true, false, cond}
 use mathlib.Core.List.{List, [], _∷_}
 use Prim.Native.Nat.{ℕ, suc, _+_, _*_, _-_, _%_, _≤_, _<_}
 use native.Mathlib.Omega.{arith}
@@ -9,12 +9,12 @@ use lib.Dec.{eqb}
 use lib.ListN.{length, getD, drop}
 use lib.Seq.{getD-drop, drop-drop}
 use borrow.Author.Tests.{eq-eqb, ne-eqb}
-use Rattle.semantics.specs.Answer.{Answer, good, refused, andThen}
+use Rattle.semantics.specs.Answer.{andThen}
 use Rattle.semantics.specs.Block.{wordAt, wordsOf, total, checkWord, blockGood, blockCheck}
-use Rattle.semantics.proofs.Basics.{cond-true, cond-false}
+use Rattle.semantics.specs.Call.{outcome, paddedAll, result, blockCheckCall}
 use Rattle.block.specs.declared.BlockChecked.{BlockChecked}
 use Rattle.block.specs.declared.BlockChecked.the-variants.{Yes, No, Refused}
-use Rattle.block.specs.Checked.{checkedAnswer}
+use Rattle.block.specs.Checked.{blockOutcome}
 
 -- a word by its four bytes
 pub word-of : (bs : List ℕ) (at : ℕ) {a b c d : ℕ} → a ≡ getD bs at 0 → b ≡ getD bs (at + 1) 0 → c ≡ getD bs (at + 2) 0 → d ≡ getD bs (at + 3) 0
@@ -53,10 +53,19 @@ pub good-at : (bs : List ℕ) (at number : ℕ) {x y : ℕ} → x ≡ wordAt (dr
 unfolding blockGood
 good-at bs at number p q = (λ i. eqb (p i) (q i)) ∙ ap (λ (l : List ℕ). eqb (wordAt l) (checkWord number (wordsOf 127 (drop at bs)))) (sym (drop-drop 508 at bs))
 
-pub length-right : (number : ℕ) (bs : List ℕ) {t : Bool} → length bs ≡ 512 → t ≡ blockGood number bs → good t ≡ blockCheck number bs
-unfolding blockCheck
-length-right number bs h e = ap good e ∙ sym (cond-true (eqb (length bs) 512) _ _ (eq-eqb (length bs) 512 h))
+-- yes or no, or the refusal of a slice that is not of 512 bytes
+abbrev answerOf : Bool → BlockChecked
+answerOf true = Yes
+answerOf false = No
 
-pub length-wrong : (number : ℕ) (bs : List ℕ) → (length bs ≡ 512 → ⊥) → refused 1 0 ≡ blockCheck number bs
-unfolding blockCheck
-length-wrong number bs h = sym (cond-false (eqb (length bs) 512) _ _ (ne-eqb (length bs) 512 h))
+pub length-right : (number : ℕ) (bs : List ℕ) {t : Bool} → length bs ≡ 512 → t ≡ blockGood number bs → blockOutcome (answerOf t) ≡ blockCheckCall bs number
+unfolding blockCheckCall outcome andThen result paddedAll blockCheck
+length-right number bs {t} h e = rw (eq-eqb (length bs) 512 h, ← e) (go t)
+  where
+    go : (t : Bool) → blockOutcome (answerOf t) ≡ outcome [] [] (result [] (cond t 1 0 ∷ []))
+    go true = refl
+    go false = refl
+
+pub length-wrong : (number : ℕ) (bs : List ℕ) → (length bs ≡ 512 → ⊥) → blockOutcome (Refused (record { number = 1; place = 0 })) ≡ blockCheckCall bs number
+unfolding blockCheckCall outcome andThen result paddedAll blockCheck
+length-wrong number bs h = rw (ne-eqb (length bs) 512 h)

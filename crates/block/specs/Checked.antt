@@ -1,11 +1,14 @@
--- What the answers of this crate stand for.
-use mathlib.Core.Bool.{Bool, true, false}
-use Rattle.semantics.specs.Answer.{Answer, good, refused}
+-- What the answers of this crate stand for (01, "What each call hands back").
+use mathlib.Core.List.{[], _∷_}
+use Rattle.semantics.specs.Call.{Reply, Outcome, acceptedWith, refusedWith}
 use Rattle.block.specs.declared.BlockChecked.{BlockChecked}
 use Rattle.block.specs.declared.BlockChecked.the-variants.{Yes, No, Refused}
 
--- "says yes or no", or refuses with a number and a place
-abbrev pub checkedAnswer : BlockChecked → Answer Bool
-checkedAnswer Yes = good true
-checkedAnswer No = good false
-checkedAnswer (Refused r) = refused (r .number) (r .place)
+-- The block check "says yes or no": 1 or 0.
+abbrev pub blockReply : BlockChecked → Reply
+blockReply Yes = acceptedWith [] (1 ∷ [])
+blockReply No = acceptedWith [] (0 ∷ [])
+blockReply (Refused r) = refusedWith (r .number) (r .place)
+
+abbrev pub blockOutcome : BlockChecked → Outcome
+blockOutcome r = record { reply = blockReply r; slices = [] }

@@ -1,7 +1,7 @@
 // Blocks of 512 bytes: 127 words and a check word.
 ghost use mathlib.Core.Path.{_≡_};
-ghost use Rattle.semantics.specs.Block.{blockCheck};
-ghost use Rattle.block.specs.Checked.{checkedAnswer};
+ghost use Rattle.semantics.specs.Call.{blockCheckCall};
+ghost use Rattle.block.specs.Checked.{blockOutcome};
 
 pub mod words;
 
@@ -18,7 +18,7 @@ pub enum BlockChecked {
 
 // Whether a block has the check word that its words and its number, counted from 1, ask for.
 pub fn block_check(bytes: &[u8], number: u32) -> BlockChecked
-    ensures { λ r. ⌜ checkedAnswer r ≡ blockCheck number (now (bytes .entry)) ⌝ }
+    ensures { λ r. ⌜ blockOutcome r ≡ blockCheckCall (now (bytes .entry)) number ⌝ }
 {
     if bytes.len() != 512 {
         return BlockChecked::Refused(Refusal {

@@ -13,8 +13,7 @@ use Rattle.semantics.specs.Check.{check}
 use Rattle.semantics.specs.Block.{wordBytes, wordsOf, checkWord, firstWords, blockBytes, writeBlocks, blocksFor}
 use Rattle.semantics.proofs.Blocks.{Words, words-back, first-length, first-add, written-length}
 use Rattle.sheet.specs.declared.Head.{Head}
-use Rattle.sheet.specs.Scans.{headOf}
-use Rattle.sheet.proofs.Answers.{words-found}
+use Rattle.sheet.proofs.Answers.{headOf, words-found}
 use Rattle.slices.proofs.Laws.{put-next}
 
 -- Four bytes, one behind the other.

@@ -1,8 +1,10 @@
 // A reply for C: its number, its place, and its counts or numbers, 0 where it has none.
 ghost use mathlib.Core.Path.{_≡_};
-ghost use Rattle.sheet.specs.Replies.{writtenReply};
+ghost use Rattle.packed_var.specs.Packed.{packedReply};
+ghost use Rattle.packing.specs.Leaves.{unpackedReply};
+ghost use Rattle.block.specs.Checked.{blockReply};
+ghost use Rattle.sheet.specs.Replies.{checkedReply, writtenReply};
 ghost use Rattle.sheet_calls.specs.Replies.{countedReply};
-ghost use Rattle.c_replies.specs.Replies.{packedReply, unpackedReply, blockReply, checkedReply};
 ghost use Rattle.c_replies.specs.Fields.{packedFields, recordFields, blockFields, sheetFields, numberFields, writtenFields};
 use block::BlockChecked;
 use packed_var::Packed;

@@ -12,13 +12,13 @@ use Rattle.semantics.specs.Answer.{Answer, good, refused}
 use Rattle.semantics.specs.Sheet.{Sheet, encode, lengthOf}
 use Rattle.semantics.specs.Check.{readSheet, check}
 use Rattle.semantics.specs.Graph.{graphOf}
-use Rattle.semantics.specs.Call.{Result, outcome, needs, result, builderCall, zeros, paddedAll}
+use Rattle.semantics.specs.Call.{Result, outcome, needs, result, builderCall, checkCall, zeros, paddedAll}
 use Rattle.semantics.proofs.Basics.{cond-true, cond-false}
 use Rattle.sheet.specs.declared.Refusal.{Refusal}
 use Rattle.sheet.specs.declared.Checked.{Checked}
 use Rattle.sheet.specs.declared.Checked.the-variants as checked
 use Rattle.sheet.specs.declared.Written.the-variants.{Words, Refused}
-use Rattle.sheet.specs.Scans.{checkedOf}
+use Rattle.sheet.specs.Replies.{checkedOutcome, refusalOf}
 use Rattle.sheet.proofs.Answers.{on-found, on-refused}
 use Rattle.records.proofs.Reading.{read-found}
 use Rattle.graph_lists.specs.Lists.{graphOut, graphLength}
@@ -51,9 +51,12 @@ module _ (ws : List ℕ) (lent n : ℕ) where
   unfolding outcome
   refused-outcome v = refl
 
-  pub call-refused : {r : Checked} {v : Refusal} → r ≡ checkedOf (check prime ws) → r ≡ checked.Refused v → builtOutcome (Refused v) (zeros lent) (zeros n) ≡ builderCall prime ws lent n
+  pub call-refused : {r : Checked} {v u : Refusal} → checkedOutcome r ≡ checkCall prime ws → r ≡ checked.Refused v → u ≡ refusalOf r
+      → builtOutcome (Refused u) (zeros lent) (zeros n) ≡ builderCall prime ws lent n
   unfolding builderCall
-  call-refused {v} e q = refused-outcome v ∙ ap (outcome (lent ∷ []) (n ∷ [])) (on-refused prime ws rest e q)
+  call-refused {v} e q f =
+      ap (λ (x : Refusal). builtOutcome (Refused x) (zeros lent) (zeros n)) (f ∙ ap refusalOf q)
+      ∙ refused-outcome v ∙ ap (outcome (lent ∷ []) (n ∷ [])) (on-refused prime ws rest e q)
 
   module _ (records words : ℕ) (scratch out : List ℕ) (h : Clear ws records words scratch out) where
     abbrev s : Sheet
@@ -67,7 +70,9 @@ module _ (ws : List ℕ) (lent n : ℕ) where
     scratch-short l =
         refused-outcome (record { number = 14; place = records })
         ∙ ap (outcome (lent ∷ []) (n ∷ []))
-        (ap (refused 14) (h .records-are) ∙ sym (cond-false (leb (length (s .records)) lent) after (refused 14 (length (s .records))) (lt-leb (length (s .records)) lent (omega (arith, h .records-are)))) ∙ on-found prime ws rest (h .checked))
+        (ap (refused 14) (h .records-are)
+        ∙ sym (cond-false (leb (length (s .records)) lent) after (refused 14 (length (s .records))) (lt-leb (length (s .records)) lent (omega (arith, h .records-are))))
+        ∙ on-found prime ws rest (h .checked))
 
     enough : records ≤ lent → after ≡ rest s
     unfolding needs

@@ -43,10 +43,11 @@ fn build_clear(s: &[u32], scratch: &mut [u32], out: &mut [u32]) -> Written
     requires { ⌜ (now scratch ≡ zeros (length (now scratch))) × (now out ≡ zeros (length (now out))) ⌝ }
     ensures { λ r. ⌜ builtOutcome r (zeros (length (now (scratch .entry)))) (now (out .exit)) ≡ builderCall prime (now (s .entry)) (length (now (scratch .entry))) (length (now (out .entry))) ⌝ }
 {
-    match sheet::check_sheet(s) {
-        Checked::Sheet(head) => build_checked(s, head.records, head.words, scratch, out),
-        Checked::Refused(r) => Written::Refused(r),
-    }
+    let checked = sheet::check_sheet(s);
+    let Checked::Sheet(head) = checked else {
+        return Written::Refused(sheet::refusal_of(checked));
+    };
+    build_checked(s, head.records, head.words, scratch, out)
 }
 
 // The builder: checks the sheet and writes its graph; scratch ends all zero.

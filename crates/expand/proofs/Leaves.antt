@@ -12,6 +12,7 @@ use Rattle.semantics.specs.Answer.{Answer, good, refused, andThen}
 use Rattle.semantics.specs.Sheet.{Record, recordWords, row, table, fits, passes, GoodRecord}
 use Rattle.semantics.specs.Check.{reading, scanWords, judged}
 use Rattle.semantics.specs.Packing.{packed, packFault, leafTests, packRecord, pack}
+use Rattle.semantics.specs.Call.{packCall}
 use Rattle.semantics.specs.Value.{Node, nodeOf}
 use Rattle.semantics.specs.Monomial.{Monomial, working, finished, recordList, above}
 use Rattle.semantics.specs.Expand.{longer, workFault}
@@ -22,7 +23,8 @@ use Rattle.packed_var.specs.declared.Packed.{Packed}
 use Rattle.packed_var.specs.declared.Packed.the-variants.{Var, Refused}
 use Rattle.packed_var.specs.declared.PackedVar.{PackedVar}
 use Rattle.symbolic_variable.specs.declared.Refusal.{Refusal}
-use Rattle.packed_var.specs.Packed.{packedAnswer}
+use Rattle.packed_var.specs.Packed.{packedOutcome}
+use Rattle.packed_var.proofs.Answers.{packedAnswer, answer-is}
 use Rattle.monomial.specs.Words.{held, Fits}
 use Rattle.expand.specs.Making.{single, constant, faultOf, Makes}
 use Rattle.expand.specs.declared.kinds.Made.the-variants.{Held, Fault}
@@ -116,9 +118,10 @@ module _ (own : ℕ) (r : Record) (ok : GoodRecord prime own r) where
         one-made work work₁ (constant (r .a)) (packFault r) (recordList prime r f) (h ∙ ap (λ (x : Monomial). held 0 work ++ (x ∷ [])) em) (rw e)
         (constant-list r e f) (one-fits (constant (r .a)) (omega arith) tt (constant-small e))
 
-    module _ (low : r .kind ≤ 4) (u : Packed) (e : packedAnswer u ≡ pack r) where
+    module _ (low : r .kind ≤ 4) (u : Packed) (e : packedOutcome u ≡ packCall r) where
       said : Told (packFault r) (packed r) (packedAnswer u)
-      said = subst (Told (packFault r) (packed r)) (sym (e ∙ pack-good low)) (record-told r)
+      unfolding packCall
+      said = subst (Told (packFault r) (packed r)) (sym (answer-is u e ∙ pack-good low)) (record-told r)
 
       pub single-made : (v : PackedVar) → u ≡ Var v → (m : Monomial) → m ≡ single (v .0) → held (0 + 1) work₁ ≡ held 0 work ++ (m ∷ [])
           → Makes work₁ (Held 1) (packFault r) (recordList prime r f)

@@ -9,13 +9,13 @@ use Rattle.semantics.specs.Arithmetic.{prime}
 use Rattle.semantics.specs.Answer.{Answer, good, refused}
 use Rattle.semantics.specs.Sheet.{Sheet}
 use Rattle.semantics.specs.Check.{readSheet, check}
-use Rattle.semantics.specs.Call.{Result, zeros, padded, paddedAll, outcome, onSheet, expansion, constraintCall, interactionCall}
+use Rattle.semantics.specs.Call.{Result, zeros, padded, paddedAll, outcome, onSheet, checkCall, expansion, constraintCall, interactionCall}
 use Rattle.records.proofs.Reading.{read-found}
 use Rattle.sheet.specs.declared.Refusal.{Refusal}
 use Rattle.sheet.specs.declared.Head.{Head}
 use Rattle.sheet.specs.declared.Checked.{Checked}
 use Rattle.sheet.specs.declared.Checked.the-variants as checked
-use Rattle.sheet.specs.Scans.{checkedOf}
+use Rattle.sheet.specs.Replies.{checkedOutcome, refusalOf}
 use Rattle.sheet.proofs.Answers.{found, on-found, on-refused}
 use Rattle.grouping.specs.declared.Lengths.{Lengths}
 use Rattle.constraint_lists.specs.declared.ConstraintLists.{ConstraintLists}
@@ -41,9 +41,10 @@ pub cut-none : (o : List ℕ) → cut 0 o ≡ zeros (length o)
 unfolding zeros
 cut-none o = ap (λ (n : ℕ). replicate n 0) (sub-zero (length o))
 
-pub sheet-found : (ws : List ℕ) {r : Checked} {h : Head} → r ≡ checkedOf (check prime ws) → r ≡ checked.Sheet h → CheckedSheet ws (h .records) (h .constraints) (h .interactions)
+pub sheet-found : (ws : List ℕ) {r : Checked} {h : Head} → checkedOutcome r ≡ checkCall prime ws → r ≡ checked.Sheet h
+    → CheckedSheet ws (h .records) (h .constraints) (h .interactions)
 sheet-found ws e q =
-    let t = found (check prime ws) e q in
+    let t = found prime ws e q in
     let s = read-found ws (t .0) (t .1) in
     record {
       checked = t .1 ∙ ap good s;
@@ -54,8 +55,9 @@ sheet-found ws e q =
 
 -- A refused sheet ends the call, and another goes on.
 module _ (ws : List ℕ) (rest : Sheet → Answer Result) where
-  pub sheet-refused : {r : Checked} {v : Refusal} → r ≡ checkedOf (check prime ws) → r ≡ checked.Refused v → refused (v .number) (v .place) ≡ onSheet prime ws rest
-  sheet-refused e q = on-refused prime ws rest e q
+  pub sheet-refused : {r : Checked} {v u : Refusal} → checkedOutcome r ≡ checkCall prime ws → r ≡ checked.Refused v → u ≡ refusalOf r
+      → refused (u .number) (u .place) ≡ onSheet prime ws rest
+  sheet-refused e q f = ap (λ (x : Refusal). refused (x .number) (x .place)) (f ∙ ap refusalOf q) ∙ on-refused prime ws rest e q
 
   pub sheet-goes-on : check prime ws ≡ good (readSheet ws) → rest (readSheet ws) ≡ onSheet prime ws rest
   sheet-goes-on e = on-found prime ws rest e

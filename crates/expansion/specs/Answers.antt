@@ -2,7 +2,7 @@
 use mathlib.Core.List.{List, [], _∷_, _++_}
 use Prim.Native.Nat.{ℕ, _-_}
 use lib.ListN.{length, take, replicate}
-use Rattle.semantics.specs.Call.{Reply, Outcome}
+use Rattle.semantics.specs.Call.{Reply, Outcome, acceptedWith}
 use Rattle.sheet.specs.Replies.{refusedReply}
 use Rattle.grouping.specs.declared.Lengths.{Lengths}
 use Rattle.constraint_lists.specs.declared.ConstraintLists.{ConstraintLists}
@@ -13,7 +13,7 @@ use Rattle.interaction_lists.specs.declared.InteractionLists.the-variants as in
 
 -- "number 0 with the count of words written to each slice", or a number and a place.
 abbrev pub constraintReply : ConstraintLists → Reply
-constraintReply (Written n) = record { number = 0; place = 0; counts = n .headers ∷ n .variables ∷ n .terms ∷ []; numbers = [] }
+constraintReply (Written n) = acceptedWith (n .headers ∷ n .variables ∷ n .terms ∷ []) []
 constraintReply (Refused r) = refusedReply r
 
 -- The reply, scratch (work, then pool), and the three outputs.
@@ -35,14 +35,10 @@ cut k o = take k o ++ replicate (length o - k) 0
 
 -- The same for the interactions: "the interaction call adds `num_interactions` and `max_fields_len`".
 abbrev pub interactionReply : InteractionLists → Reply
-interactionReply (interaction.Written n) = record {
-  number = 0;
-  place = 0;
-  counts =
-      n .numerators .headers ∷ n .numerators .variables ∷ n .numerators .terms ∷ n .denominators .headers ∷ n .denominators .variables ∷ n .denominators .terms
-      ∷ [];
-  numbers = n .«num_interactions» ∷ n .«max_fields_len» ∷ [];
-}
+interactionReply (interaction.Written n) =
+    acceptedWith
+    (n .numerators .headers ∷ n .numerators .variables ∷ n .numerators .terms ∷ n .denominators .headers ∷ n .denominators .variables ∷ n .denominators .terms ∷ [])
+    (n .«num_interactions» ∷ n .«max_fields_len» ∷ [])
 interactionReply (interaction.Refused r) = refusedReply r
 
 abbrev pub interactionOutcome : InteractionLists → (work pool h v t h′ v′ t′ : List ℕ) → Outcome

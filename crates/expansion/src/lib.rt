@@ -23,19 +23,20 @@ fn expand_sheet(
 ) -> ConstraintLists
     ensures { λ r. ⌜ (constraintAnswer r (now (headers .exit)) (now (variables .exit)) (now (terms .exit)) ≡ onSheet prime (now (s .entry)) (constraintsOf (length (now (work .entry))) (length (now (pool .entry))) (length (now (headers .entry))) (length (now (variables .entry))) (length (now (terms .entry))))) × Inside r (now (headers .exit)) (now (variables .exit)) (now (terms .exit)) ⌝ }
 {
-    match sheet::check_sheet(s) {
-        Checked::Sheet(head) => constraint_lists::expand_checked(
-            s,
-            head.records,
-            head.constraints,
-            work,
-            pool,
-            headers,
-            variables,
-            terms,
-        ),
-        Checked::Refused(r) => ConstraintLists::Refused(r),
-    }
+    let checked = sheet::check_sheet(s);
+    let Checked::Sheet(head) = checked else {
+        return ConstraintLists::Refused(sheet::refusal_of(checked));
+    };
+    constraint_lists::expand_checked(
+        s,
+        head.records,
+        head.constraints,
+        work,
+        pool,
+        headers,
+        variables,
+        terms,
+    )
 }
 
 // How many words of each output stay.
@@ -94,23 +95,24 @@ fn expand_sheet_interactions(
 ) -> InteractionLists
     ensures { λ r. ⌜ (interactionAnswer r (now (headers .exit)) (now (variables .exit)) (now (terms .exit)) (now («denom_headers» .exit)) (now («denom_variables» .exit)) (now («denom_terms» .exit)) ≡ onSheet prime (now (s .entry)) (interactionsOf (length (now (work .entry))) (length (now (pool .entry))) (length (now (headers .entry))) (length (now (variables .entry))) (length (now (terms .entry))) (length (now («denom_headers» .entry))) (length (now («denom_variables» .entry))) (length (now («denom_terms» .entry))))) × BothInside r (now (headers .exit)) (now (variables .exit)) (now (terms .exit)) (now («denom_headers» .exit)) (now («denom_variables» .exit)) (now («denom_terms» .exit)) ⌝ }
 {
-    match sheet::check_sheet(s) {
-        Checked::Sheet(head) => interaction_lists::expand_checked(
-            s,
-            head.records,
-            head.constraints,
-            head.interactions,
-            work,
-            pool,
-            headers,
-            variables,
-            terms,
-            denom_headers,
-            denom_variables,
-            denom_terms,
-        ),
-        Checked::Refused(r) => InteractionLists::Refused(r),
-    }
+    let checked = sheet::check_sheet(s);
+    let Checked::Sheet(head) = checked else {
+        return InteractionLists::Refused(sheet::refusal_of(checked));
+    };
+    interaction_lists::expand_checked(
+        s,
+        head.records,
+        head.constraints,
+        head.interactions,
+        work,
+        pool,
+        headers,
+        variables,
+        terms,
+        denom_headers,
+        denom_variables,
+        denom_terms,
+    )
 }
 
 fn both_lengths(lists: InteractionLists) -> InteractionLengths

@@ -1,7 +1,8 @@
--- What a variable says as a record, and what the answers of this crate stand for.
+-- What a variable says as a record, and what the answers of this crate stand for (01, "What each call hands back").
+use mathlib.Core.List.{[], _∷_}
 use Prim.Native.Nat.{ℕ}
-use Rattle.semantics.specs.Answer.{Answer, good, refused}
 use Rattle.semantics.specs.Sheet.{Record, recordOf}
+use Rattle.semantics.specs.Call.{Reply, Outcome, acceptedWith, refusedWith}
 use Rattle.symbolic_variable.specs.declared.Entry.{Entry}
 use Rattle.symbolic_variable.specs.declared.Entry.the-variants.{Preprocessed, Main, Public, Challenge}
 use Rattle.symbolic_variable.specs.declared.SymbolicVariable.{SymbolicVariable}
@@ -18,10 +19,13 @@ entryRecord Public d = recordOf 1 3 0 0 d
 abbrev pub variableRecord : SymbolicVariable → Record
 variableRecord v = entryRecord (v .entry) (v .index)
 
-abbrev pub refusedWith : ℕ → Packed
-refusedWith number = packed.Refused (record { number = number; place = 0 })
+abbrev pub refusedFor : ℕ → Packed
+refusedFor number = packed.Refused (record { number = number; place = 0 })
 
--- A packed number, or "a refusal is a number and a place".
-abbrev pub packedAnswer : Packed → Answer ℕ
-packedAnswer (packed.Var v) = good (v .0)
-packedAnswer (packed.Refused r) = refused (r .number) (r .place)
+-- The packed number, or "a number and a place".
+abbrev pub packedReply : Packed → Reply
+packedReply (packed.Var v) = acceptedWith [] (v .0 ∷ [])
+packedReply (packed.Refused r) = refusedWith (r .number) (r .place)
+
+abbrev pub packedOutcome : Packed → Outcome
+packedOutcome r = record { reply = packedReply r; slices = [] }

@@ -4,8 +4,9 @@ use symbolic_variable::Refusal;
 use symbolic_variable::SymbolicVariable;
 ghost use mathlib.Core.Path.{_≡_};
 ghost use Prim.Native.Nat.{_+_, _*_, _<_};
-ghost use Rattle.semantics.specs.Packing.{packRecord};
-ghost use Rattle.packed_var.specs.Packed.{variableRecord, refusedWith, packedAnswer};
+ghost use lib.Dec.{eqb, ltb};
+ghost use Rattle.semantics.specs.Call.{variableCall};
+ghost use Rattle.packed_var.specs.Packed.{variableRecord, refusedFor, packedOutcome};
 
 // A number with its own type: bits 0 to 3 type, 4 to 11 part, 12 to 15 offset, 16 to 31 column.
 pub struct PackedVar(pub u32);
@@ -16,7 +17,7 @@ pub enum Packed {
 }
 
 fn refused(number: u32) -> Packed
-    ensures { λ r. ⌜ r ≡ refusedWith number ⌝ }
+    ensures { λ r. ⌜ r ≡ refusedFor number ⌝ }
 {
     Packed::Refused(Refusal { number, place: 0 })
 }
@@ -36,7 +37,7 @@ impl PackedVar {
 
     // 8 to 11 for a column, a challenge, a part or an offset that no packed number holds.
     pub fn from_symbolic_var(var: SymbolicVariable) -> Packed
-        ensures { λ r. ⌜ packedAnswer r ≡ packRecord (variableRecord var) ⌝ }
+        ensures { λ r. ⌜ packedOutcome r ≡ variableCall (variableRecord var) ⌝ }
     {
         if 65535 < var.index {
             return refused(8);
@@ -62,6 +63,19 @@ impl PackedVar {
             Entry::Public => Packed::Var(PackedVar::new(3, 0, 0, column)),
             Entry::Challenge => refused(9),
         }
+    }
+
+    // Two packed variables are compared by number.
+    pub fn below(self, other: PackedVar) -> bool
+        ensures { λ r. ⌜ r ≡ ltb (self .0) (other .0) ⌝ }
+    {
+        self.0 < other.0
+    }
+
+    pub fn same(self, other: PackedVar) -> bool
+        ensures { λ r. ⌜ r ≡ eqb (self .0) (other .0) ⌝ }
+    {
+        self.0 == other.0
     }
 
     pub fn is_first() -> Self

@@ -1,10 +1,12 @@
--- What the answers of this crate stand for.
+-- What the answers of this crate stand for (01, "What each call hands back").
+use mathlib.Core.List.{[], _∷_}
 use Prim.Native.Nat.{ℕ}
 use Rattle.semantics.specs.Answer.{Answer, good, refused}
 use Rattle.semantics.specs.Sheet as sheet
 use Rattle.semantics.specs.Sheet.{recordOf, recordWords}
 use Rattle.semantics.specs.Check.{reading, scanWords, judged}
 use Rattle.semantics.specs.Packing.{leafTests}
+use Rattle.semantics.specs.Call.{Reply, Outcome, acceptedWith, refusedWith}
 use Rattle.symbolic_variable.specs.declared.Entry.{Entry}
 use Rattle.symbolic_variable.specs.Variable.{variableOf}
 use Rattle.symbolic_variable.specs.declared.Refusal.{Refusal}
@@ -45,7 +47,10 @@ refusalOf (read.Refused r) = r
 abbrev pub wordsRecord : Record → sheet.Record
 wordsRecord w = recordOf (w .kind) (w .a) (w .b) (w .c) (w .d)
 
--- The five words, or a refusal.
-abbrev pub unpackedAnswer : Unpacked → Answer sheet.Record
-unpackedAnswer (unpacked.Words w) = good (wordsRecord w)
-unpackedAnswer (unpacked.Refused r) = refused (r .number) (r .place)
+-- "it gives the five words", or a number and a place.
+abbrev pub unpackedReply : Unpacked → Reply
+unpackedReply (unpacked.Words w) = acceptedWith [] (w .kind ∷ w .a ∷ w .b ∷ w .c ∷ w .d ∷ [])
+unpackedReply (unpacked.Refused r) = refusedWith (r .number) (r .place)
+
+abbrev pub unpackedOutcome : Unpacked → Outcome
+unpackedOutcome r = record { reply = unpackedReply r; slices = [] }

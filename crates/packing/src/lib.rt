@@ -6,9 +6,10 @@ use packed_var::PackedVar;
 use symbolic_variable::Refusal;
 ghost use mathlib.Core.Path.{_≡_};
 ghost use Rattle.semantics.specs.Sheet.{recordOf};
-ghost use Rattle.semantics.specs.Packing.{pack, unpack, unpacked};
-ghost use Rattle.packed_var.specs.Packed.{packedAnswer};
-ghost use Rattle.packing.specs.Leaves.{wordsRecord, unpackedAnswer};
+ghost use Rattle.semantics.specs.Packing.{unpacked};
+ghost use Rattle.semantics.specs.Call.{packCall, unpackCall};
+ghost use Rattle.packed_var.specs.Packed.{packedOutcome};
+ghost use Rattle.packing.specs.Leaves.{wordsRecord, unpackedOutcome};
 
 pub mod leaf;
 
@@ -28,7 +29,7 @@ pub enum Unpacked {
 
 // The packed number of the variable or row mark that a record's five words say.
 pub fn pack(kind: u32, a: u32, b: u32, c: u32, d: u32) -> Packed
-    ensures { λ r. ⌜ packedAnswer r ≡ pack (recordOf kind a b c d) ⌝ }
+    ensures { λ r. ⌜ packedOutcome r ≡ packCall (recordOf kind a b c d) ⌝ }
 {
     let read = leaf::leaf_of(kind, a, b, c, d);
     let LeafRead::Said(said) = read else {
@@ -42,10 +43,11 @@ pub fn pack(kind: u32, a: u32, b: u32, c: u32, d: u32) -> Packed
     }
 }
 
-// The words that the bits of a number are.
-fn words_of(n: u32) -> Record
-    ensures { λ r. ⌜ wordsRecord r ≡ unpacked n ⌝ }
+// The words that the bits of a packed variable are.
+fn words_of(v: PackedVar) -> Record
+    ensures { λ r. ⌜ wordsRecord r ≡ unpacked (v .0) ⌝ }
 {
+    let n = v.0;
     if 8 <= n % 16 {
         return Record {
             kind: n % 16 - 6,
@@ -66,20 +68,20 @@ fn words_of(n: u32) -> Record
 
 // The words that pack to a number, where there are such.
 pub fn unpack(v: PackedVar) -> Unpacked
-    ensures { λ r. ⌜ unpackedAnswer r ≡ unpack (v .0) ⌝ }
+    ensures { λ r. ⌜ unpackedOutcome r ≡ unpackCall (v .0) ⌝ }
 {
-    let words = words_of(v.0);
+    let words = words_of(v);
     let Packed::Var(again) = pack(words.kind, words.a, words.b, words.c, words.d) else {
         return Unpacked::Refused(Refusal {
             number: 5,
             place: 0,
         });
     };
-    if again.0 != v.0 {
-        return Unpacked::Refused(Refusal {
-            number: 5,
-            place: 0,
-        });
+    if again.same(v) {
+        return Unpacked::Words(words);
     }
-    Unpacked::Words(words)
+    Unpacked::Refused(Refusal {
+        number: 5,
+        place: 0,
+    })
 }

@@ -10,7 +10,7 @@ use Rattle.semantics.specs.Answer.{Answer, good, refused, andThen}
 use Rattle.semantics.specs.Sheet.{Record, Interaction, Sheet, recordWords, encode, lengthOf}
 use Rattle.semantics.specs.Check.{check}
 use Rattle.semantics.specs.Block.{badLength, readBlocks, writeBlocks, blocksFor, blockCheck}
-use Rattle.semantics.specs.Packing.{pack, unpack}
+use Rattle.semantics.specs.Packing.{packRecord, pack, unpack}
 use Rattle.semantics.specs.Walk.{order}
 use Rattle.semantics.specs.Graph.{graphOf, maxRotation}
 use Rattle.semantics.specs.Monomial.{listAt}
@@ -23,6 +23,13 @@ pub record Reply : Type 0 where
   pub place : ℕ
   pub counts : List ℕ
   pub numbers : List ℕ
+
+abbrev pub acceptedWith : (counts numbers : List ℕ) → Reply
+acceptedWith counts numbers = record { number = 0; place = 0; counts = counts; numbers = numbers }
+
+-- "A refusal is a number and a place"
+abbrev pub refusedWith : (number place : ℕ) → Reply
+refusedWith number place = record { number = number; place = place; counts = []; numbers = [] }
 
 -- The reply, and every slice lent for writing: scratch first, then the outputs.
 pub record Outcome : Type 0 where
@@ -126,6 +133,10 @@ packCall r = outcome [] [] (andThen (pack r) (λ n. result [] (n ∷ [])))
 
 unfoldable pub unpackCall : ℕ → Outcome
 unpackCall n = outcome [] [] (andThen (unpack n) (λ r. result [] (recordWords r)))
+
+-- Packing a variable or row mark whose words are not to be judged: 8 to 11 only.
+unfoldable pub variableCall : Record → Outcome
+variableCall r = outcome [] [] (andThen (packRecord r) (λ n. result [] (n ∷ [])))
 
 -- "17: a finished list exceeds its output slice. Place: the first such slice": counted from `k`, or 0.
 unfoldable pub firstShort : (k : ℕ) → List (List ℕ) → (lent : List ℕ) → ℕ

@@ -6,14 +6,15 @@ use Prim.Native.Nat.{ℕ, zero, suc, _+_, _*_, _-_, _≤_, _<_}
 use native.Mathlib.Nat.{add-zero}
 use native.Mathlib.Numerals.{add-one}
 use native.Mathlib.Omega.{arith}
-use lib.Dec.{eqb, leb, ltb}
+use lib.Dec.{leb}
 use lib.ListN.{length, getD, drop, replicate, drop-of-length-le}
 use lib.Seq.{drop-cons, getD-drop}
 use borrow.Author.Tests.{eq-eqb, ne-eqb, leb-true, lt-ltb, le-ltb}
-use Rattle.semantics.specs.Sheet.{Inside, encode, headWords, lengthOf, fits, row, table, recordTests, interactionTests, headTests, names}
-use Rattle.semantics.specs.Answer.{Answer, good, refused}
+use Rattle.semantics.specs.Sheet.{Inside, encode, headWords, lengthOf, fits, row, recordTests, interactionTests, headTests, names}
+use Rattle.semantics.specs.Answer.{good}
 use Rattle.semantics.specs.Sheet as semantics
 use Rattle.semantics.specs.Check.{Scan, reading, stopped, scanWords, scanPart, scanParts, scanSpare, scanSheet, readSheet, judged, check}
+use Rattle.semantics.specs.Call.{checkCall}
 use Rattle.semantics.proofs.Basics.{and-true}
 use Rattle.semantics.proofs.Lists.{one-by-one}
 use Rattle.semantics.proofs.Encoding.{row-length, check-sound, scan-to-interactions, scan-to-end}
@@ -23,7 +24,9 @@ use Rattle.sheet.specs.declared.Checked.{Checked}
 use Rattle.sheet.specs.declared.Checked.the-variants.{Sheet}
 use Rattle.sheet.specs.declared.scan.Scanned.{Scanned}
 use Rattle.sheet.specs.declared.scan.Scanned.the-variants.{Next, Stop}
-use Rattle.sheet.specs.Scans.{scanOf, Ends, Reaches, refusedOf, checkedOf, headOf}
+use Rattle.sheet.specs.Scans.{scanOf, Ends, Reaches, refusedOf}
+use Rattle.sheet.specs.Replies.{checkedOutcome}
+use Rattle.sheet.proofs.Answers.{told, check-told}
 
 -- How a word is used, where it is known.
 module _ (p own a w : ℕ) where
@@ -278,9 +281,10 @@ module _ (p : ℕ) (ws : List ℕ) where
   stays₄ m k = ap afterRecords (parts-stopped 5 (recordTests p) (getD ws 1 0) 0 m k) ∙ stays₃ m k
 
   -- A scan that stopped refuses the sheet; one that went to the end accepts it.
-  pub refuses : (r : Scanned) (v : Refusal) (x : Checked) → r ≡ Stop v → scanOf ws r ≡ scanSheet p ws → x ≡ refusedOf r → x ≡ checkedOf (check p ws)
+  pub refuses : (r : Scanned) (v : Refusal) (x : Checked) → r ≡ Stop v → scanOf ws r ≡ scanSheet p ws → x ≡ refusedOf r → checkedOutcome x ≡ checkCall p ws
   unfolding check judged
-  refuses r v x q e h = h ∙ ap refusedOf q ∙ ap (λ (t : Scan). checkedOf (judged t (readSheet ws))) (sym (ap (scanOf ws) q) ∙ e)
+  refuses r v x q e h =
+      ap checkedOutcome (h ∙ ap refusedOf q) ∙ ap (λ (t : Scan). told (judged t (readSheet ws))) (sym (ap (scanOf ws) q) ∙ e) ∙ check-told p ws
 
   module _ (n : ℕ) (r : Scanned) (q : r ≡ Next n) (e : scanOf ws r ≡ scanSheet p ws) where
     accepts : check p ws ≡ good (readSheet ws)
@@ -290,14 +294,18 @@ module _ (p : ℕ) (ws : List ℕ) where
     -- The words are those of the sheet and zeros, so the head and the places are the sheet's.
     module _ (b : ℕ) (at-b : reading b (drop b ws) ≡ scanWords 6 (replicate (getD ws 2 0) (names (getD ws 1 0))) (scanParts 5 (recordTests p) (getD ws 1 0) 0 (scanWords 3 headTests (reading 0 ws))))
         (l : ℕ) (at-l : reading l (drop l ws) ≡ scanParts 6 (λ own. interactionTests (getD ws 1 0)) (getD ws 3 0) 0 (reading b (drop b ws))) where
-      pub is-head : Sheet (record { records = getD ws 1 0; constraints = getD ws 2 0; interactions = getD ws 3 0; start = b; words = l }) ≡ checkedOf (check p ws)
+      abbrev head : Head
+      head = record { records = getD ws 1 0; constraints = getD ws 2 0; interactions = getD ws 3 0; start = b; words = l }
+
+      pub is-head : checkedOutcome (Sheet head) ≡ checkCall p ws
       is-head =
           let c = check-sound p ws (readSheet ws) accepts in
           go (readSheet ws) (c .0) (c .1 .0) (c .1 .2)
-          ∙ ap checkedOf (sym accepts)
+          ∙ ap told (sym accepts)
+          ∙ check-told p ws
         where
           go : (s : semantics.Sheet) → Inside p s → (k : ℕ) → ws ≡ encode s ++ replicate k 0
-              → Sheet (record { records = getD ws 1 0; constraints = getD ws 2 0; interactions = getD ws 3 0; start = b; words = l }) ≡ Sheet (headOf s)
+              → checkedOutcome (Sheet head) ≡ told (good s)
           go s h k w =
               let zs : List ℕ = replicate k 0 in
               let c₁ : getD ws 1 0 ≡ length (s .records) = ap (λ (u : List ℕ). getD u 1 0) w ∙ unfold encode headWords in refl in
@@ -308,6 +316,7 @@ module _ (p : ℕ) (ws : List ℕ) where
               ∙ scan-to-interactions p s h zs) in
               let el : l ≡ lengthOf s =
               ap indexOf (at-l ∙ ap (scanParts 6 (λ own. interactionTests (getD ws 1 0)) (getD ws 3 0) 0) at-b
-              ∙ (λ i. scanParts 6 (λ own. interactionTests (c₁ i)) (c₃ i) 0 (scanWords 6 (replicate (c₂ i) (names (c₁ i))) (scanParts 5 (recordTests p) (c₁ i) 0 (scanWords 3 headTests (reading 0 (w i))))))
+              ∙ (λ i. scanParts 6 (λ own. interactionTests (c₁ i)) (c₃ i) 0
+              (scanWords 6 (replicate (c₂ i) (names (c₁ i))) (scanParts 5 (recordTests p) (c₁ i) 0 (scanWords 3 headTests (reading 0 (w i))))))
               ∙ scan-to-end p s h zs) in
-              λ i. Sheet (record { records = c₁ i; constraints = c₂ i; interactions = c₃ i; start = eb i; words = el i })
+              λ i. checkedOutcome (Sheet (record { records = c₁ i; constraints = c₂ i; interactions = c₃ i; start = eb i; words = el i }))

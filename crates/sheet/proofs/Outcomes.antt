@@ -10,7 +10,7 @@ use borrow.Author.Tests.{lt-leb}
 use Rattle.semantics.specs.Answer.{Answer, good, refused}
 use Rattle.semantics.specs.Sheet.{Sheet}
 use Rattle.semantics.specs.Check.{check}
-use Rattle.semantics.specs.Call.{Result, zeros, padded, paddedAll, outcome, needs, result, onSheet}
+use Rattle.semantics.specs.Call.{Result, zeros, padded, paddedAll, outcome, needs, result, onSheet, checkCall}
 use Rattle.semantics.proofs.Basics.{cond-false}
 use Rattle.semantics.proofs.Calls.{needs-met}
 use Rattle.sheet.specs.declared.Refusal.{Refusal}
@@ -18,8 +18,7 @@ use Rattle.sheet.specs.declared.Checked.{Checked}
 use Rattle.sheet.specs.declared.Checked.the-variants as checked
 use Rattle.sheet.specs.declared.Written.{Written}
 use Rattle.sheet.specs.declared.Written.the-variants.{Words, Refused}
-use Rattle.sheet.specs.Scans.{checkedOf}
-use Rattle.sheet.specs.Replies.{refusedReply, writtenOutcome, countOf, finished, refusalOf}
+use Rattle.sheet.specs.Replies.{refusedReply, checkedOutcome, writtenOutcome, countOf, finished, refusalOf}
 use Rattle.sheet.proofs.Answers.{on-found, on-refused}
 
 -- Zeros past what was written finish a call.
@@ -48,7 +47,7 @@ module _ (p : ℕ) (ws : List ℕ) (size : Sheet → ℕ) (made : Sheet → List
   abbrev writes : Sheet → Answer Result
   writes t = needs 15 (size t) n (result (made t ∷ []) [])
 
-  pub sheet-refused : {r : Checked} {v u : Refusal} → r ≡ checkedOf (check p ws) → r ≡ checked.Refused v → u ≡ refusalOf r
+  pub sheet-refused : {r : Checked} {v u : Refusal} → checkedOutcome r ≡ checkCall p ws → r ≡ checked.Refused v → u ≡ refusalOf r
       → finished (Refused u) o ≡ outcome [] (n ∷ []) (onSheet p ws writes)
   sheet-refused {v} e q f =
       ap (λ (x : Refusal). finished (Refused x) o) (f ∙ ap refusalOf q) ∙ refused-outcome o l v ∙ ap (outcome [] (n ∷ [])) (on-refused p ws writes e q)

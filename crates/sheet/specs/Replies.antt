@@ -2,7 +2,7 @@
 use mathlib.Core.List.{List, [], _∷_}
 use Prim.Native.Nat.{ℕ}
 use lib.ListN.{length, take}
-use Rattle.semantics.specs.Call.{Reply, Outcome, padded}
+use Rattle.semantics.specs.Call.{Reply, Outcome, acceptedWith, refusedWith, padded}
 use Rattle.sheet.specs.declared.Refusal.{Refusal}
 use Rattle.sheet.specs.declared.Checked.{Checked}
 use Rattle.sheet.specs.declared.Checked.the-variants as checked
@@ -11,11 +11,19 @@ use Rattle.sheet.specs.declared.Written.the-variants as written
 
 -- "A refusal is a number and a place"
 abbrev pub refusedReply : Refusal → Reply
-refusedReply r = record { number = r .number; place = r .place; counts = []; numbers = [] }
+refusedReply r = refusedWith (r .number) (r .place)
+
+-- The sheet check tells E, C, I, L and where the interactions start.
+abbrev pub checkedReply : Checked → Reply
+checkedReply (checked.Sheet h) = acceptedWith [] (h .records ∷ h .constraints ∷ h .interactions ∷ h .words ∷ h .start ∷ [])
+checkedReply (checked.Refused r) = refusedReply r
+
+abbrev pub checkedOutcome : Checked → Outcome
+checkedOutcome r = record { reply = checkedReply r; slices = [] }
 
 -- "Acceptance is number 0 with the count of words (or bytes) written to each slice"
 abbrev pub writtenReply : Written → Reply
-writtenReply (written.Words n) = record { number = 0; place = 0; counts = n ∷ []; numbers = [] }
+writtenReply (written.Words n) = acceptedWith (n ∷ []) []
 writtenReply (written.Refused r) = refusedReply r
 
 abbrev pub writtenOutcome : Written → (out : List ℕ) → Outcome

@@ -1,13 +1,9 @@
 -- What the answers of the check mean.
 use mathlib.Core.Path.{_≡_}
 use mathlib.Core.List.{List}
-use Prim.Native.Nat.{ℕ, _+_, _*_, _≤_}
+use Prim.Native.Nat.{ℕ, _≤_}
 use lib.ListN.{length, drop}
-use Rattle.semantics.specs.Answer.{Answer, good, refused}
-use Rattle.semantics.specs.Sheet.{Sheet, lengthOf}
 use Rattle.semantics.specs.Check.{Scan, reading, stopped}
-use Rattle.sheet.specs.declared.Refusal.{Refusal}
-use Rattle.sheet.specs.declared.Head.{Head}
 use Rattle.sheet.specs.declared.Checked.{Checked}
 use Rattle.sheet.specs.declared.Checked.the-variants as checked
 use Rattle.sheet.specs.declared.scan.Scanned.{Scanned}
@@ -27,20 +23,6 @@ Ends ws (Stop r) = Unit {0}
 abbrev pub Reaches : ℕ → Scanned → Type 0
 Reaches k (Next i) = i ≡ k
 Reaches k (Stop r) = Unit {0}
-
--- 01's number and place, or the counts of the sheet.
-abbrev pub headOf : Sheet → Head
-headOf s = record {
-  records = length (s .records);
-  constraints = length (s .constraints);
-  interactions = length (s .interactions);
-  start = 4 + 5 * length (s .records) + length (s .constraints);
-  words = lengthOf s;
-}
-
-abbrev pub checkedOf : Answer Sheet → Checked
-checkedOf (good s) = checked.Sheet (headOf s)
-checkedOf (refused n k) = checked.Refused (record { number = n; place = k })
 
 -- The refusal of a step that stopped.
 abbrev pub refusedOf : Scanned → Checked

@@ -1,9 +1,8 @@
 // Sheets: the check, and the answers that every call on a sheet shares.
 ghost use mathlib.Core.Path.{_≡_};
 ghost use Rattle.semantics.specs.Arithmetic.{prime};
-ghost use Rattle.semantics.specs.Check.{check};
-ghost use Rattle.sheet.specs.Scans.{checkedOf};
-ghost use Rattle.sheet.specs.Replies.{refusalOf, countOf};
+ghost use Rattle.semantics.specs.Call.{checkCall};
+ghost use Rattle.sheet.specs.Replies.{checkedOutcome, refusalOf, countOf};
 
 mod scan;
 
@@ -37,7 +36,7 @@ pub enum Written {
 
 // The sheet check: words are read from the front and the first that fails decides.
 pub fn check_sheet(s: &[u32]) -> Checked
-    ensures { λ r. ⌜ r ≡ checkedOf (check prime (now (s .entry))) ⌝ }
+    ensures { λ r. ⌜ checkedOutcome r ≡ checkCall prime (now (s .entry)) ⌝ }
 {
     let head = scan::check_head(s);
     let Scanned::Next(first) = head else {

@@ -5,12 +5,11 @@ use Prim.Native.Nat.{ℕ}
 use Rattle.semantics.specs.Answer.{Answer, good}
 use Rattle.semantics.specs.Sheet.{Sheet}
 use Rattle.semantics.specs.Check.{check}
-use Rattle.semantics.specs.Call.{Result, outcome, paddedAll, result, onSheet}
+use Rattle.semantics.specs.Call.{Result, outcome, paddedAll, result, onSheet, checkCall}
 use Rattle.sheet.specs.declared.Refusal.{Refusal}
 use Rattle.sheet.specs.declared.Checked.{Checked}
 use Rattle.sheet.specs.declared.Checked.the-variants.{Refused}
-use Rattle.sheet.specs.Scans.{checkedOf}
-use Rattle.sheet.specs.Replies.{refusalOf}
+use Rattle.sheet.specs.Replies.{checkedOutcome, refusalOf}
 use Rattle.sheet.proofs.Answers.{on-found, on-refused}
 use Rattle.sheet_calls.specs.declared.Counted.the-variants as counted
 use Rattle.sheet_calls.specs.Replies.{countedOutcome}
@@ -19,7 +18,7 @@ module _ (p : ℕ) (ws : List ℕ) (number : Sheet → ℕ) where
   abbrev handsBack : Sheet → Answer Result
   handsBack t = result [] (number t ∷ [])
 
-  pub counted-refused : {r : Checked} {v u : Refusal} → r ≡ checkedOf (check p ws) → r ≡ Refused v → u ≡ refusalOf r
+  pub counted-refused : {r : Checked} {v u : Refusal} → checkedOutcome r ≡ checkCall p ws → r ≡ Refused v → u ≡ refusalOf r
       → countedOutcome (counted.Refused u) ≡ outcome [] [] (onSheet p ws handsBack)
   unfolding outcome
   counted-refused e q f =

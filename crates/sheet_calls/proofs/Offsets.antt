@@ -16,7 +16,7 @@ use Rattle.semantics.proofs.Encoding.{records-back, sheet-length}
 use Rattle.semantics.proofs.Access.{words-are, words-long}
 use Rattle.records.specs.Access.{nodeIn}
 use Rattle.sheet.specs.declared.Head.{Head}
-use Rattle.sheet.specs.Scans.{headOf}
+use Rattle.sheet.proofs.Answers.{headOf}
 use Rattle.sheet_calls.specs.Replies.{largest}
 
 -- The largest offset of the n records without the first i.

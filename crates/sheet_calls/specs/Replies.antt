@@ -3,14 +3,14 @@ use mathlib.Core.List.{List, [], _∷_, foldr}
 use Prim.Native.Nat.{ℕ, max}
 use Rattle.semantics.specs.Sheet.{Record}
 use Rattle.semantics.specs.Graph.{rotation}
-use Rattle.semantics.specs.Call.{Reply, Outcome}
+use Rattle.semantics.specs.Call.{Reply, Outcome, acceptedWith}
 use Rattle.sheet.specs.Replies.{refusedReply}
 use Rattle.sheet_calls.specs.declared.Counted.{Counted}
 use Rattle.sheet_calls.specs.declared.Counted.the-variants.{Number, Refused}
 
 -- "Both hand back the number with 0."
 abbrev pub countedReply : Counted → Reply
-countedReply (Number n) = record { number = 0; place = 0; counts = []; numbers = n ∷ [] }
+countedReply (Number n) = acceptedWith [] (n ∷ [])
 countedReply (Refused r) = refusedReply r
 
 abbrev pub countedOutcome : Counted → Outcome

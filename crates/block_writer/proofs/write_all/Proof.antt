@@ -1,14 +1,29 @@
-use mathlib.Core.Path.{refl, _∙_}
+-- The check refuses the sheet, or finds it; then its blocks are written, where the output has room for them.
+use mathlib.Core.Path.{_≡_, refl, _∙_}
+use mathlib.Core.List.{List}
+use Prim.Native.Nat.{ℕ}
 use native.Mathlib.Omega.{arith}
 use borrow.Author.Needs.{needs}
 use Rattle.semantics.specs.Arithmetic.{prime}
+use Rattle.semantics.specs.Answer.{good}
+use Rattle.semantics.specs.Sheet.{Sheet}
 use Rattle.semantics.specs.Check.{check}
 use Rattle.semantics.specs.Call.{writerCall}
-use Rattle.sheet.proofs.Answers.{found, words-few, words-inside}
+use Rattle.sheet.proofs.Answers.{headOf, found, words-few, words-inside}
 use Rattle.sheet.proofs.Outcomes.{sheet-refused, sheet-short, sheet-written}
 use Rattle.block_writer.proofs.Writing.{sheetBytes, sheetBlocks, bytes-are, made-are, made-length}
 use Rattle.block_writer.proofs.write_all.Statement.{statement}
 use Rattle.block_writer.proofs.write_all.Tie as tie
+
+-- The words, and the sheet that the check found.
+abbrev entry : tie.After-known-told → tie.Start
+entry c = c .before .before .before .before .before .before
+
+abbrev words : tie.After-known-told → List ℕ
+words c = entry c .args .s .now
+
+sheet : (c : tie.After-known-told) → (t : Sheet) × (check prime (words c) ≡ good t) × (c .before .checked .given .0 .0 ≡ headOf t)
+sheet c = found prime (words c) (c .before .before .before .check-sheet .ensures) (c .before .checked .given .1)
 
 check-sheet-requires : tie.Need-check-sheet-requires
 check-sheet-requires c κs = search needs
@@ -25,39 +40,32 @@ refusal-of-requires c κs = search needs
 returns : tie.Need-returns
 unfolding writerCall
 returns c =
-    let ws = c .before .before .before .before .before .before .args .s .now in
-    sheet-refused prime ws sheetBytes sheetBlocks (c .before .before .before .before .before .before .args .out .now) refl (c .before .before .before .check-sheet .ensures) (c .before .enum-told .given .1) (c .refusal-of .ensures)
+    let checked = c .before .before .before in
+    let a = checked .before .before .before .args in
+    sheet-refused prime (a .s .now) sheetBytes sheetBlocks (a .out .now) refl (checked .check-sheet .ensures) (c .before .enum-told .given .1) (c .refusal-of .ensures)
 
 add-blocks : tie.Need-add-blocks
-add-blocks c =
-    let ws = c .before .before .before .before .before .before .args .s .now in
-    let t = found (check prime ws) (c .before .before .before .check-sheet .ensures) (c .before .checked .given .1) in
-    omega (arith, words-few prime ws (t .1) (t .2))
+add-blocks c = omega (arith, words-few prime (words c) (sheet c .1) (sheet c .2))
 
 mul-needed : tie.Need-mul-needed
-mul-needed c =
-    let ws = c .before .before .before .before .before .before .args .s .now in
-    let t = found (check prime ws) (c .before .before .before .check-sheet .ensures) (c .before .checked .given .1) in
-    omega (arith, words-few prime ws (t .1) (t .2))
+mul-needed c = omega (arith, words-few prime (words c) (sheet c .1) (sheet c .2))
 
 returns-2 : tie.Need-returns-2
 unfolding writerCall
 returns-2 c =
-    let ws = c .before .before .before .before .before .before .before .args .s .now in
-    let t = found (check prime ws) (c .before .before .before .before .check-sheet .ensures) (c .before .before .checked .given .1) in
-    sheet-short prime ws sheetBytes sheetBlocks (c .before .before .before .before .before .before .before .args .out .now) refl (t .1) (bytes-are prime ws (t .1) (t .2)) (c .if1 .taken)
+    let k = c .before in
+    let t = sheet k in
+    sheet-short prime (words k) sheetBytes sheetBlocks (entry k .args .out .now) refl (t .1) (bytes-are prime (words k) (t .1) (t .2)) (c .if1 .taken)
 
 slice-aggregate-write-each : tie.Need-slice-aggregate-write-each
 slice-aggregate-write-each c =
-    let ws = c .before .before .before .before .before .before .before .before .args .s .now in
-    let t = found (check prime ws) (c .before .before .before .before .before .check-sheet .ensures) (c .before .before .before .checked .given .1) in
-    words-inside prime ws (t .1) (t .2)
+    let k = c .before .before in
+    words-inside prime (words k) (sheet k .1) (sheet k .2)
 
 write-each-requires : tie.Need-write-each-requires
 write-each-requires c κs =
-    let ws = c .before .before .before .before .before .before .before .before .before .args .s .now in
-    let t = found (check prime ws) (c .before .before .before .before .before .before .check-sheet .ensures) (c .before .before .before .before .checked .given .1) in
-    (omega (arith, words-few prime ws (t .1) (t .2)), search needs)
+    let k = c .before .before .before in
+    (omega (arith, words-few prime (words k) (sheet k .1) (sheet k .2)), search needs)
 
 same-length : tie.Need-same-length
 same-length c = search needs
@@ -65,11 +73,13 @@ same-length c = search needs
 returns-3 : tie.Need-returns-3
 unfolding writerCall
 returns-3 c =
-    let ws = c .before .before .before .before .before .before .before .before .before .before .before .before .args .s .now in
+    let long-enough = c .before .before .before .before .before in
+    let k = long-enough .before in
+    let w = words k in
+    let t = sheet k in
     let write = c .before .before .write-each in
-    let t = found (check prime ws) (c .before .before .before .before .before .before .before .before .before .check-sheet .ensures) (c .before .before .before .before .before .before .before .checked .given .1) in
-    sheet-written prime ws sheetBytes sheetBlocks (write .last .1 .1 .0) (write .kept .1 .1 .0) (t .1) (bytes-are prime ws (t .1) (t .2)) (c .before .before .before .before .before .if1 .left)
-    (write .ensures ∙ made-are prime ws (t .1) (t .2)) (made-length prime ws (t .1) (t .2))
+    sheet-written prime w sheetBytes sheetBlocks (write .last .1 .1 .0) (write .kept .1 .1 .0) (t .1) (bytes-are prime w (t .1) (t .2)) (long-enough .if1 .left)
+    (write .ensures ∙ made-are prime w (t .1) (t .2)) (made-length prime w (t .1) (t .2))
 
 pub write-all-spec : {M : Type 1} → statement M
 write-all-spec =

@@ -1,6 +1,6 @@
 use mathlib.Core.Path.{sym, ap}
 use borrow.Author.Needs.{needs}
-use Rattle.c_replies.specs.Replies.{blockReply}
+use Rattle.block.specs.Checked.{blockReply}
 use Rattle.c_replies.specs.Fields.{blockFields}
 use Rattle.block.specs.declared.BlockChecked.{BlockChecked}
 use Rattle.c_replies.proofs.block_fields.Statement.{statement}

@@ -1,6 +1,6 @@
 use mathlib.Core.Path.{sym, ap}
 use borrow.Author.Needs.{needs}
-use Rattle.c_replies.specs.Replies.{packedReply}
+use Rattle.packed_var.specs.Packed.{packedReply}
 use Rattle.c_replies.specs.Fields.{packedFields}
 use Rattle.packed_var.specs.declared.Packed.{Packed}
 use Rattle.c_replies.proofs.packed_fields.Statement.{statement}

@@ -1,6 +1,6 @@
 use mathlib.Core.Path.{sym, ap}
 use borrow.Author.Needs.{needs}
-use Rattle.c_replies.specs.Replies.{unpackedReply}
+use Rattle.packing.specs.Leaves.{unpackedReply}
 use Rattle.c_replies.specs.Fields.{recordFields}
 use Rattle.packing.specs.declared.Unpacked.{Unpacked}
 use Rattle.c_replies.proofs.record_fields.Statement.{statement}

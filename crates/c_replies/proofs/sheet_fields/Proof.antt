@@ -1,6 +1,6 @@
 use mathlib.Core.Path.{sym, ap}
 use borrow.Author.Needs.{needs}
-use Rattle.c_replies.specs.Replies.{checkedReply}
+use Rattle.sheet.specs.Replies.{checkedReply}
 use Rattle.c_replies.specs.Fields.{sheetFields}
 use Rattle.sheet.specs.declared.Checked.{Checked}
 use Rattle.c_replies.proofs.sheet_fields.Statement.{statement}

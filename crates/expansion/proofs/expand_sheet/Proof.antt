@@ -1,75 +1,90 @@
+-- The check refuses the sheet, or finds it; then the lists of its constraints are made.
 use mathlib.Core.Path.{_∙_}
-use Prim.Native.Nat.{_-_}
 use lib.ListN.{length}
-use Rattle.constraint_lists.specs.Lists.{constraintsOf}
-use Rattle.expansion.proofs.Replies.{sheet-found, sheet-goes-on, sheet-refused}
 use borrow.Author.Needs.{needs}
+use Rattle.semantics.specs.Answer.{Answer}
+use Rattle.semantics.specs.Sheet.{Sheet}
+use Rattle.semantics.specs.Call.{Result}
+use Rattle.constraint_lists.specs.Lists.{CheckedSheet, constraintsOf}
+use Rattle.expansion.proofs.Replies.{sheet-found, sheet-goes-on, sheet-refused}
 use Rattle.expansion.proofs.expand_sheet.Statement.{statement}
 use Rattle.expansion.proofs.expand_sheet.Tie as tie
 
--- src/lib.rt:55:11
+-- What was lent, and the rest of the call for the sheet that the check found.
+abbrev entry : tie.After-check-sheet → tie.Start
+entry c = c .before .before .before .before .before .before .before
+
+abbrev rest : tie.Start → Sheet → Answer Result
+rest c =
+    let a = c .args in
+    constraintsOf (length (a .work .now)) (length (a .pool .now)) (length (a .headers .now)) (length (a .variables .now)) (length (a .terms .now))
+
+abbrev at-head : tie.After-expand-checked-arg5 → tie.After-checked
+at-head c = c .before .before .before .before .before .before
+
+module _ (c : tie.After-checked) where
+  abbrev lent : tie.Start
+  lent = entry (c .before .before)
+
+  sheet : let h = c .checked .given .0 .0 in CheckedSheet (lent .args .s .now) (h .records) (h .constraints) (h .interactions)
+  sheet = sheet-found (lent .args .s .now) (c .before .before .check-sheet .ensures) (c .checked .given .1)
+
 check-sheet-requires : tie.Need-check-sheet-requires
 check-sheet-requires c κs = search needs
 
--- src/lib.rt:56:24
-enum-known-head : tie.Need-enum-known-head
-enum-known-head c = search needs
+enum-known-checked : tie.Need-enum-known-checked
+enum-known-checked c = search needs
 
--- src/lib.rt:56:33
+enum-told : tie.Need-enum-told
+enum-told c = search needs
+
+refusal-of-requires : tie.Need-refusal-of-requires
+refusal-of-requires c κs = search needs
+
+returns : tie.Need-returns
+returns c =
+    let checked = c .before .before .before in
+    let e = entry checked in
+    (sheet-refused (e .args .s .now) (rest e) (checked .check-sheet .ensures) (c .before .enum-told .given .1) (c .refusal-of .ensures), tt)
+
 expand-checked-requires : tie.Need-expand-checked-requires
-expand-checked-requires c κs =
-    (c .before .before .before .before .before .before .head .given .0 .0 .interactions, sheet-found (c .before .before .before .before .before .before .before .before .before .before .before .before .before .before .before .args .s .now) (c .before .before .before .before .before .before .before .before .check-sheet .ensures) (c .before .before .before .before .before .before .head .given .1))
+expand-checked-requires c κs = (at-head c .checked .given .0 .0 .interactions, sheet (at-head c))
 
--- src/lib.rt:66:26
-enum-known-r : tie.Need-enum-known-r
-enum-known-r c = search needs
-
--- src/lib.rt:45:1
 same-length : tie.Need-same-length
 same-length c = search needs
 
--- src/lib.rt:45:1
 same-length-2 : tie.Need-same-length-2
 same-length-2 c = search needs
 
--- src/lib.rt:45:1
 same-length-3 : tie.Need-same-length-3
 same-length-3 c = search needs
 
--- src/lib.rt:45:1
 same-length-4 : tie.Need-same-length-4
 same-length-4 c = search needs
 
--- src/lib.rt:45:1
 same-length-5 : tie.Need-same-length-5
 same-length-5 c = search needs
 
--- src/lib.rt:45:1
-returns : tie.Need-returns
-returns c =
-    let a = c .before .before .before .before .before .before .before .before .before .before .before .before .before .before .before .before .before .before .before .before .before .before .before .before .before .before .args in
-    let e = sheet-found (a .s .now) (c .before .before .before .before .before .before .before .before .before .before .before .before .before .before .before .before .before .before .before .check-sheet .ensures) (c .before .before .before .before .before .before .before .before .before .before .before .before .before .before .before .before .before .head .given .1) in
-    let x = c .before .before .before .before .before .before .before .before .before .before .expand-checked .ensures in
-    (x .0 ∙ sheet-goes-on (a .s .now) (constraintsOf (length (a .work .now)) (length (a .pool .now)) (length (a .headers .now)) (length (a .variables .now)) (length (a .terms .now))) (e .checked), x .1)
-
--- src/lib.rt:45:1
 returns-2 : tie.Need-returns-2
 returns-2 c =
-    let a = c .before .before .before .before .before .before .before .before .before .before .args in
-    (sheet-refused (a .s .now) (constraintsOf (length (a .work .now)) (length (a .pool .now)) (length (a .headers .now)) (length (a .variables .now)) (length (a .terms .now))) (c .before .before .before .check-sheet .ensures) (c .before .r .given .1), tt)
+    let made = c .before .before .before .before .before .before .before .before .before .before in
+    let h = at-head (made .before) in
+    let x = made .expand-checked .ensures in
+    (x .0 ∙ sheet-goes-on (lent h .args .s .now) (rest (lent h)) (sheet h .checked), x .1)
 
 pub expand-sheet-spec : {M : Type 1} → statement M
 expand-sheet-spec =
     tie.close
     (tie.spec
     check-sheet-requires
-    enum-known-head
+    enum-known-checked
+    enum-told
+    refusal-of-requires
+    returns
     expand-checked-requires
-    enum-known-r
     same-length
     same-length-2
     same-length-3
     same-length-4
     same-length-5
-    returns
     returns-2)

@@ -1,10 +1,20 @@
+-- The words are refused, or say a leaf, which is packed.
+use mathlib.Core.Path.{_≡_, _∙_}
 use borrow.Author.Needs.{needs}
-use mathlib.Core.Path.{ap, _∙_}
-use Rattle.semantics.specs.Answer.{good}
-use Rattle.semantics.specs.Packing.{packed, packFault, packRecord}
-use Rattle.packing.proofs.Laws.{pack-refused, pack-said}
+use Rattle.semantics.specs.Sheet.{Record, recordOf}
+use Rattle.semantics.specs.Call.{packCall, variableCall}
+use Rattle.packing.specs.declared.leaf.Leaf.{Leaf}
+use Rattle.packing.specs.Leaves.{leafRecord}
+use Rattle.packing.proofs.Laws.{pack-refused, pack-said, first-packs, last-packs, transition-packs}
 use Rattle.packing.proofs.pack.Statement.{statement}
 use Rattle.packing.proofs.pack.Tie as tie
+
+-- The record that the words are, and what packing it comes to for the leaf that was read.
+abbrev words : tie.After-known-told → Record
+words c = let a = c .before .before .before .before .args in recordOf (a .kind) (a .a) (a .b) (a .c) (a .d)
+
+says : (c : tie.After-known-told) {l : Leaf} → c .before .read .given .0 .0 ≡ l → variableCall (leafRecord l) ≡ packCall (words c)
+says c q = pack-said (words c) (c .before .before .before .leaf-of .ensures) (c .before .read .given .1) q
 
 leaf-of-requires : tie.Need-leaf-of-requires
 leaf-of-requires c κs = search needs
@@ -47,30 +57,17 @@ is-transition-requires c κs = search needs
 
 returns-2 : tie.Need-returns-2
 returns-2 c =
-    c .from-symbolic-var .ensures
-    ∙ pack-said _ (c .before .before .before .before .before .before .before .leaf-of .ensures)
-    (c .before .before .before .before .before .read .given .1) (c .before .before .said .given .1)
+    let variable = c .before .before in
+    c .from-symbolic-var .ensures ∙ says (variable .before .before) (variable .said .given .1)
 
 returns-3 : tie.Need-returns-3
-unfolding packRecord packFault packed
-returns-3 c =
-    ap good (c .is-first .ensures)
-    ∙ pack-said _ (c .before .before .before .before .before .before .leaf-of .ensures) (c .before .before .before .before .read .given .1)
-    (c .before .enum-told2 .given .1)
+returns-3 c = first-packs _ (c .is-first .ensures) ∙ says (c .before .before .before) (c .before .enum-told2 .given .1)
 
 returns-4 : tie.Need-returns-4
-unfolding packRecord packFault packed
-returns-4 c =
-    ap good (c .is-last .ensures)
-    ∙ pack-said _ (c .before .before .before .before .before .before .leaf-of .ensures) (c .before .before .before .before .read .given .1)
-    (c .before .enum-told3 .given .1)
+returns-4 c = last-packs _ (c .is-last .ensures) ∙ says (c .before .before .before) (c .before .enum-told3 .given .1)
 
 returns-5 : tie.Need-returns-5
-unfolding packRecord packFault packed
-returns-5 c =
-    ap good (c .is-transition .ensures)
-    ∙ pack-said _ (c .before .before .before .before .before .before .leaf-of .ensures) (c .before .before .before .before .read .given .1)
-    (c .before .enum-told4 .given .1)
+returns-5 c = transition-packs _ (c .is-transition .ensures) ∙ says (c .before .before .before) (c .before .enum-told4 .given .1)
 
 pub pack-spec : {M : Type 1} → statement M
 pack-spec =

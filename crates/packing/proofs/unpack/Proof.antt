@@ -1,6 +1,6 @@
+-- The words of the bits are packed again: they are right if that gives the same packed variable.
+use mathlib.Core.Path.{refl, sym, _∙_}
 use borrow.Author.Needs.{needs}
-use mathlib.Core.Path.{refl}
-use borrow.Author.Tests.{eq-eqb, ne-eqb}
 use Rattle.semantics.specs.Packing.{handsOut}
 use Rattle.packing.proofs.Laws.{unpack-by}
 use Rattle.packing.proofs.unpack.Statement.{statement}
@@ -20,21 +20,28 @@ enum-told c = search needs
 
 returns : tie.Need-returns
 unfolding handsOut
-returns c = unpack-by _ _ (c .before .before .before .words-of .ensures) (c .before .before .pack .ensures) (c .enum-told .given .1) refl
+returns c =
+    let packed = c .before .before in
+    unpack-by _ (packed .before .words-of .result) (packed .before .words-of .ensures) (packed .pack .ensures) (c .enum-told .given .1) refl
+
+same-requires : tie.Need-same-requires
+same-requires c κs = search needs
 
 returns-2 : tie.Need-returns-2
 unfolding handsOut
 returns-2 c =
-    unpack-by _ _ (c .before .before .before .before .before .before .before .words-of .ensures)
-    (c .before .before .before .before .before .before .pack .ensures) (c .before .before .before .before .again .given .1)
-    (ne-eqb _ _ (c .if1 .taken))
+    let again = c .before .before .before in
+    let packed = again .before .before in
+    unpack-by _ (packed .before .words-of .result) (packed .before .words-of .ensures) (packed .pack .ensures) (again .again .given .1)
+    (sym (c .before .same .ensures) ∙ c .if1 .taken)
 
 returns-3 : tie.Need-returns-3
 unfolding handsOut
 returns-3 c =
-    unpack-by _ _ (c .before .before .before .before .before .before .before .words-of .ensures)
-    (c .before .before .before .before .before .before .pack .ensures) (c .before .before .before .before .again .given .1)
-    (eq-eqb _ _ (c .if1 .left))
+    let again = c .before .before .before in
+    let packed = again .before .before in
+    unpack-by _ (packed .before .words-of .result) (packed .before .words-of .ensures) (packed .pack .ensures) (again .again .given .1)
+    (sym (c .before .same .ensures) ∙ c .if1 .left)
 
 pub unpack-spec : {M : Type 1} → statement M
 unpack-spec =
@@ -45,5 +52,6 @@ unpack-spec =
     enum-known-again
     enum-told
     returns
+    same-requires
     returns-2
     returns-3)

@@ -1,8 +1,8 @@
+-- The check refuses the sheet, or finds it; then its C is handed back.
 use mathlib.Core.Path.{ap}
 use borrow.Author.Needs.{needs}
 use lib.ListN.{length}
 use Rattle.semantics.specs.Arithmetic.{prime}
-use Rattle.semantics.specs.Check.{check}
 use Rattle.semantics.specs.Call.{numConstraintsCall}
 use Rattle.sheet.proofs.Answers.{found}
 use Rattle.sheet_calls.proofs.Counts.{counted-refused, counted-found}
@@ -25,14 +25,16 @@ refusal-of-requires c κs = search needs
 returns : tie.Need-returns
 unfolding numConstraintsCall
 returns c =
-    let ws = c .before .before .before .before .before .args .s .now in
-    counted-refused prime ws (λ t. length (t .constraints)) (c .before .before .before .check-sheet .ensures) (c .before .enum-told .given .1) (c .refusal-of .ensures)
+    let checked = c .before .before .before in
+    counted-refused prime (checked .before .before .args .s .now) (λ t. length (t .constraints)) (checked .check-sheet .ensures)
+    (c .before .enum-told .given .1) (c .refusal-of .ensures)
 
 returns-2 : tie.Need-returns-2
 unfolding numConstraintsCall
 returns-2 c =
-    let ws = c .before .before .before .before .before .args .s .now in
-    let t = found (check prime ws) (c .before .before .before .check-sheet .ensures) (c .before .checked .given .1) in
+    let checked = c .before .before .before in
+    let ws = checked .before .before .args .s .now in
+    let t = found prime ws (checked .check-sheet .ensures) (c .before .checked .given .1) in
     counted-found prime ws (λ t. length (t .constraints)) (t .1) (ap (λ (h : Head). h .constraints) (t .2))
 
 pub num-constraints-spec : {M : Type 1} → statement M

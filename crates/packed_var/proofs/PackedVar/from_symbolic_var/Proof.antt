@@ -1,18 +1,24 @@
+-- The tests come in the order of 8 to 11 for each entry, and what passes them is packed.
+use mathlib.Core.Path.{_≡_, refl, ap, _∙_}
+use mathlib.Core.Bool.{false}
+use lib.Dec.{ltb}
 use borrow.Author.Needs.{needs}
-use mathlib.Core.Path.{refl, ap, _∙_}
 use borrow.Author.Tests.{lt-ltb, le-ltb}
 use Rattle.semantics.specs.Answer.{good}
-use Rattle.packed_var.specs.Packed.{packedAnswer}
+use Rattle.packed_var.specs.declared.Packed.the-variants.{Var}
+use Rattle.packed_var.proofs.Answers.{packedAnswer}
 use Rattle.packed_var.proofs.Laws.{variable-faults, column-wrong, entry-packs}
 use Rattle.packed_var.proofs.PackedVar.from_symbolic_var.Statement.{statement}
 use Rattle.packed_var.proofs.PackedVar.from_symbolic_var.Tie as tie
+
+column-fits : (c : tie.After-struct-known2) → ltb 65535 (c .before .before .before .args .var .index) ≡ false
+column-fits c = le-ltb _ _ (c .before .if1 .left)
 
 refused-requires : tie.Need-refused-requires
 refused-requires c κs = search needs
 
 returns : tie.Need-returns
-returns c =
-    ap packedAnswer (c .refused .ensures) ∙ column-wrong (c .before .before .before .args .var .entry) _ (c .before .if1 .taken)
+returns c = column-wrong _ (c .refused .result) (c .before .before .before .args .var .entry) (c .refused .ensures) (c .before .if1 .taken)
 
 cast-column : tie.Need-cast-column
 cast-column c = search needs
@@ -25,19 +31,19 @@ refused-requires-2 c κs = search needs
 
 returns-2 : tie.Need-returns-2
 returns-2 c =
-    entry-packs _ (c .before .before .before .entry .given .1)
-    (ap packedAnswer (c .refused2 .ensures) ∙ variable-faults _ _ _ _ (le-ltb _ _ (c .before .before .before .before .before .before .if1 .left))
-    refl (lt-ltb _ _ (c .before .if2 .taken)) refl)
+    let main = c .before .before .before in
+    entry-packs _ (c .refused2 .result) (main .entry .given .1)
+    (ap packedAnswer (c .refused2 .ensures) ∙ variable-faults _ _ _ _ (column-fits (main .before .before)) refl (lt-ltb _ _ (c .before .if2 .taken)) refl)
 
 refused-requires-3 : tie.Need-refused-requires-3
 refused-requires-3 c κs = search needs
 
 returns-3 : tie.Need-returns-3
 returns-3 c =
-    entry-packs _ (c .before .before .before .before .entry .given .1)
+    let main = c .before .before .before .before in
+    entry-packs _ (c .refused3 .result) (main .entry .given .1)
     (ap packedAnswer (c .refused3 .ensures)
-    ∙ variable-faults _ _ _ _ (le-ltb _ _ (c .before .before .before .before .before .before .before .if1 .left))
-    refl (le-ltb _ _ (c .before .before .if2 .left)) (lt-ltb _ _ (c .before .if3 .taken)))
+    ∙ variable-faults _ _ _ _ (column-fits (main .before .before)) refl (le-ltb _ _ (c .before .before .if2 .left)) (lt-ltb _ _ (c .before .if3 .taken)))
 
 cast-new : tie.Need-cast-new
 cast-new c = search needs
@@ -56,9 +62,10 @@ refused-requires-4 c κs = search needs
 
 returns-4 : tie.Need-returns-4
 returns-4 c =
-    entry-packs _ (c .before .before .before .entry2 .given .1)
-    (ap packedAnswer (c .refused4 .ensures) ∙ variable-faults _ _ _ _ (le-ltb _ _ (c .before .before .before .before .before .before .if1 .left))
-    refl refl (lt-ltb _ _ (c .before .if4 .taken)))
+    let preprocessed = c .before .before .before in
+    entry-packs _ (c .refused4 .result) (preprocessed .entry2 .given .1)
+    (ap packedAnswer (c .refused4 .ensures)
+    ∙ variable-faults _ _ _ _ (column-fits (preprocessed .before .before)) refl refl (lt-ltb _ _ (c .before .if4 .taken)))
 
 cast-new-3 : tie.Need-cast-new-3
 cast-new-3 c = search needs
@@ -80,25 +87,28 @@ refused-requires-5 c κs = search needs
 
 returns-5 : tie.Need-returns-5
 returns-5 c =
-    entry-packs _ (c .before .before .before .before .entry .given .1)
-    (ap good (c .new .ensures) ∙ variable-faults _ _ _ _ (le-ltb _ _ (c .before .before .before .before .before .before .before .if1 .left))
-    refl (le-ltb _ _ (c .before .before .if2 .left)) (le-ltb _ _ (c .before .if3 .left)))
+    let main = c .before .before .before .before in
+    entry-packs _ (Var (c .new .result)) (main .entry .given .1)
+    (ap good (c .new .ensures)
+    ∙ variable-faults _ _ _ _ (column-fits (main .before .before)) refl (le-ltb _ _ (c .before .before .if2 .left)) (le-ltb _ _ (c .before .if3 .left)))
 
 returns-6 : tie.Need-returns-6
 returns-6 c =
-    entry-packs _ (c .before .before .before .entry2 .given .1)
-    (ap good (c .new2 .ensures) ∙ variable-faults _ _ _ _ (le-ltb _ _ (c .before .before .before .before .before .before .if1 .left))
-    refl refl (le-ltb _ _ (c .before .if4 .left)))
+    let preprocessed = c .before .before .before in
+    entry-packs _ (Var (c .new2 .result)) (preprocessed .entry2 .given .1)
+    (ap good (c .new2 .ensures) ∙ variable-faults _ _ _ _ (column-fits (preprocessed .before .before)) refl refl (le-ltb _ _ (c .before .if4 .left)))
 
 returns-7 : tie.Need-returns-7
 returns-7 c =
-    entry-packs _ (c .before .enum-told .given .1)
-    (ap good (c .new3 .ensures) ∙ variable-faults _ _ _ _ (le-ltb _ _ (c .before .before .before .before .if1 .left)) refl refl refl)
+    let public = c .before in
+    entry-packs _ (Var (c .new3 .result)) (public .enum-told .given .1)
+    (ap good (c .new3 .ensures) ∙ variable-faults _ _ _ _ (column-fits (public .before .before)) refl refl refl)
 
 returns-8 : tie.Need-returns-8
 returns-8 c =
-    entry-packs _ (c .before .enum-told2 .given .1)
-    (ap packedAnswer (c .refused5 .ensures) ∙ variable-faults _ _ _ _ (le-ltb _ _ (c .before .before .before .before .if1 .left)) refl refl refl)
+    let challenge = c .before in
+    entry-packs _ (c .refused5 .result) (challenge .enum-told2 .given .1)
+    (ap packedAnswer (c .refused5 .ensures) ∙ variable-faults _ _ _ _ (column-fits (challenge .before .before)) refl refl refl)
 
 pub from-symbolic-var-spec : {M : Type 1} → statement M
 from-symbolic-var-spec =
