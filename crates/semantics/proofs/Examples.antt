@@ -15,7 +15,7 @@ use Rattle.semantics.specs.Graph.{ifConstants, isConst, ifNeg, addRule, 
 use Rattle.semantics.specs.Monomial.{before, beforeVars, insertSorted, sort, above, negMonomial, mulMonomial, products, keep, plus, insertMonomial, combine, working, finished, recordList, lists, listAt}
 use Rattle.semantics.specs.Expand.{longer, workFault, listSize, recordFault, expandRecord, expandAll}
 use Rattle.semantics.specs.Group.{labelled, constraintRoots, countRoots, fieldRoots, itemsOf, items, key, later, push, split, groups, constraintTerm, interactionTerm, headers, variables, terms, layout, rows, listedAt, listed}
-use Rattle.semantics.specs.Call.{Outcome, zeros, padded, paddedAll, outcome, handedBack, needs, result, packCall, readerCall, onSheet, writerCall, builderCall, maxRotationCall, firstShort, fitted, family, expansion, constraintOutputs, constraintCall, interactionOutputs, maxFieldsLen, interactionCall}
+use Rattle.semantics.specs.Call.{Outcome, acceptedWith, refusedWith, zeros, padded, paddedAll, outcome, handedBack, needs, result, packCall, readerCall, onSheet, writerCall, builderCall, maxRotationCall, firstShort, fitted, family, expansion, constraintOutputs, constraintCall, interactionOutputs, maxFieldsLen, interactionCall}
 use Rattle.semantics.specs.Sheetlist.{digits, decimal, hexDigit, hexDigits, integer, signed, line, tLine, uLine, wLine, headerLines, step, interactionLines, constraintLines, graphLines, sheetLines, sheetlist}
 
 -- v and w: main, part 0, offset 0, columns 0 and 1.
@@ -32,10 +32,10 @@ packs r = packCall r
 
 -- Number 0 with these numbers, or a refusal; nothing is lent for writing.
 answers : List ℕ → Outcome
-answers ns = record { reply = record { number = 0; place = 0; counts = []; numbers = ns }; slices = [] }
+answers ns = record { reply = acceptedWith [] ns; slices = [] }
 
 refuses : (number place : ℕ) → Outcome
-refuses number place = record { reply = record { number = number; place = place; counts = []; numbers = [] }; slices = [] }
+refuses number place = record { reply = refusedWith number place; slices = [] }
 
 sheetOf : List Record → List ℕ → Sheet
 sheetOf rs cs = record { records = rs; constraints = cs; interactions = [] }
@@ -53,7 +53,7 @@ words rs cs = encode (sheetOf rs cs)
 -- Number 0 and the count of words; scratch of so many words is zero; the words, and so many zeros behind them.
 graph : (scratch : ℕ) (ws : List ℕ) (behind : ℕ) → Outcome
 graph scratch ws behind = record {
-  reply = record { number = 0; place = 0; counts = length ws ∷ []; numbers = [] };
+  reply = acceptedWith (length ws ∷ []) [];
   slices = replicate scratch 0 ∷ (ws ++ replicate behind 0) ∷ [];
 }
 
@@ -65,7 +65,7 @@ expands ws = constraintCall prime ws 4096 60 8 8 8
 -- Number 0 and the three counts; work and pool are zero; headers, variables and terms, with zeros behind them.
 expanded : (hs vs ts : List ℕ) → Outcome
 expanded hs vs ts = record {
-  reply = record { number = 0; place = 0; counts = length hs ∷ length vs ∷ length ts ∷ []; numbers = [] };
+  reply = acceptedWith (length hs ∷ length vs ∷ length ts ∷ []) [];
   slices =
       replicate 4096 0 ∷ replicate 60 0 ∷ (hs ++ replicate (8 - length hs) 0) ∷ (vs ++ replicate (8 - length vs) 0) ∷ (ts ++ replicate (8 - length ts) 0) ∷ [];
 }

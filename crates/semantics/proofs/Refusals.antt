@@ -17,12 +17,12 @@ use Rattle.semantics.specs.Expand.{expandAll}
 use Rattle.semantics.specs.Graph.{graphOf, maxRotation}
 use Rattle.semantics.specs.Group.{Root}
 use Rattle.semantics.specs.Call.{Result, outcome, needs, result, onSheet, fitted, expansion}
-use Rattle.semantics.specs.Call.{blockCheckCall, readerCall, writerCall, checkCall, builderCall, maxRotationCall, numConstraintsCall, conversionCall, packCall, unpackCall, constraintCall, interactionCall}
+use Rattle.semantics.specs.Call.{blockCheckCall, readerCall, writerCall, checkCall, builderCall, maxRotationCall, numConstraintsCall, conversionCall, packCall, variableCall, unpackCall, constraintCall, interactionCall}
 use Rattle.semantics.specs.Refusals.{Sends, ofSheet, ofExpansion, Refusals}
 use Rattle.semantics.proofs.Basics.{by-test}
 use Rattle.semantics.proofs.Members.{Mem, mem-there}
-use Rattle.semantics.proofs.Sorting.{all-at}
-use Rattle.semantics.proofs.Acceptance.{Within, words-there, judged-sent, check-sent, then-sent, result-sent, needs-sent, pack-fault, walk-sent, fitted-sent}
+use Rattle.semantics.proofs.Sorting.{All, all-at}
+use Rattle.semantics.proofs.Acceptance.{Sent, Within, words-there, judged-sent, check-sent, then-sent, result-sent, needs-sent, pack-fault, walk-sent, fitted-sent}
 
 -- The number of a call's reply is 0 or that of its refusal.
 pub sends : (ns scratch lent : List ℕ) (a : Answer Result) → Within ns a → Sends ns (outcome scratch lent a)
@@ -94,11 +94,9 @@ copy-sends p ws out need written =
 abbrev ofPacking : List ℕ
 ofPacking = 5 ∷ 8 ∷ 9 ∷ 10 ∷ 11 ∷ []
 
-record-within : (r : Record) → Within ofPacking (packRecord r)
-unfolding packRecord member
-record-within r =
-    by-test (Within ofPacking) (eqb (packFault r) 0) (λ e. tt)
-    (λ e. pack-fault (λ (n : ℕ). Mem n ofPacking) (refl, (refl, (refl, (refl, tt)))) r (eqb-false (packFault r) 0 e))
+record-sent : (P : ℕ → Type 0) → All P (8 ∷ 9 ∷ 10 ∷ 11 ∷ []) → (r : Record) → Sent P (packRecord r)
+unfolding packRecord
+record-sent P h r = by-test (Sent P) (eqb (packFault r) 0) (λ e. tt) (λ e. pack-fault P h r (eqb-false (packFault r) 0 e))
 
 -- A kind has at most four uses, so the five words of a record are enough.
 row-short : (k : ℕ) → length (row k) ≤ 4
@@ -116,7 +114,7 @@ unfolding pack member
 pack-within r =
     then-sent (λ (n : ℕ). Mem n ofPacking) _ packRecord
     (judged-sent (λ (n : ℕ). Mem n ofPacking) _ r (words-there (λ (n : ℕ). Mem n ofPacking) 5 refl (leafTests (recordWords r)) 0 (recordWords r) (tests-short r)))
-    record-within
+    (record-sent (λ (n : ℕ). Mem n ofPacking) (refl, (refl, (refl, (refl, tt)))))
 
 pub refusals : (p : ℕ) → Refusals p
 unfolding member
@@ -131,6 +129,8 @@ refusals p = record {
   numConstraints = λ ws. unfold numConstraintsCall in (number-sends p ws _);
   conversion = λ ws out. unfold conversionCall in (copy-sends p ws out _ _);
   pack = λ r. unfold packCall in (sends ofPacking [] [] _ (then-sent _ (pack r) _ (pack-within r) (λ n. result-sent _ _ _)));
+  variable = λ r. unfold variableCall in
+      (sends (8 ∷ 9 ∷ 10 ∷ 11 ∷ []) [] [] _ (then-sent _ (packRecord r) _ (record-sent _ (refl, (refl, (refl, (refl, tt)))) r) (λ n. result-sent _ _ _)));
   unpack = λ n. unfold unpackCall unpack in
       (sends (5 ∷ []) [] [] _ (then-sent _ _ _ (by-test (Within (5 ∷ [])) (handsOut (pack (unpacked n)) n) (λ e. tt) (λ e. refl)) (λ r. result-sent _ _ _)));
   constraints = λ ws work pool h v t. unfold constraintCall in (expansion-sends p ws work pool _ _ _ _);

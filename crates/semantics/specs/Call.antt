@@ -56,11 +56,11 @@ paddedAll (w ∷ ws) (n ∷ ns) = padded w n ∷ paddedAll ws ns
 -- "scratch ends all zero"; "A refusal is a number and a place, and every slice lent for writing, of any length, then holds only zeros."
 unfoldable pub outcome : (scratch outputs : List ℕ) → Answer Result → Outcome
 outcome scratch outputs (good r) = record {
-  reply = record { number = 0; place = 0; counts = map length (r .outputs); numbers = r .numbers };
+  reply = acceptedWith (map length (r .outputs)) (r .numbers);
   slices = map zeros scratch ++ paddedAll (r .outputs) outputs;
 }
 outcome scratch outputs (refused n k) = record {
-  reply = record { number = n; place = k; counts = []; numbers = [] };
+  reply = refusedWith n k;
   slices = map zeros (scratch ++ outputs);
 }
 

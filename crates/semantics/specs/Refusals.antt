@@ -7,7 +7,7 @@ use lib.ListN.{length, getD}
 use Rattle.semantics.specs.Sheet.{Record}
 use Rattle.semantics.specs.Walk.{member}
 use Rattle.semantics.specs.Group.{rows}
-use Rattle.semantics.specs.Call.{Outcome, Accepted, handedBack, blockCheckCall, readerCall, writerCall, checkCall, builderCall, maxRotationCall, numConstraintsCall, conversionCall, packCall, unpackCall, constraintCall, interactionCall}
+use Rattle.semantics.specs.Call.{Outcome, Accepted, handedBack, blockCheckCall, readerCall, writerCall, checkCall, builderCall, maxRotationCall, numConstraintsCall, conversionCall, packCall, variableCall, unpackCall, constraintCall, interactionCall}
 
 -- The number of the reply is 0 or one of these.
 abbrev pub Sends : List ℕ → Outcome → Type 0
@@ -32,6 +32,7 @@ pub record Refusals (p : ℕ) : Type 0 where
   pub numConstraints : (ws : List ℕ) → Sends ofSheet (numConstraintsCall p ws)
   pub conversion : (ws : List ℕ) (out : ℕ) → Sends (ofSheet ++ (15 ∷ [])) (conversionCall p ws out)
   pub pack : (r : Record) → Sends (5 ∷ 8 ∷ 9 ∷ 10 ∷ 11 ∷ []) (packCall r)
+  pub variable : (r : Record) → Sends (8 ∷ 9 ∷ 10 ∷ 11 ∷ []) (variableCall r)
   pub unpack : (n : ℕ) → Sends (5 ∷ []) (unpackCall n)
   pub constraints : (ws : List ℕ) (work pool h v t : ℕ) → Sends (ofSheet ++ ofExpansion) (constraintCall p ws work pool h v t)
   pub interactions : (ws : List ℕ) (work pool h v t h′ v′ t′ : ℕ) → Sends (ofSheet ++ ofExpansion) (interactionCall p ws work pool h v t h′ v′ t′)

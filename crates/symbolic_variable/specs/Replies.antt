@@ -2,7 +2,7 @@
 use mathlib.Core.List.{List, [], _∷_}
 use Prim.Native.Nat.{ℕ}
 use Rattle.semantics.specs.Answer.{Answer, good, refused, andThen}
-use Rattle.semantics.specs.Call.{Outcome, outcome, result}
+use Rattle.semantics.specs.Call.{Outcome, acceptedWith, refusedWith, outcome, result}
 use Rattle.semantics.specs.Refusals.{Sends}
 use Rattle.symbolic_variable.specs.declared.Refusal.{Refusal}
 use Rattle.symbolic_variable.specs.declared.Entry.{Entry}
@@ -17,13 +17,12 @@ use Rattle.symbolic_variable.specs.declared.Sum.{Sum}
 use Rattle.symbolic_variable.specs.declared.Sum.the-variants.{Fits, TooLarge}
 use Rattle.symbolic_variable.specs.Variable.{entryWords, entryOffset, variableWords, entryRotated, variableRotated}
 
--- Acceptance is number 0, here with numbers and no slices.
+-- Nothing is lent for writing: number 0 with numbers, or "a number and a place".
 abbrev pub acceptedOutcome : (numbers : List ℕ) → Outcome
-acceptedOutcome ns = record { reply = record { number = 0; place = 0; counts = []; numbers = ns }; slices = [] }
+acceptedOutcome ns = record { reply = acceptedWith [] ns; slices = [] }
 
--- "A refusal is a number and a place"
 abbrev pub refusedOutcome : Refusal → Outcome
-refusedOutcome r = record { reply = record { number = r .number; place = r .place; counts = []; numbers = [] }; slices = [] }
+refusedOutcome r = record { reply = refusedWith (r .number) (r .place); slices = [] }
 
 -- An entry's offset: one number, or none.
 abbrev pub offsetOutcome : EntryOffset → Outcome
