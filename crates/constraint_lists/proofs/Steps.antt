@@ -1,7 +1,8 @@
 -- The steps of an expansion, in the order of its refusals.
 use mathlib.Core.Path.{_≡_, sym, ap, subst, _∙_}
 use mathlib.Core.List.{List, [], _∷_, map}
-use Prim.Native.Nat.{ℕ, _*_, _≤_, _<_}
+use Prim.Native.Nat.{ℕ, suc, _+_, _*_, _≤_, _<_}
+use native.Mathlib.Omega.{arith}
 use lib.Dec.{eqb, leb}
 use lib.ListN.{length, take}
 use borrow.Author.Tests.{lt-leb, eq-eqb, ne-eqb}
@@ -11,9 +12,9 @@ use Rattle.semantics.specs.Sheet.{Sheet}
 use Rattle.semantics.specs.Check.{readSheet}
 use Rattle.semantics.specs.Walk.{order}
 use Rattle.semantics.specs.Expand.{expandAll}
-use Rattle.semantics.specs.Group.{Root, Group, constraintRoots, constraintTerm, headers, variables, terms, layout}
+use Rattle.semantics.specs.Group.{Root, Item, Group, constraintRoots, constraintTerm, headers, variables, terms, layout}
 use Rattle.semantics.specs.Call.{Result, needs, result, fitted, firstShort, family, constraintOutputs}
-use Rattle.semantics.proofs.Basics.{cond-true, cond-false}
+use Rattle.semantics.proofs.Basics.{cond-true, cond-false, by-test}
 use Rattle.semantics.proofs.Calls.{needs-met}
 use Rattle.semantics.proofs.Demands.{constraint-nodes}
 use Rattle.records.specs.Access.{recordsOf}
@@ -26,7 +27,22 @@ use Rattle.grouping.specs.declared.Grouped.the-variants as grouped
 use Rattle.constraint_lists.specs.declared.ConstraintLists.{ConstraintLists}
 use Rattle.constraint_lists.specs.declared.ConstraintLists.the-variants.{Refused}
 use Rattle.grouping.specs.Families.{groupsOf, Front, Laid}
-use Rattle.constraint_lists.specs.Lists.{expansionOf, constraintAnswer, constraintsIn, constraintsOf, refusalOf, Inside}
+use Rattle.constraint_lists.specs.Lists.{expansionOf, constraintAnswer, constraintsIn, constraintsOf, refusalOf, ShortFew, Inside}
+
+-- There are three slices.
+first-bound : (k : ℕ) (ws : List (List ℕ)) (ns : List ℕ) → firstShort (suc k) ws ns ≤ k + length ws
+unfolding firstShort
+first-bound k [] ns = omega arith
+first-bound k (w ∷ ws) [] = omega arith
+first-bound k (w ∷ ws) (n ∷ ns) =
+    let ih = first-bound (suc k) ws ns in
+    by-test (λ (x : ℕ). x ≤ k + suc (length ws)) (leb (length w) n) (λ e. omega (arith, ih)) (λ e. omega arith)
+
+pub short-few : (term : Item → List ℕ) (gs : List Group) (h v t : List ℕ) (g : Grouped) → Laid term gs h v t g → ShortFew g
+unfolding layout
+short-few term gs h v t (grouped.Written c) l = tt
+short-few term gs h v t (grouped.Short k) l =
+    omega (arith, first-bound 0 (layout term gs) (length h ∷ length v ∷ length t ∷ []), l .0)
 
 needs-short : {X : Type 0} (number needed lent : ℕ) (rest : Answer X) → lent < needed → refused number needed ≡ needs number needed lent rest
 unfolding needs

@@ -1,7 +1,7 @@
 -- The lists of the constraints, or why there are none (01, "What each call hands back").
 use mathlib.Core.Path.{_≡_}
 use mathlib.Core.List.{List, [], _∷_, map}
-use Prim.Native.Nat.{ℕ, _*_, _≤_}
+use Prim.Native.Nat.{ℕ, _+_, _*_, _≤_}
 use lib.ListN.{length, take}
 use Rattle.semantics.specs.Arithmetic.{prime}
 use Rattle.semantics.specs.Answer.{Answer, good, refused, andThen}
@@ -58,6 +58,15 @@ refusalOf (expanded.Used u) = record { number = 0; place = 0 }
 
 abbrev pub tooShort : ℕ → Refusal
 tooShort k = record { number = 17; place = k }
+
+abbrev pub shortOf : Grouped → (first : ℕ) → Refusal
+shortOf (grouped.Short k) first = tooShort (first + k)
+shortOf (grouped.Written n) first = record { number = 0; place = 0 }
+
+-- A slice's number is at most 3.
+abbrev pub ShortFew : Grouped → Type 0
+ShortFew (grouped.Short k) = k ≤ 3
+ShortFew (grouped.Written n) = Unit {0}
 
 abbrev pub constraintsIn : Grouped → ConstraintLists
 constraintsIn (grouped.Written n) = Written n

@@ -6,7 +6,7 @@ ghost use Rattle.semantics.specs.Check.{readSheet};
 ghost use Rattle.semantics.specs.Walk.{order};
 ghost use Rattle.records.specs.Access.{recordsOf};
 ghost use Rattle.expand.specs.Walking.{Expands};
-ghost use Rattle.constraint_lists.specs.Lists.{refusalOf, constraintsIn, constraintAnswer, constraintsOf, Inside, CheckedSheet};
+ghost use Rattle.constraint_lists.specs.Lists.{refusalOf, shortOf, ShortFew, constraintsIn, constraintAnswer, constraintsOf, Inside, CheckedSheet};
 use expand::Expanded;
 use grouping::Grouped;
 use grouping::Lengths;
@@ -30,17 +30,32 @@ pub fn refusal_of(walked: Expanded) -> Refusal
     }
 }
 
-// A slice that is too short is refused by 17.
-fn constraints_in(grouped: Grouped) -> ConstraintLists
-    ensures { λ r. ⌜ r ≡ constraintsIn grouped ⌝ }
+// The refusal of a family whose slice is too short; its slices are counted from `first`.
+pub fn too_short(grouped: Grouped, first: usize) -> Refusal
+    requires { ⌜ (first ≤ 3) × ShortFew grouped ⌝ }
+    ensures { λ r. ⌜ r ≡ shortOf grouped first ⌝ }
 {
     match grouped {
-        Grouped::Written(n) => ConstraintLists::Written(n),
-        Grouped::Short(k) => ConstraintLists::Refused(Refusal {
+        Grouped::Short(k) => Refusal {
             number: 17,
-            place: k,
-        }),
+            place: first + k,
+        },
+        Grouped::Written(_) => Refusal {
+            number: 0,
+            place: 0,
+        },
     }
+}
+
+// What grouping the constraints comes to.
+fn constraints_in(grouped: Grouped) -> ConstraintLists
+    requires { ⌜ ShortFew grouped ⌝ }
+    ensures { λ r. ⌜ r ≡ constraintsIn grouped ⌝ }
+{
+    let Grouped::Written(lengths) = grouped else {
+        return ConstraintLists::Refused(too_short(grouped, 0));
+    };
+    ConstraintLists::Written(lengths)
 }
 
 // Expands the constraints of a checked sheet, with the two words of each record cleared first.

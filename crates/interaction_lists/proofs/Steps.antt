@@ -29,23 +29,8 @@ use Rattle.interaction_lists.specs.declared.InteractionLists.{Interactio
 use Rattle.interaction_lists.specs.declared.InteractionLists.the-variants as interaction
 use Rattle.grouping.proofs.Slices.{later-none, later-short, first-none, first-short}
 use Rattle.grouping.specs.declared.Lengths.{Lengths}
-use Rattle.constraint_lists.specs.Lists.{tooShort, expansionOf, refusalOf}
-use Rattle.interaction_lists.specs.Lists.{interactionAnswer, BothInside, shortOf, ShortFew}
-
--- There are three slices.
-first-bound : (k : ℕ) (ws : List (List ℕ)) (ns : List ℕ) → firstShort (suc k) ws ns ≤ k + length ws
-unfolding firstShort
-first-bound k [] ns = omega arith
-first-bound k (w ∷ ws) [] = omega arith
-first-bound k (w ∷ ws) (n ∷ ns) =
-    let ih = first-bound (suc k) ws ns in
-    by-test (λ (x : ℕ). x ≤ k + suc (length ws)) (leb (length w) n) (λ e. omega (arith, ih)) (λ e. omega arith)
-
-pub short-few : (term : Item → List ℕ) (gs : List Group) (h v t : List ℕ) (g : Grouped) → Laid term gs h v t g → ShortFew g
-unfolding layout
-short-few term gs h v t (grouped.Written c) l = tt
-short-few term gs h v t (grouped.Short k) l =
-    omega (arith, first-bound 0 (layout term gs) (length h ∷ length v ∷ length t ∷ []), l .0)
+use Rattle.constraint_lists.specs.Lists.{tooShort, expansionOf, refusalOf, shortOf}
+use Rattle.interaction_lists.specs.Lists.{interactionAnswer, BothInside}
 
 -- Both families of the interactions.
 module _ (gs ks : List Group) (h v t h₂ v₂ t₂ : List ℕ) where

@@ -8,10 +8,7 @@ use Rattle.semantics.specs.Sheet.{Sheet}
 use Rattle.semantics.specs.Group.{countRoots, fieldRoots}
 use Rattle.semantics.specs.Call.{Result, interactionOutputs, maxFieldsLen}
 use Rattle.records.specs.Access.{messageLength}
-use Rattle.sheet.specs.declared.Refusal.{Refusal}
-use Rattle.grouping.specs.declared.Grouped.{Grouped}
-use Rattle.grouping.specs.declared.Grouped.the-variants as grouped
-use Rattle.constraint_lists.specs.Lists.{Fit, expansionOf, tooShort}
+use Rattle.constraint_lists.specs.Lists.{Fit, expansionOf}
 use Rattle.interaction_lists.specs.declared.InteractionLists.{InteractionLists}
 use Rattle.interaction_lists.specs.declared.InteractionLists.the-variants.{Written, Refused}
 
@@ -32,15 +29,6 @@ abbrev pub interactionsOf : (work pool h v t h′ v′ t′ : ℕ) → Sheet →
 interactionsOf work pool h v t h′ v′ t′ =
     expansionOf work pool (h ∷ v ∷ t ∷ h′ ∷ v′ ∷ t′ ∷ []) (λ s. countRoots s ++ fieldRoots s) (interactionOutputs prime)
     (λ s. length (s .interactions) ∷ maxFieldsLen s ∷ [])
-
-abbrev pub shortOf : Grouped → (first : ℕ) → Refusal
-shortOf (grouped.Short k) first = tooShort (first + k)
-shortOf (grouped.Written n) first = record { number = 0; place = 0 }
-
--- A slice's number is at most 3.
-abbrev pub ShortFew : Grouped → Type 0
-ShortFew (grouped.Short k) = k ≤ 3
-ShortFew (grouped.Written n) = Unit {0}
 
 -- The largest message length of n interactions from `at` on.
 unfoldable pub longestFrom : (ws : List ℕ) (at n : ℕ) → ℕ

@@ -13,7 +13,7 @@ ghost use Rattle.records.proofs.Reading.{counts, fields};
 ghost use Rattle.expand.specs.Walking.{Expands};
 ghost use Rattle.grouping.specs.Families.{Grouping};
 ghost use Rattle.constraint_lists.specs.Lists.{CheckedSheet};
-ghost use Rattle.interaction_lists.specs.Lists.{shortOf, ShortFew, longestFrom, interactionAnswer, interactionsOf, BothInside};
+ghost use Rattle.interaction_lists.specs.Lists.{longestFrom, interactionAnswer, interactionsOf, BothInside};
 use expand::Expanded;
 use grouping::Grouped;
 use grouping::Lengths;
@@ -80,23 +80,6 @@ fn max_fields_len(s: &[u32], at: usize, interactions: usize) -> usize
     most
 }
 
-// The refusal of a family whose slice is too short; its slices are counted from `first`.
-fn too_short(grouped: Grouped, first: usize) -> Refusal
-    requires { ⌜ (first ≤ 3) × ShortFew grouped ⌝ }
-    ensures { λ r. ⌜ r ≡ shortOf grouped first ⌝ }
-{
-    match grouped {
-        Grouped::Short(k) => Refusal {
-            number: 17,
-            place: first + k,
-        },
-        Grouped::Written(_) => Refusal {
-            number: 0,
-            place: 0,
-        },
-    }
-}
-
 // Groups the counts and the fields of a checked sheet's interactions.
 fn group_interactions(
     s: &[u32],
@@ -114,11 +97,11 @@ fn group_interactions(
 {
     let counted = grouping::group_counts(s, pool, headers, variables, terms);
     let Grouped::Written(numerators) = counted else {
-        return InteractionLists::Refused(too_short(counted, 0));
+        return InteractionLists::Refused(constraint_lists::too_short(counted, 0));
     };
     let listed = grouping::group_fields(s, pool, denom_headers, denom_variables, denom_terms);
     let Grouped::Written(denominators) = listed else {
-        return InteractionLists::Refused(too_short(listed, 3));
+        return InteractionLists::Refused(constraint_lists::too_short(listed, 3));
     };
     let longest = max_fields_len(s, records::interactions_at(s), interactions);
     InteractionLists::Written(InteractionLengths {

@@ -1,31 +1,26 @@
+-- A slice counted from 1 to 3, behind at most 3 others.
 use mathlib.Core.Path.{sym, ap, subst}
-use Prim.Native.Nat.{_-_}
 use native.Mathlib.Omega.{arith}
 use Rattle.grouping.specs.declared.Grouped.{Grouped}
-use Rattle.interaction_lists.specs.Lists.{shortOf, ShortFew}
+use Rattle.constraint_lists.specs.Lists.{shortOf, ShortFew}
 use borrow.Author.Needs.{needs}
-use Rattle.interaction_lists.proofs.too_short.Statement.{statement}
-use Rattle.interaction_lists.proofs.too_short.Tie as tie
+use Rattle.constraint_lists.proofs.too_short.Statement.{statement}
+use Rattle.constraint_lists.proofs.too_short.Tie as tie
 
--- src/lib.rt:229:24
 enum-known-grouped : tie.Need-enum-known-grouped
 enum-known-grouped c = search needs
 
--- src/lib.rt:231:20
 add-t5 : tie.Need-add-t5
 add-t5 c =
     let few = subst ShortFew (c .before .grouped .given .1) (c .before .before .before .pre .1) in
     omega (arith, few, c .before .before .before .pre .0)
 
--- src/lib.rt:233:32
 enum-told : tie.Need-enum-told
 enum-told c = search needs
 
--- src/lib.rt:224:1
 returns : tie.Need-returns
 returns c = ap (λ (g : Grouped). shortOf g (c .before .before .before .args .first)) (sym (c .before .grouped .given .1))
 
--- src/lib.rt:224:1
 returns-2 : tie.Need-returns-2
 returns-2 c = ap (λ (g : Grouped). shortOf g (c .before .before .args .first)) (sym (c .enum-told .given .1))
 
