@@ -29,12 +29,12 @@ pub fn order_at(words: &[u32], at: usize, m: usize, vars: [PackedVar; 14], n: us
     }
     let mut i: usize = 0;
     while i < n {
-        let x = vars[i].0;
-        let y = words[at + i];
-        if x < y {
+        let x = vars[i];
+        let y = PackedVar(words[at + i]);
+        if x.below(y) {
             return Order::Before;
         }
-        if y < x {
+        if y.below(x) {
             return Order::After;
         }
         i += 1;
@@ -59,10 +59,12 @@ fn next_var(a: [PackedVar; 14], i: usize, n: usize, b: [PackedVar; 14], j: usize
     if n <= i {
         return Next { var: b[j], left: 0 };
     }
-    if b[j].0 < a[i].0 {
-        return Next { var: b[j], left: 0 };
+    let x = a[i];
+    let y = b[j];
+    if y.below(x) {
+        return Next { var: y, left: 0 };
     }
-    Next { var: a[i], left: 1 }
+    Next { var: x, left: 1 }
 }
 
 // The sorted variables of two monomials, sorted together.

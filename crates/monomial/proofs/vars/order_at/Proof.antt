@@ -1,15 +1,17 @@
-use mathlib.Core.Path.{_≡_, refl}
-use Prim.Native.Nat.{_-_, _≤_}
+-- Lists of one length are compared from the front. The loop's invariant: the variables passed are the same.
+use mathlib.Core.Path.{_≡_, refl, sym, _∙_}
+use mathlib.Core.List.{List}
+use Prim.Native.Nat.{ℕ, _+_, _-_, _≤_}
 use native.Mathlib.Omega.{arith}
 use borrow.Author.Needs.{needs}
-use lib.ListN.{length, take, drop, length-map, length-drop, List·getD-map}
+use borrow.Author.Tests.{ltb-true, ltb-false}
+use lib.Dec.{ltb}
+use lib.ListN.{length, getD, take, drop, length-map, length-drop, List·getD-map}
 use lib.Seq.{getD-drop}
 use Rattle.monomial.specs.Words.{num, nums}
 use Rattle.monomial.proofs.Orderings.{alike-more, at-shorter, at-longer, at-same, at-less, at-more}
 use Rattle.monomial.proofs.vars.order_at.Statement.{statement}
 use Rattle.monomial.proofs.vars.order_at.Tie as tie
-use Rattle.monomial.proofs.vars.order_at.Reads as reads
-use Rattle.monomial.proofs.vars.order_at.Lts as lts
 
 abbrev Inv-loop : tie.InvT-loop
 Inv-loop words at m n vars i₀ i = (i ≤ n) × (n ≡ m) × (length vars ≡ 14) × (take i (nums vars) ≡ take i (drop at words))
@@ -17,101 +19,121 @@ Inv-loop words at m n vars i₀ i = (i ≤ n) × (n ≡ m) × (length vars ≡ 1
 abbrev μ-loop : tie.MeasureT-loop
 μ-loop words at m n vars i₀ i = n - i
 
--- src/vars.rt:24:9
+-- What is compared: the numbers of the variables in hand, and the words from `at` on.
+module _ (c : tie.Start Inv-loop μ-loop) where
+  abbrev left : List ℕ
+  left = nums (c .args .t4)
+
+  abbrev right : List ℕ
+  right = drop (c .args .at) (c .args .words .now)
+
+  left-long : c .args .n ≤ length left
+  left-long =
+      let e : length (c .args .t4) ≡ 14 = search needs in
+      omega (arith, length-map (c .args .t4) num, c .pre)
+
+  right-long : c .args .m ≤ length right
+  right-long = omega (arith, length-drop (c .args .at) (c .args .words .now), c .pre)
+
+-- A turn of the loop: the variables at i.
+abbrev entry : tie.At-loop Inv-loop μ-loop → tie.Start Inv-loop μ-loop
+entry c = c .before .before .before .before
+
+abbrev turn : tie.After-below Inv-loop μ-loop → tie.At-loop Inv-loop μ-loop
+turn c = c .before .before .before .before
+
+module _ (c : tie.At-loop Inv-loop μ-loop) where
+  abbrev x : ℕ
+  x = getD (left (entry c)) (c .loop .i) 0
+
+  abbrev y : ℕ
+  y = getD (right (entry c)) (c .loop .i) 0
+
+  x-is : x ≡ num (getD (entry c .args .t4) (c .loop .i) (record { 0 = 0 }))
+  x-is = List·getD-map num (entry c .args .t4) (c .loop .i) (record { 0 = 0 })
+
+  y-is : y ≡ getD (entry c .args .words .now) (entry c .args .at + c .loop .i) 0
+  y-is = getD-drop (entry c .args .at) (entry c .args .words .now) (c .loop .i) 0
+
+less : (c : tie.After-below Inv-loop μ-loop) → c .below .result ≡ ltb (x (turn c)) (y (turn c))
+less c = c .below .ensures ∙ (λ k. ltb (sym (x-is (turn c)) k) (sym (y-is (turn c)) k))
+
+more : (c : tie.After-below2 Inv-loop μ-loop) → c .below2 .result ≡ ltb (y (turn (c .before .before))) (x (turn (c .before .before)))
+more c = let b = turn (c .before .before) in c .below2 .ensures ∙ (λ k. ltb (sym (y-is b) k) (sym (x-is b) k))
+
 returns : tie.Need-returns Inv-loop μ-loop
 returns c =
-    let a = c .before .args in
-    let e : length (a .t4) ≡ 14 = search needs in
-    let l = length-map (a .t4) num in
-    let d = length-drop (a .at) (a .words .now) in
-    at-shorter (nums (a .t4)) (drop (a .at) (a .words .now)) (a .n) (a .m) (omega arith) (omega arith) (omega arith)
+    let s = c .before .before in
+    at-shorter (left s) (right s) (s .args .n) (s .args .m) (left-long s) (right-long s) (c .if1 .taken)
 
--- src/vars.rt:27:9
 returns-2 : tie.Need-returns-2 Inv-loop μ-loop
 returns-2 c =
-    let a = c .before .before .args in
-    let e : length (a .t4) ≡ 14 = search needs in
-    let l = length-map (a .t4) num in
-    let d = length-drop (a .at) (a .words .now) in
-    at-longer (nums (a .t4)) (drop (a .at) (a .words .now)) (a .n) (a .m) (omega arith) (omega arith) (omega arith)
+    let s = c .before .before .before in
+    at-longer (left s) (right s) (s .args .n) (s .args .m) (left-long s) (right-long s) (c .if2 .taken)
 
--- src/vars.rt:30:5
 loop-holds : tie.Need-loop-holds Inv-loop μ-loop
 loop-holds c = (search needs, omega arith, search needs, refl)
 
--- src/vars.rt:31:17
 mul-x : tie.Need-mul-x Inv-loop μ-loop
 mul-x c = search needs
 
--- src/vars.rt:31:13
-element-copy-out-x : tie.Need-element-copy-out-x Inv-loop μ-loop
-element-copy-out-x c = search needs
+array-copy-out-x : tie.Need-array-copy-out-x Inv-loop μ-loop
+array-copy-out-x c = search needs
 
--- src/vars.rt:32:23
-add-y : tie.Need-add-y Inv-loop μ-loop
-add-y c = search needs
+add-t12 : tie.Need-add-t12 Inv-loop μ-loop
+add-t12 c = search needs
 
--- src/vars.rt:32:17
-mul-y : tie.Need-mul-y Inv-loop μ-loop
-mul-y c = search needs
+mul-t16 : tie.Need-mul-t16 Inv-loop μ-loop
+mul-t16 c = search needs
 
--- src/vars.rt:32:17
-shared-slice-read-y : tie.Need-shared-slice-read-y Inv-loop μ-loop
-shared-slice-read-y c = search needs
+shared-slice-read-t18 : tie.Need-shared-slice-read-t18 Inv-loop μ-loop
+shared-slice-read-t18 c = search needs
 
--- src/vars.rt:34:13
+below-requires : tie.Need-below-requires Inv-loop μ-loop
+below-requires c κs = search needs
+
 returns-3 : tie.Need-returns-3 Inv-loop μ-loop
 returns-3 c =
-    let a = c .before .before .before .before .before .before .args in
-    let b = c .before .before .before .loop in
-    let h = b .inv in
-    let l = length-map (a .t4) num in
-    let d = length-drop (a .at) (a .words .now) in
-    let x = List·getD-map num (a .t4) (b .i) (record { 0 = 0 }) in
-    let y = getD-drop (a .at) (a .words .now) (b .i) 0 in
-    at-less (nums (a .t4)) (drop (a .at) (a .words .now)) (a .n) (a .m) (omega arith) (omega arith) (h .1) (b .i) (omega arith) (h .3) (omega arith)
+    let b = turn (c .before) in
+    let s = entry b in
+    let h = b .loop .inv in
+    at-less (left s) (right s) (s .args .n) (s .args .m) (left-long s) (right-long s) (h .1) (b .loop .i) (omega arith) (h .3)
+    (ltb-true (x b) (y b) (sym (less (c .before)) ∙ c .if3 .taken))
 
--- src/vars.rt:37:13
+below-requires-2 : tie.Need-below-requires-2 Inv-loop μ-loop
+below-requires-2 c κs = search needs
+
 returns-4 : tie.Need-returns-4 Inv-loop μ-loop
 returns-4 c =
-    let a = c .before .before .before .before .before .before .before .args in
-    let b = c .before .before .before .before .loop in
-    let h = b .inv in
-    let l = length-map (a .t4) num in
-    let d = length-drop (a .at) (a .words .now) in
-    let x = List·getD-map num (a .t4) (b .i) (record { 0 = 0 }) in
-    let y = getD-drop (a .at) (a .words .now) (b .i) 0 in
-    at-more (nums (a .t4)) (drop (a .at) (a .words .now)) (a .n) (a .m) (omega arith) (omega arith) (h .1) (b .i) (omega arith) (h .3) (omega arith)
+    let b = turn (c .before .before .before) in
+    let s = entry b in
+    let h = b .loop .inv in
+    at-more (left s) (right s) (s .args .n) (s .args .m) (left-long s) (right-long s) (h .1) (b .loop .i) (omega arith) (h .3)
+    (ltb-true (y b) (x b) (sym (more (c .before)) ∙ c .if4 .taken))
 
--- src/vars.rt:39:9
 add-i : tie.Need-add-i Inv-loop μ-loop
 add-i c = search needs
 
--- src/vars.rt:30:5
 loop-less : tie.Need-loop-less Inv-loop μ-loop
 loop-less c = search needs
 
--- src/vars.rt:30:5
 loop-again : tie.Need-loop-again Inv-loop μ-loop
 loop-again c =
-    let a = c .before .before .before .before .before .before .before .args in
-    let b = c .before .before .before .before .loop in
-    let h = b .inv in
-    let l = length-map (a .t4) num in
-    let d = length-drop (a .at) (a .words .now) in
-    let x = List·getD-map num (a .t4) (b .i) (record { 0 = 0 }) in
-    let y = getD-drop (a .at) (a .words .now) (b .i) 0 in
-    (omega arith, h .1, h .2, alike-more (nums (a .t4)) (drop (a .at) (a .words .now)) (b .i) (omega arith) (omega arith) (h .3) (omega arith))
+    let b = turn (c .before .before .before) in
+    let s = entry b in
+    let h = b .loop .inv in
+    let l = left-long s in
+    let r = right-long s in
+    let not-less = ltb-false (x b) (y b) (sym (less (c .before .before .before)) ∙ c .before .before .if3 .left) in
+    let not-more = ltb-false (y b) (x b) (sym (more (c .before)) ∙ c .if4 .left) in
+    (omega arith, h .1, h .2, alike-more (left s) (right s) (b .loop .i) (omega arith) (omega arith) (h .3) (omega arith))
 
--- src/vars.rt:19:1
 returns-5 : tie.Need-returns-5 Inv-loop μ-loop
 returns-5 c =
-    let a = c .before .before .before .before .args in
-    let b = c .before .loop in
-    let h = b .inv in
-    let l = length-map (a .t4) num in
-    let d = length-drop (a .at) (a .words .now) in
-    at-same (nums (a .t4)) (drop (a .at) (a .words .now)) (a .n) (a .m) (omega arith) (omega arith) (h .1) (b .i) (omega arith) (h .3)
+    let b = c .before in
+    let s = entry b in
+    let h = b .loop .inv in
+    at-same (left s) (right s) (s .args .n) (s .args .m) (left-long s) (right-long s) (h .1) (b .loop .i) (omega arith) (h .3)
 
 pub order-at-spec : {M : Type 1} → statement M
 order-at-spec =
@@ -123,11 +145,13 @@ order-at-spec =
     returns-2
     loop-holds
     mul-x
-    element-copy-out-x
-    add-y
-    mul-y
-    shared-slice-read-y
+    array-copy-out-x
+    add-t12
+    mul-t16
+    shared-slice-read-t18
+    below-requires
     returns-3
+    below-requires-2
     returns-4
     add-i
     loop-less
