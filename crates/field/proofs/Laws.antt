@@ -1,17 +1,18 @@
 -- Laws of values below the modulus, of reduced words, and of the signed reading. Assumes nothing.
-use mathlib.Core.Path.{_≡_, refl, sym, _∙_}
+use mathlib.Core.Path.{_≡_, refl, sym, subst, _∙_}
 use Prim.Native.Nat.{ℕ, suc, _+_, _*_, _-_, _/_, _%_, _<_, _≤_, _^_}
 use native.Mathlib.Omega.{arith}
-use native.Mathlib.Nat.{mod-eq-of-lt, lt-of-le-of-lt, mul-le-mul}
+use native.Mathlib.Nat.{mod-lt, mod-eq-of-lt, lt-of-le-of-lt, mul-le-mul}
 use lib.Dec.{lit<, ltb}
-use lib.IntN.{pos, _-ℤ_}
+use lib.IntN.{ℤ, pos, _-ℤ_}
 use mir.Syntax.{w64}
 use mir.Val.{SFits, toZ, ofZ}
 use mir.Facts.{toZ-pos, toZ-ofZ}
 use borrow.Author.Tests.{le-leb, lt-leb}
-use Rattle.semantics.specs.Arithmetic.{addM, subM, mulM, negM, signedOf}
+use Rattle.semantics.specs.Arithmetic.{prime, addM, subM, mulM, negM, signedOf, SignedRange}
 use Rattle.semantics.proofs.Basics.{by-test}
 use Rattle.semantics.proofs.Arithmetic.{mods, same-mod, under}
+use Rattle.semantics.proofs.Signs.{signed-range}
 
 -- a number below p that differs from x by a multiple of p is x's remainder
 remainder : (p r x k l : ℕ) → r < p → r + k * p ≡ x + l * p → r ≡ x % p
@@ -64,18 +65,24 @@ pub neg-rest : (p a : ℕ) → negM p (a % p) ≡ negM p a
 unfolding negM
 neg-rest p a = simp mods
 
--- the signed reading of a word, for any modulus suc q of 32 bits
-module _ (q x : ℕ) (small : q < 4294967295) (h : x ≤ 4294967295) where
+-- the signed reading of a word c whose remainder is x, for any modulus suc q of 32 bits
+module _ (q c x : ℕ) (small : q < 4294967295) (is : x ≡ c % suc q) where
   as-is : toZ w64 x ≡ pos x
-  as-is = toZ-pos w64 (omega arith)
+  as-is = toZ-pos w64 (omega (arith, mod-lt c {m = suc q} (omega arith)))
 
   pub less-fits : SFits w64 (toZ w64 x -ℤ pos (suc q))
-  less-fits = rw as-is (by-test (SFits w64) (ltb x (suc q)) (λ e. record { sfits = omega arith }) (λ e. record { sfits = omega arith }))
+  less-fits =
+      let l = mod-lt c {m = suc q} (omega arith) in
+      rw as-is (by-test (SFits w64) (ltb x (suc q)) (λ e. record { sfits = omega arith }) (λ e. record { sfits = omega arith }))
 
-  pub signed-low : x ≤ q / 2 → toZ w64 x ≡ signedOf (suc q) x
+  pub signed-low : x ≤ q / 2 → toZ w64 x ≡ signedOf (suc q) c
   unfolding signedOf
-  signed-low l = rw (as-is, le-leb x ((suc q - 1) / 2) (omega arith))
+  signed-low l = rw (as-is, ← is, le-leb x ((suc q - 1) / 2) (omega arith))
 
-  pub signed-high : q / 2 < x → toZ w64 (ofZ w64 (toZ w64 x -ℤ pos (suc q))) ≡ signedOf (suc q) x
+  pub signed-high : q / 2 < x → toZ w64 (ofZ w64 (toZ w64 x -ℤ pos (suc q))) ≡ signedOf (suc q) c
   unfolding signedOf
-  signed-high l = toZ-ofZ less-fits ∙ rw (as-is, lt-leb x ((suc q - 1) / 2) (omega arith))
+  signed-high l = toZ-ofZ less-fits ∙ rw (as-is, ← is, lt-leb x ((suc q - 1) / 2) (omega arith))
+
+-- it is inside its range
+pub ranged : (c : ℕ) {z : ℤ} → z ≡ signedOf prime c → (z ≡ signedOf prime c) × SignedRange prime z
+ranged c e = (e, subst (SignedRange prime) (sym e) (signed-range 1006632960 prime refl c))

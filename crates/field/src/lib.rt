@@ -1,9 +1,9 @@
 // Values modulo the prime 2013265921, each kept below it; any word is taken.
 ghost use mathlib.Core.Path.{_≡_};
 ghost use Prim.Native.Nat.{_%_};
-ghost use Rattle.semantics.specs.Arithmetic.{prime, addM, subM, mulM, negM, signedOf};
+ghost use Rattle.semantics.specs.Arithmetic.{prime, addM, subM, mulM, negM, signedOf, SignedRange};
 
-pub mod modular;
+mod modular;
 
 pub const PRIME: u32 = 2013265921;
 
@@ -44,11 +44,12 @@ pub fn mul(a: u32, b: u32) -> u32
 
 // A value up to half the prime is itself, and above that less the prime.
 pub fn signed(a: u32) -> i64
-    ensures { λ r. ⌜ r ≡ signedOf prime a ⌝ }
+    ensures { λ r. ⌜ (r ≡ signedOf prime a) × SignedRange prime r ⌝ }
 {
-    if a <= PRIME / 2 {
-        a as i64
+    let value = reduced(a);
+    if value <= PRIME / 2 {
+        value as i64
     } else {
-        a as i64 - PRIME as i64
+        value as i64 - PRIME as i64
     }
 }

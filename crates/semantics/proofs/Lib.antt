@@ -2,6 +2,7 @@ pub mod Basics
 pub mod Lists
 pub mod Members
 pub mod Arithmetic
+pub mod Signs
 pub mod Order
 pub mod Sorting
 pub mod Monomials
