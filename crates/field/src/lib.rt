@@ -5,7 +5,7 @@ ghost use Rattle.semantics.specs.Arithmetic.{prime, addM, subM, mulM, negM, sig
 
 mod modular;
 
-pub const PRIME: u32 = 2013265921;
+const PRIME: u32 = 2013265921;
 
 // A word as a value; one below the prime is a value already.
 fn reduced(x: u32) -> u32

@@ -48,10 +48,10 @@ pub dag-pieces : (a b c nodes constraints rotation : ℕ) → a ≡ nodes → b 
 unfolding line
 dag-pieces a b c nodes constraints rotation e f g = rw (e, f, g)
 
-pub refused-pieces : (step : List ℕ) (n place : ℕ)
-    → (refusedText ++ (32 ∷ [])) ++ (step ++ (number n ++ (number place ++ (10 ∷ [])))) ≡ line (refusedText ∷ step ∷ decimal n ∷ decimal place ∷ [])
+pub refused-pieces : (step : List ℕ) (a n place : ℕ) → a ≡ n
+    → (refusedText ++ (32 ∷ [])) ++ (step ++ (number a ++ (number place ++ (10 ∷ [])))) ≡ line (refusedText ∷ step ∷ decimal n ∷ decimal place ∷ [])
 unfolding line
-refused-pieces step n place = refl
+refused-pieces step a n place e = rw e
 
 pub end-pieces : endText ++ (10 ∷ []) ≡ line (endText ∷ [])
 unfolding line

@@ -46,10 +46,15 @@ pub constraint-prints : (graph : List ℕ) (o : Outcome) → familyLines Constra
 unfolding constraintLines
 constraint-prints graph o = refl
 
+-- The graph's line, and what comes after it.
+abbrev pub dagLine : (graph : List ℕ) (rotation : ℕ) → List ℕ
+dagLine graph rotation = line (dagText ∷ decimal (getD graph 1 0) ∷ decimal (getD graph 2 0) ∷ decimal rotation ∷ [])
+
+abbrev pub afterGraph : (graph : List ℕ) → List ℕ
+afterGraph graph = step consText (constraintsOf graph) (constraintLines prime graph (constraintsOf graph))
+
 pub graph-prints : (graph : List ℕ)
-    → line (dagText ∷ decimal (getD graph 1 0) ∷ decimal (getD graph 2 0) ∷ decimal (getD (rotates graph .reply .numbers) 0 0) ∷ [])
-    ++ step consText (constraintsOf graph) (constraintLines prime graph (constraintsOf graph))
-    ≡ graphLines prime graph
+    → step dagText (rotates graph) (dagLine graph (getD (rotates graph .reply .numbers) 0 0) ++ afterGraph graph) ≡ graphLines prime graph
 unfolding graphLines
 graph-prints graph = refl
 

@@ -7,12 +7,12 @@ use lib.ListN.{length, getD, length-append}
 use borrow.Author.Tests.{eqb-true}
 use Rattle.semantics.specs.Arithmetic.{prime}
 use Rattle.semantics.specs.Call.{Outcome, Accepted, handedBack, readerCall}
-use Rattle.semantics.specs.Sheetlist.{decimal, line, dagText, endText, readText, consText, interText, step, interactionLines, constraintLines, graphLines, sheetLines, sheetlist}
+use Rattle.semantics.specs.Sheetlist.{line, dagText, endText, readText, consText, interText, step, interactionLines, constraintLines, graphLines, sheetLines, sheetlist}
 use Rattle.semantics.proofs.Basics.{by-test}
 use Rattle.listing.specs.declared.headers.Family.the-variants.{Constraints, Numerators, Denominators}
 use Rattle.listing.specs.Families.{familyLines}
 use Rattle.listing.proofs.Lengths.{dag-most, refused-most, end-length}
-use Rattle.listing.proofs.Steps.{builds, rotates, constraintsOf, interactionsOf}
+use Rattle.listing.proofs.Steps.{builds, rotates, constraintsOf, interactionsOf, dagLine, afterGraph}
 use Rattle.listing.proofs.Handing.{constraints-handed, numerators-handed, denominators-handed}
 
 -- A step's refusal, or what comes next.
@@ -55,13 +55,13 @@ unfolding graphLines
 graph-most graph =
     let c = constraintsOf graph in
     let rotation = getD (rotates graph .reply .numbers) 0 0 in
-    let first : List ℕ = line (dagText ∷ decimal (getD graph 1 0) ∷ decimal (getD graph 2 0) ∷ decimal rotation ∷ []) in
-    omega (
+    step-most dagText (rotates graph) (dagLine graph rotation ++ afterGraph graph) 42728 (omega arith)
+    (λ a. omega (
       arith,
-      length-append first (step consText c (constraintLines prime graph c)),
+      length-append (dagLine graph rotation) (afterGraph graph),
       dag-most (getD graph 1 0) (getD graph 2 0) rotation,
       step-most consText c (constraintLines prime graph c) 42691 (omega arith) (constraints-most graph),
-    )
+    ))
 
 sheet-most : (sheet : List ℕ) → length (sheetLines prime sheet) ≤ 42728
 unfolding sheetLines

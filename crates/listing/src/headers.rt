@@ -6,12 +6,13 @@ ghost use lib.ListN.{length, take, drop};
 ghost use Rattle.semantics.specs.Group.{rows, listedAt};
 ghost use Rattle.listing.specs.Putting.{Room, Puts};
 ghost use Rattle.listing.specs.Families.{letterOf, widthOf, lineOf, spaced, headerLine, headerText, familyLines, HeaderInside, HeadersInside};
-use crate::lines::put_t_line;
-use crate::lines::put_u_line;
-use crate::lines::put_w_line;
-use crate::lines::wide;
 use crate::numbers::put_byte;
 use crate::numbers::put_hex;
+use crate::numbers::wide;
+use crate::terms::put_t_line;
+use crate::terms::put_u_line;
+use crate::terms::put_w_line;
+use packed_var::PackedVar;
 
 // The three families of lists.
 pub enum Family {
@@ -87,8 +88,9 @@ fn put_variables(out: &mut [u8], at: usize, variables: &[u32], from: usize, coun
     let mut next = at;
     let mut i = 0;
     while i < count {
+        let var = PackedVar(variables[from + i]);
         let start = put_byte(out, next, b' ');
-        let after = put_hex(out, start, variables[from + i]);
+        let after = put_hex(out, start, var);
         next = after;
         i += 1;
     }

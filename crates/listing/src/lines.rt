@@ -1,71 +1,11 @@
-// The lines that are not headers: words parted by spaces, and the end of the line.
-ghost use mathlib.Core.Path.{_≡_};
+// The lines that stand alone: words parted by spaces, and the end of the line.
 ghost use mathlib.Core.List.{[], _∷_};
-ghost use Prim.Native.Nat.{_+_, _≤_};
-ghost use lib.ListN.{length, take, drop};
-ghost use Rattle.semantics.specs.Arithmetic.{prime};
-ghost use Rattle.semantics.specs.Sheetlist.{decimal, signed, line, dagText, endText, refusedText, tLine, uLine, wLine};
+ghost use Rattle.semantics.specs.Sheetlist.{decimal, line, dagText, endText, refusedText};
 ghost use Rattle.listing.specs.Putting.{Room, Puts};
 use crate::numbers::put_byte;
-use crate::numbers::put_decimal;
-use crate::numbers::put_signed;
+use crate::numbers::put_number;
 use crate::numbers::put_text;
-
-pub fn wide(w: u32) -> usize
-    ensures { λ r. ⌜ r ≡ w ⌝ }
-{
-    w as usize
-}
-
-// A space and a number.
-fn put_number(out: &mut [u8], at: usize, n: usize) -> usize
-    requires { ⌜ Room (now out) at (32 ∷ decimal n) ⌝ }
-    ensures { λ r. ⌜ Puts (now (out .entry)) at (32 ∷ decimal n) (now (out .exit)) r ⌝ }
-{
-    let next = put_byte(out, at, b' ');
-    put_decimal(out, next, n)
-}
-
-// A space, a coefficient and the end of the line.
-fn put_last(out: &mut [u8], at: usize, c: u32) -> usize
-    requires { ⌜ Room (now out) at (32 ∷ line (signed prime c ∷ [])) ⌝ }
-    ensures { λ r. ⌜ Puts (now (out .entry)) at (32 ∷ line (signed prime c ∷ [])) (now (out .exit)) r ⌝ }
-{
-    let next = put_byte(out, at, b' ');
-    let end = put_signed(out, next, c);
-    put_byte(out, end, b'\n')
-}
-
-// A constraint's term, whose words stand from k on: its index and its coefficient.
-pub fn put_t_line(out: &mut [u8], at: usize, terms: &[u32], k: usize) -> usize
-    requires { ⌜ (k + 2 ≤ length (now terms)) × Room (now out) at (tLine prime (take 2 (drop k (now terms)))) ⌝ }
-    ensures { λ r. ⌜ Puts (now (out .entry)) at (tLine prime (take 2 (drop k (now (terms .entry))))) (now (out .exit)) r ⌝ }
-{
-    let a = put_byte(out, at, b't');
-    let b = put_number(out, a, wide(terms[k]));
-    put_last(out, b, terms[k + 1])
-}
-
-// A numerator's term: its interaction and its coefficient.
-pub fn put_u_line(out: &mut [u8], at: usize, terms: &[u32], k: usize) -> usize
-    requires { ⌜ (k + 3 ≤ length (now terms)) × Room (now out) at (uLine prime (take 3 (drop k (now terms)))) ⌝ }
-    ensures { λ r. ⌜ Puts (now (out .entry)) at (uLine prime (take 3 (drop k (now (terms .entry))))) (now (out .exit)) r ⌝ }
-{
-    let a = put_byte(out, at, b'u');
-    let b = put_number(out, a, wide(terms[k + 1]));
-    put_last(out, b, terms[k])
-}
-
-// A denominator's term: its interaction, its field and its coefficient.
-pub fn put_w_line(out: &mut [u8], at: usize, terms: &[u32], k: usize) -> usize
-    requires { ⌜ (k + 3 ≤ length (now terms)) × Room (now out) at (wLine prime (take 3 (drop k (now terms)))) ⌝ }
-    ensures { λ r. ⌜ Puts (now (out .entry)) at (wLine prime (take 3 (drop k (now (terms .entry))))) (now (out .exit)) r ⌝ }
-{
-    let a = put_byte(out, at, b'w');
-    let b = put_number(out, a, wide(terms[k + 1]));
-    let c = put_number(out, b, wide(terms[k + 2]));
-    put_last(out, c, terms[k])
-}
+use crate::numbers::wide;
 
 // The graph's numbers of nodes and constraints, and its largest offset.
 pub fn put_dag_line(
@@ -86,13 +26,13 @@ pub fn put_dag_line(
 }
 
 // A refusal: the step, its number and its place.
-pub fn put_refused(out: &mut [u8], at: usize, step: &[u8], number: usize, place: usize) -> usize
+pub fn put_refused(out: &mut [u8], at: usize, step: &[u8], number: u32, place: usize) -> usize
     requires { ⌜ Room (now out) at (line (refusedText ∷ now step ∷ decimal number ∷ decimal place ∷ [])) ⌝ }
     ensures { λ r. ⌜ Puts (now (out .entry)) at (line (refusedText ∷ now (step .entry) ∷ decimal number ∷ decimal place ∷ [])) (now (out .exit)) r ⌝ }
 {
     let a = put_text(out, at, b"refused ");
     let b = put_text(out, a, step);
-    let c = put_number(out, b, number);
+    let c = put_number(out, b, wide(number));
     let d = put_number(out, c, place);
     put_byte(out, d, b'\n')
 }

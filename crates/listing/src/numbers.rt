@@ -5,6 +5,13 @@ ghost use Prim.Native.Nat.{_+_, _<_};
 ghost use Rattle.semantics.specs.Arithmetic.{prime};
 ghost use Rattle.semantics.specs.Sheetlist.{digits, decimal, hexDigit, hexDigits, signed};
 ghost use Rattle.listing.specs.Putting.{Room, Puts};
+use packed_var::PackedVar;
+
+pub fn wide(w: u32) -> usize
+    ensures { λ r. ⌜ r ≡ w ⌝ }
+{
+    w as usize
+}
 
 pub fn put_byte(out: &mut [u8], at: usize, byte: u8) -> usize
     requires { ⌜ Room (now out) at (byte ∷ []) ⌝ }
@@ -59,6 +66,15 @@ pub fn put_decimal(out: &mut [u8], at: usize, n: usize) -> usize
     put_digits(out, at, 10, n)
 }
 
+// A space and a number.
+pub fn put_number(out: &mut [u8], at: usize, n: usize) -> usize
+    requires { ⌜ Room (now out) at (32 ∷ decimal n) ⌝ }
+    ensures { λ r. ⌜ Puts (now (out .entry)) at (32 ∷ decimal n) (now (out .exit)) r ⌝ }
+{
+    let next = put_byte(out, at, b' ');
+    put_decimal(out, next, n)
+}
+
 fn hex_digit(d: u32) -> u8
     requires { ⌜ d < 16 ⌝ }
     ensures { λ r. ⌜ r ≡ hexDigit d ⌝ }
@@ -81,12 +97,12 @@ fn put_hex_digits(out: &mut [u8], at: usize, count: usize, word: u32) -> usize
     put_byte(out, next, hex_digit(word % 16))
 }
 
-// A word in hex, eight digits.
-pub fn put_hex(out: &mut [u8], at: usize, word: u32) -> usize
-    requires { ⌜ Room (now out) at (hexDigits 8 word) ⌝ }
-    ensures { λ r. ⌜ Puts (now (out .entry)) at (hexDigits 8 word) (now (out .exit)) r ⌝ }
+// A variable in hex, eight digits.
+pub fn put_hex(out: &mut [u8], at: usize, var: PackedVar) -> usize
+    requires { ⌜ Room (now out) at (hexDigits 8 (var .0)) ⌝ }
+    ensures { λ r. ⌜ Puts (now (out .entry)) at (hexDigits 8 (var .0)) (now (out .exit)) r ⌝ }
 {
-    put_hex_digits(out, at, 8, word)
+    put_hex_digits(out, at, 8, var.0)
 }
 
 // A coefficient as a signed number in decimal.

@@ -26,4 +26,5 @@ pub mod Acceptance
 pub mod Refusals
 pub mod Demands
 pub mod HeaderSizes
+pub mod Listings
 pub mod Examples

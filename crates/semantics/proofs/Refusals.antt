@@ -48,6 +48,10 @@ reader-within bytes out =
     (λ e. needs-sent _ 15 (127 * (length bytes / 512)) out _ refl
     (then-sent _ (readBlocks (length bytes / 512) 0 bytes) _ (read-within (length bytes / 512) 0 bytes) (λ ws. result-sent _ _ _)))
 
+pub check-within : (p : ℕ) (ws : List ℕ) → Within ofSheet (check p ws)
+unfolding member
+check-within p ws = check-sent _ (refl, (refl, (refl, (refl, (refl, tt))))) p ws
+
 -- A call on a sheet: its own numbers come behind those of the check.
 sheet-within : (ns : List ℕ) (p : ℕ) (ws : List ℕ) (rest : Sheet → Answer Result) → ((s : Sheet) → Within (ofSheet ++ ns) (rest s))
     → Within (ofSheet ++ ns) (onSheet p ws rest)

@@ -2,7 +2,7 @@
 use mathlib.Core.Bool.{cond}
 use Prim.Native.Nat.{ℕ, _+_, _*_, _-_, _/_, _%_}
 use lib.Dec.{leb}
-use lib.IntN.{ℤ, pos, negsuc, negℤ, _-ℤ_}
+use lib.IntN.{ℤ, pos, negℤ, _-ℤ_}
 use lib.Signed.{_≤ℤ_}
 
 -- "p is 2013265921"; every definition below takes the modulus as its parameter.

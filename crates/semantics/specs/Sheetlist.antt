@@ -1,12 +1,13 @@
 -- The program `sheetlist`: from the bytes read to the bytes printed (01, "Checked examples").
-use mathlib.Core.Bool.{Bool, true, false, cond}
+use mathlib.Core.Path.{_≡_}
+use mathlib.Core.Bool.{cond}
 use mathlib.Core.List.{List, [], _∷_, _++_, map, flatMap}
-use Prim.Native.Nat.{ℕ, zero, suc, _+_, _*_, _-_, _/_, _%_}
+use Prim.Native.Nat.{ℕ, zero, suc, _+_, _/_, _%_}
 use lib.Dec.{eqb, leb, ltb}
-use lib.ListN.{length, getD}
+use lib.ListN.{length, getD, take}
 use lib.IntN.{ℤ, pos, negsuc}
 use Rattle.semantics.specs.Arithmetic.{signedOf}
-use Rattle.semantics.specs.Call.{Reply, Outcome, outcome, readerCall, builderCall, maxRotationCall, constraintCall, interactionCall, handedBack}
+use Rattle.semantics.specs.Call.{Outcome, readerCall, builderCall, maxRotationCall, constraintCall, interactionCall, handedBack}
 use Rattle.semantics.specs.Group.{Listed, listed}
 
 -- A number in decimal; all that is printed has at most ten digits.
@@ -79,7 +80,14 @@ step name o rest =
     cond (eqb (o .reply .number) 0) rest
     (line (refusedText ∷ name ∷ decimal (o .reply .number) ∷ decimal (o .reply .place) ∷ []))
 
--- "reads at most 4,096 bytes (more: 1), with a pool of 4,096 words, constraint outputs of 1,024 words each, interaction outputs of 512
+-- "reads at most 4,096 bytes": how many it takes, and how many it asks for, one more, by which it sees a longer input.
+abbrev pub mostTaken : ℕ
+mostTaken = 4096
+
+abbrev pub mostRead : ℕ
+mostRead = 4097
+
+-- "(more: 1), with a pool of 4,096 words, constraint outputs of 1,024 words each, interaction outputs of 512
 -- each. It builds the graph, then expands the graph."
 module _ (p : ℕ) where
   unfoldable pub interactionLines : Outcome → List ℕ
@@ -95,9 +103,11 @@ module _ (p : ℕ) where
   -- "`dag`: nodes, constraints, rotation."
   unfoldable pub graphLines : (graph : List ℕ) → List ℕ
   graphLines graph =
+      let m : Outcome = maxRotationCall p graph in
       let c : Outcome = constraintCall p graph 4096 4096 1024 1024 1024 in
-      line (dagText ∷ decimal (getD graph 1 0) ∷ decimal (getD graph 2 0) ∷ decimal (getD (maxRotationCall p graph .reply .numbers) 0 0) ∷ [])
-      ++ step consText c (constraintLines graph c)
+      step dagText m
+      (line (dagText ∷ decimal (getD graph 1 0) ∷ decimal (getD graph 2 0) ∷ decimal (getD (m .reply .numbers) 0 0) ∷ [])
+      ++ step consText c (constraintLines graph c))
 
   unfoldable pub sheetLines : (sheet : List ℕ) → List ℕ
   sheetLines sheet =
@@ -107,5 +117,9 @@ module _ (p : ℕ) where
   unfoldable pub sheetlist : (bytes : List ℕ) → List ℕ
   sheetlist bytes =
       let r : Outcome = readerCall bytes 1016 in
-      cond (leb (length bytes) 4096) (step readText r (sheetLines (handedBack 0 r 0)))
+      cond (leb (length bytes) mostTaken) (step readText r (sheetLines (handedBack 0 r 0)))
       (line (refusedText ∷ readText ∷ decimal 1 ∷ decimal 0 ∷ []))
+
+-- What is read of an input is enough to list it.
+abbrev pub ReadsEnough : Type 0
+ReadsEnough = (p : ℕ) (input : List ℕ) → sheetlist p (take mostRead input) ≡ sheetlist p input

@@ -21,7 +21,8 @@ use Rattle.interaction_lists.specs.declared.InteractionLists.{InteractionLists}
 use Rattle.interaction_lists.specs.declared.InteractionLists.the-variants as interaction
 use Rattle.expansion.specs.Answers.{constraintOutcome, interactionOutcome}
 use Rattle.sheet_listing.specs.Fronts.{frontLines, Fronts}
-use Rattle.sheet_listing.proofs.Sounds.{Sound, constraint-sound, interaction-sound, refused-line}
+use Rattle.sheet_listing.specs.Refusals.{ofConstraints, ofInteractions}
+use Rattle.sheet_listing.proofs.Sounds.{Sound, constraint-sound, interaction-sound, output-refused}
 
 -- Lists handed back from k on, by a call whose scratch is work and pool.
 module _ (family : Family) (o : Outcome) (s : Sound 2 o) (k : ℕ) (n : Lengths) (hs vs ts : List ℕ) (all : 2 + (2 + k) < length (o .slices))
@@ -57,17 +58,18 @@ afterConstraints graph = step interText (interactionsOf graph) (interactionLines
 abbrev pub bothLines : InteractionLengths → (hs vs ts hs′ vs′ ts′ : List ℕ) → List ℕ
 bothLines n hs vs ts hs′ vs′ ts′ = frontLines Numerators (n .numerators) hs vs ts ++ (frontLines Denominators (n .denominators) hs′ vs′ ts′ ++ line (endText ∷ []))
 
+-- What the constraints print, and all that comes after them.
+abbrev pub constraintText : (graph : List ℕ) → List ℕ
+constraintText graph = step consText (constraintsOf graph) (constraintLines prime graph (constraintsOf graph))
+
 -- Constraints.
 module _ (graph : List ℕ) (r : ConstraintLists) (work pool hs vs ts : List ℕ) (e : constraintOutcome r work pool hs vs ts ≡ constraintsOf graph) where
-  abbrev pub rest : List ℕ
-  rest = constraintLines prime graph (constraintsOf graph)
-
-  pub constraints-refused : (x : Refusal) (m : ℕ) → r ≡ constraint.Refused x → m ≡ x .number
-      → line (refusedText ∷ consText ∷ decimal m ∷ decimal (x .place) ∷ []) ≡ step consText (constraintsOf graph) rest
-  constraints-refused x m q number =
+  pub constraints-refused : (x u : Refusal) → r ≡ constraint.Refused x → u ≡ ofConstraints r
+      → line (refusedText ∷ consText ∷ decimal (u .number) ∷ decimal (u .place) ∷ []) ≡ constraintText graph
+  constraints-refused x u q f =
       let o : constraintOutcome (constraint.Refused x) work pool hs vs ts ≡ constraintsOf graph = ap (λ a. constraintOutcome a work pool hs vs ts) (sym q) ∙ e in
-      refused-line consText 2 (constraintsOf graph) rest x m (constraint-sound prime graph 4096 4096 1024 1024 1024)
-      (ap (λ (u : Outcome). u .reply) o) (subst (λ (u : Outcome). 2 < length (u .slices)) o (omega arith)) number
+      output-refused consText 2 (constraintsOf graph) _ x u (constraint-sound prime graph 4096 4096 1024 1024 1024) (f ∙ ap ofConstraints q)
+      (ap (λ (y : Outcome). y .reply) o) (subst (λ (y : Outcome). 2 < length (y .slices)) o (omega arith))
 
   module _ (n : Lengths) (q : r ≡ constraint.Written n) where
     written : constraintsOf graph ≡ constraintOutcome (constraint.Written n) work pool hs vs ts
@@ -94,29 +96,26 @@ module _ (graph : List ℕ) (r : ConstraintLists) (work pool hs vs ts : List ℕ
         (constraints-handed prime graph 4096 4096 1024 1024 1024 256 512 (omega arith) (omega arith) accepted .inside)
 
     pub constraint-joins : frontLines Constraints n hs vs ts ++ afterConstraints graph
-        ≡ step consText (constraintsOf graph) rest
+        ≡ constraintText graph
     constraint-joins =
         ap (λ (l : List ℕ). l ++ afterConstraints graph)
         (sym (lines-back Constraints (constraintsOf graph) sound 0 n hs vs ts many (count 0) (count 1) (count 2) (slice 2) (slice 3) (slice 4)))
         ∙ constraint-prints graph (constraintsOf graph)
-        ∙ step-on consText (constraintsOf graph) rest accepted
+        ∙ step-on consText (constraintsOf graph) _ accepted
 
 -- Interactions.
 module _ (graph : List ℕ) (r : InteractionLists) (work pool hs vs ts hs′ vs′ ts′ : List ℕ)
     (e : interactionOutcome r work pool hs vs ts hs′ vs′ ts′ ≡ interactionsOf graph) where
-  abbrev pub all : List ℕ
-  all = interactionLines prime (interactionsOf graph)
-
   both-sound : Sound 2 (interactionsOf graph)
   both-sound = interaction-sound prime graph 4096 4096 512 512 512 512 512 512
 
-  pub interactions-refused : (x : Refusal) (m : ℕ) → r ≡ interaction.Refused x → m ≡ x .number
-      → line (refusedText ∷ interText ∷ decimal m ∷ decimal (x .place) ∷ []) ≡ step interText (interactionsOf graph) all
-  interactions-refused x m q number =
+  pub interactions-refused : (x u : Refusal) → r ≡ interaction.Refused x → u ≡ ofInteractions r
+      → line (refusedText ∷ interText ∷ decimal (u .number) ∷ decimal (u .place) ∷ []) ≡ afterConstraints graph
+  interactions-refused x u q f =
       let o : interactionOutcome (interaction.Refused x) work pool hs vs ts hs′ vs′ ts′ ≡ interactionsOf graph =
       ap (λ a. interactionOutcome a work pool hs vs ts hs′ vs′ ts′) (sym q) ∙ e in
-      refused-line interText 2 (interactionsOf graph) all x m both-sound
-      (ap (λ (u : Outcome). u .reply) o) (subst (λ (u : Outcome). 2 < length (u .slices)) o (omega arith)) number
+      output-refused interText 2 (interactionsOf graph) _ x u both-sound (f ∙ ap ofInteractions q)
+      (ap (λ (y : Outcome). y .reply) o) (subst (λ (y : Outcome). 2 < length (y .slices)) o (omega arith))
 
   module _ (n : InteractionLengths) (q : r ≡ interaction.Written n) where
     both-written : interactionsOf graph ≡ interactionOutcome (interaction.Written n) work pool hs vs ts hs′ vs′ ts′
@@ -145,10 +144,20 @@ module _ (graph : List ℕ) (r : InteractionLists) (work pool hs vs ts hs′ vs�
         fronts Denominators (interactionsOf graph) both-sound 3 (n .denominators) hs′ vs′ ts′ (omega (arith, eight)) (count-at 3) (count-at 4) (count-at 5) (slice-at 5) (slice-at 6) (slice-at 7)
         (denominators-handed prime graph 4096 4096 512 512 512 128 171 (omega arith) (omega arith) both-accepted .inside)
 
-    pub interaction-joins : bothLines n hs vs ts hs′ vs′ ts′
-        ≡ step interText (interactionsOf graph) all
+    numerators-back : familyLines Numerators (handedBack 2 (interactionsOf graph) 0) (handedBack 2 (interactionsOf graph) 1) (handedBack 2 (interactionsOf graph) 2)
+        ≡ frontLines Numerators (n .numerators) hs vs ts
+    numerators-back =
+        lines-back Numerators (interactionsOf graph) both-sound 0 (n .numerators) hs vs ts (omega (arith, eight))
+        (count-at 0) (count-at 1) (count-at 2) (slice-at 2) (slice-at 3) (slice-at 4)
+
+    denominators-back : familyLines Denominators (handedBack 2 (interactionsOf graph) 3) (handedBack 2 (interactionsOf graph) 4) (handedBack 2 (interactionsOf graph) 5)
+        ≡ frontLines Denominators (n .denominators) hs′ vs′ ts′
+    denominators-back =
+        lines-back Denominators (interactionsOf graph) both-sound 3 (n .denominators) hs′ vs′ ts′ (omega (arith, eight))
+        (count-at 3) (count-at 4) (count-at 5) (slice-at 5) (slice-at 6) (slice-at 7)
+
+    pub interaction-joins : bothLines n hs vs ts hs′ vs′ ts′ ≡ afterConstraints graph
     interaction-joins =
-        (λ i. sym (lines-back Numerators (interactionsOf graph) both-sound 0 (n .numerators) hs vs ts (omega (arith, eight)) (count-at 0) (count-at 1) (count-at 2) (slice-at 2) (slice-at 3) (slice-at 4)) i
-        ++ (sym (lines-back Denominators (interactionsOf graph) both-sound 3 (n .denominators) hs′ vs′ ts′ (omega (arith, eight)) (count-at 3) (count-at 4) (count-at 5) (slice-at 5) (slice-at 6) (slice-at 7)) i ++ line (endText ∷ [])))
+        (λ i. sym numerators-back i ++ (sym denominators-back i ++ line (endText ∷ [])))
         ∙ interaction-prints (interactionsOf graph)
-        ∙ step-on interText (interactionsOf graph) all both-accepted
+        ∙ step-on interText (interactionsOf graph) _ both-accepted

@@ -1,3 +1,4 @@
 pub mod Sounds
 pub mod Expanded
 pub mod Printed
+pub mod Inputs

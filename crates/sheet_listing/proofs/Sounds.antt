@@ -6,16 +6,18 @@ use Prim.Native.Nat.{ℕ, zero, suc, _+_, _-_, _≤_, _<_}
 use native.Mathlib.Omega.{arith}
 use lib.ListN.{length, getD, length-append, length-map}
 use lib.Seq.{getD-append-add}
-use Rattle.semantics.specs.Answer.{Answer, good, refused}
+use Rattle.semantics.specs.Answer.{Answer, good, refused, andThen}
 use Rattle.semantics.specs.Sheet.{Sheet}
-use Rattle.semantics.specs.Call.{Outcome, Result, Accepted, zeros, padded, paddedAll, outcome, expansion, readerCall, builderCall, constraintCall, interactionCall}
+use Rattle.semantics.specs.Check.{check}
+use Rattle.semantics.specs.Graph.{maxRotation}
+use Rattle.semantics.specs.Call.{Outcome, Result, Accepted, zeros, padded, paddedAll, outcome, result, onSheet, expansion, readerCall, builderCall, maxRotationCall, constraintCall, interactionCall}
 use Rattle.semantics.specs.Sheetlist.{decimal, line, refusedText, step}
 use Rattle.semantics.specs.Walk.{member}
 use Rattle.semantics.specs.Refusals.{ofSheet, ofExpansion}
 use Rattle.semantics.proofs.Basics.{not-both}
 use Rattle.semantics.proofs.Members.{Mem}
 use Rattle.semantics.proofs.Acceptance.{Within}
-use Rattle.semantics.proofs.Refusals.{reader-within, builder-within, expansion-within}
+use Rattle.semantics.proofs.Refusals.{check-within, reader-within, builder-within, expansion-within}
 use Rattle.sheet.specs.declared.Refusal.{Refusal}
 use Rattle.sheet.specs.Replies.{refusedReply}
 use Rattle.listing.proofs.Steps.{step-refused}
@@ -81,9 +83,27 @@ module _ (p : ℕ) (ws : List ℕ) where
   unfolding interactionCall
   interaction-sound work pool h v t h′ v′ t′ = expansion-sound work pool _ _ _ _
 
--- A refusal ends the output with its line.
-pub refused-line : (name : List ℕ) (scratch : ℕ) (o : Outcome) (rest : List ℕ) (x : Refusal) (n : ℕ) → Sound scratch o → refusedReply x ≡ o .reply → scratch < length (o .slices) → n ≡ x .number
-    → line (refusedText ∷ name ∷ decimal n ∷ decimal (x .place) ∷ []) ≡ step name o rest
-refused-line name scratch o rest x n s e l q =
-    (λ i. line (refusedText ∷ name ∷ decimal ((q ∙ ap (λ y. y .number) e) i) ∷ decimal (e i .place) ∷ []))
-    ∙ step-refused name o rest (s .real (ap (λ y. y .counts) (sym e)) l)
+-- `max_rotation` hands back a number where it accepts.
+abbrev rotated : Answer Sheet → Outcome
+rotated a = outcome [] [] (andThen a (λ s. result [] (maxRotation s ∷ [])))
+
+rotated-real : (a : Answer Sheet) → Within ofSheet a → rotated a .reply .numbers ≡ [] → Accepted (rotated a) → ⊥
+unfolding outcome result andThen member
+rotated-real (good s) h e a = let z : suc zero ≡ zero = ap length e in omega arith
+rotated-real (refused n k) h e a = not-both (subst (λ (m : ℕ). Mem m ofSheet) a h) refl
+
+pub rotation-real : (p : ℕ) (ws : List ℕ) → maxRotationCall p ws .reply .numbers ≡ [] → Accepted (maxRotationCall p ws) → ⊥
+unfolding maxRotationCall onSheet
+rotation-real p ws = rotated-real (check p ws) (check-within p ws)
+
+-- A refusal ends the output with its line: x is the refusal in the answer, u the one taken out of it.
+pub refused-line : (name : List ℕ) (o : Outcome) (rest : List ℕ) (x u : Refusal) → u ≡ x → refusedReply x ≡ o .reply → (Accepted o → ⊥)
+    → line (refusedText ∷ name ∷ decimal (u .number) ∷ decimal (u .place) ∷ []) ≡ step name o rest
+refused-line name o rest x u f e h =
+    let g : refusedReply u ≡ o .reply = ap refusedReply f ∙ e in
+    (λ i. line (refusedText ∷ name ∷ decimal (g i .number) ∷ decimal (g i .place) ∷ [])) ∙ step-refused name o rest h
+
+-- The same for a call that has an output.
+pub output-refused : (name : List ℕ) (scratch : ℕ) (o : Outcome) (rest : List ℕ) (x u : Refusal) → Sound scratch o → u ≡ x → refusedReply x ≡ o .reply → scratch < length (o .slices)
+    → line (refusedText ∷ name ∷ decimal (u .number) ∷ decimal (u .place) ∷ []) ≡ step name o rest
+output-refused name scratch o rest x u s f e l = refused-line name o rest x u f e (s .real (ap (λ y. y .counts) (sym e)) l)

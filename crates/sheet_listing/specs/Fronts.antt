@@ -4,8 +4,6 @@ use Prim.Native.Nat.{ℕ, _≤_}
 use lib.ListN.{length, take}
 use Rattle.listing.specs.declared.headers.Family.{Family}
 use Rattle.listing.specs.Families.{widthOf, familyLines, HeadersInside}
-use Rattle.sheet_calls.specs.declared.Counted.{Counted}
-use Rattle.sheet_calls.specs.declared.Counted.the-variants.{Number, Refused}
 use Rattle.grouping.specs.declared.Lengths.{Lengths}
 
 -- What a family prints from the front of its three slices.
@@ -18,8 +16,3 @@ pub record Fronts (family : Family) (n : Lengths) (hs vs ts : List ℕ) : Type 0
   pub variables-fit : n .variables ≤ length vs
   pub terms-fit : n .terms ≤ length ts
   pub inside : HeadersInside (widthOf family) (take (n .headers) hs) (take (n .variables) vs) (take (n .terms) ts)
-
--- The number that a call has handed back, 0 after a refusal.
-abbrev pub numberOf : Counted → ℕ
-numberOf (Number n) = n
-numberOf (Refused r) = 0

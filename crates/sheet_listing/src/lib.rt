@@ -1,18 +1,23 @@
-// What `sheetlist` prints for the bytes that it has read, step by step; a refusal ends the output.
+// What `sheetlist` prints, step by step; a refusal ends the output.
 ghost use mathlib.Core.Path.{_≡_};
-ghost use mathlib.Core.List.{[], _∷_, _++_};
-ghost use Prim.Native.Nat.{_<_, _≤_};
+ghost use mathlib.Core.List.{List, [], _∷_, _++_};
+ghost use Prim.Native.Nat.{ℕ, _<_};
 ghost use lib.ListN.{length, take};
 ghost use Rattle.semantics.specs.Arithmetic.{prime};
-ghost use Rattle.semantics.specs.Call.{constraintCall, interactionCall};
+ghost use Rattle.semantics.specs.Call.{padded, constraintCall, interactionCall};
 ghost use Rattle.semantics.specs.Sheetlist.{line, endText, consText, interText, step, interactionLines, constraintLines, graphLines, sheetLines, sheetlist};
 ghost use Rattle.listing.specs.declared.headers.Family.the-variants.{Numerators, Denominators};
 ghost use Rattle.listing.specs.Putting.{Room, Puts};
-ghost use Rattle.sheet_listing.specs.Fronts.{frontLines, Fronts, numberOf};
+ghost use Rattle.sheet_listing.specs.Fronts.{frontLines, Fronts};
+ghost use Rattle.sheet_listing.specs.Inputs.{ReadOf};
+
+mod refusals;
+
 use constraint_lists::ConstraintLists;
 use grouping::Lengths;
 use interaction_lists::InteractionLengths;
 use interaction_lists::InteractionLists;
+use libc::STDIN_FILENO;
 use libc::STDOUT_FILENO;
 use listing::headers;
 use listing::headers::Family;
@@ -101,22 +106,21 @@ fn put_interactions(out: &mut [u8], at: usize, graph: &[u32]) -> usize
         &mut denom_variables,
         &mut denom_terms,
     );
-    match lists {
-        InteractionLists::Written(n) => put_both_lists(
-            out,
-            at,
-            n,
-            &headers,
-            &variables,
-            &terms,
-            &denom_headers,
-            &denom_variables,
-            &denom_terms,
-        ),
-        InteractionLists::Refused(r) => {
-            lines::put_refused(out, at, b"inter", lines::wide(r.number), r.place)
-        }
-    }
+    let InteractionLists::Written(n) = lists else {
+        let refusal = refusals::of_interactions(lists);
+        return lines::put_refused(out, at, b"inter", refusal.number, refusal.place);
+    };
+    put_both_lists(
+        out,
+        at,
+        n,
+        &headers,
+        &variables,
+        &terms,
+        &denom_headers,
+        &denom_variables,
+        &denom_terms,
+    )
 }
 
 // What the graph's constraints print, and what comes after them.
@@ -137,33 +141,20 @@ fn put_constraints(out: &mut [u8], at: usize, graph: &[u32]) -> usize
         &mut variables,
         &mut terms,
     );
-    match lists {
-        ConstraintLists::Written(n) => {
-            let next = put_lists(
-                out,
-                at,
-                Family::Constraints,
-                n,
-                &headers,
-                &variables,
-                &terms,
-            );
-            put_interactions(out, next, graph)
-        }
-        ConstraintLists::Refused(r) => {
-            lines::put_refused(out, at, b"cons", lines::wide(r.number), r.place)
-        }
-    }
-}
-
-// The number that a call has handed back, 0 after a refusal.
-fn number_of(counted: Counted) -> usize
-    ensures { λ r. ⌜ r ≡ numberOf counted ⌝ }
-{
-    match counted {
-        Counted::Number(n) => n,
-        Counted::Refused(_) => 0,
-    }
+    let ConstraintLists::Written(n) = lists else {
+        let refusal = refusals::of_constraints(lists);
+        return lines::put_refused(out, at, b"cons", refusal.number, refusal.place);
+    };
+    let next = put_lists(
+        out,
+        at,
+        Family::Constraints,
+        n,
+        &headers,
+        &variables,
+        &terms,
+    );
+    put_interactions(out, next, graph)
 }
 
 // What a graph prints: its numbers, then its lists.
@@ -171,7 +162,11 @@ fn put_graph(out: &mut [u8], at: usize, graph: &[u32]) -> usize
     requires { ⌜ (2 < length (now graph)) × Room (now out) at (graphLines prime (now graph)) ⌝ }
     ensures { λ r. ⌜ Puts (now (out .entry)) at (graphLines prime (now (graph .entry))) (now (out .exit)) r ⌝ }
 {
-    let rotation = number_of(sheet_calls::max_rotation(graph));
+    let rotated = sheet_calls::max_rotation(graph);
+    let Counted::Number(rotation) = rotated else {
+        let refusal = refusals::of_counted(rotated);
+        return lines::put_refused(out, at, b"dag", refusal.number, refusal.place);
+    };
     let next = lines::put_dag_line(out, at, graph[1], graph[2], rotation);
     put_constraints(out, next, graph)
 }
@@ -184,34 +179,61 @@ fn put_sheet(out: &mut [u8], at: usize, sheet: &[u32]) -> usize
     let mut scratch = [0u32; 1016];
     let mut graph = [0u32; 1016];
     let built = dag::build(sheet, &mut scratch, &mut graph);
-    match built {
-        Written::Words(n) => put_graph(out, at, &graph[..n]),
-        Written::Refused(r) => {
-            lines::put_refused(out, at, b"dag", lines::wide(r.number), r.place)
-        }
-    }
+    let Written::Words(n) = built else {
+        let refusal = refusals::of_written(built);
+        return lines::put_refused(out, at, b"dag", refusal.number, refusal.place);
+    };
+    put_graph(out, at, &graph[..n])
 }
 
-// The bytes that `sheetlist` prints go to the front of `out`; their number is handed back.
-pub fn list_sheet(bytes: &[u8], out: &mut [u8; 65536]) -> usize
-    ensures { λ r. ⌜ (r ≤ length (now (out .exit))) × (take r (now (out .exit)) ≡ sheetlist prime (now (bytes .entry))) ⌝ }
+// What bytes print: the sheet that is read from them.
+fn put_bytes(out: &mut [u8], at: usize, bytes: &[u8]) -> usize
+    requires { ⌜ Room (now out) at (sheetlist prime (now bytes)) ⌝ }
+    ensures { λ r. ⌜ Puts (now (out .entry)) at (sheetlist prime (now (bytes .entry))) (now (out .exit)) r ⌝ }
 {
     if 4096 < bytes.len() {
-        return lines::put_refused(out, 0, b"read", 1, 0);
+        return lines::put_refused(out, at, b"read", 1, 0);
     }
     let mut sheet = [0u32; 1016];
     let read = block_reader::read_blocks(bytes, &mut sheet);
-    match read {
-        Written::Words(n) => put_sheet(out, 0, &sheet[..n]),
-        Written::Refused(r) => {
-            lines::put_refused(out, 0, b"read", lines::wide(r.number), r.place)
-        }
-    }
+    let Written::Words(n) = read else {
+        let refusal = refusals::of_written(read);
+        return lines::put_refused(out, at, b"read", refusal.number, refusal.place);
+    };
+    put_sheet(out, at, &sheet[..n])
 }
 
-// Writes them to standard output.
-pub fn print_sheet(bytes: &[u8]) {
+// The bytes that `sheetlist` prints for an input go to the front of `out`, with zeros behind them; their number is handed back.
+pub fn list_sheet(bytes: &[u8], out: &mut [u8; 65536]) -> usize
+    ensures { λ r. ⌜ (now (out .exit) ≡ padded (sheetlist prime (now (bytes .entry))) 65536) × (r ≡ length (sheetlist prime (now (bytes .entry)))) ⌝ }
+{
+    let printed = put_bytes(out, 0, bytes);
+    slices::zero_bytes_from(out, printed);
+    printed
+}
+
+// The same for the first n bytes, or for all of them where there are fewer.
+fn list_front(bytes: &[u8], n: usize, out: &mut [u8; 65536]) -> usize
+    ensures { λ r. ⌜ (now (out .exit) ≡ padded (sheetlist prime (take n (now (bytes .entry)))) 65536) × (r ≡ length (sheetlist prime (take n (now (bytes .entry))))) ⌝ }
+{
+    if bytes.len() < n {
+        return list_sheet(bytes, out);
+    }
+    list_sheet(&bytes[..n], out)
+}
+
+// The same for an input of which n bytes were read: all of it, or as much as the buffer takes.
+pub fn list_read(buffer: &[u8; 4097], n: usize, out: &mut [u8; 65536]) -> usize
+    ensures { λ r. ⌜ ((input : List ℕ) → ReadOf (now (buffer .entry)) n input → (now (out .exit) ≡ padded (sheetlist prime input) 65536) × (r ≡ length (sheetlist prime input))) ⌝ }
+{
+    list_front(buffer, n, out)
+}
+
+// Lists standard input to standard output.
+pub fn list_input() {
+    let mut buffer = [0u8; 4097];
+    let n = io::read_full(STDIN_FILENO, &mut buffer);
     let mut out = [0u8; 65536];
-    let length = list_sheet(bytes, &mut out);
-    io::write_all(STDOUT_FILENO, &out[..length]);
+    let printed = list_read(&buffer, n, &mut out);
+    io::write_all(STDOUT_FILENO, &out[..printed]);
 }

@@ -2,8 +2,8 @@ use mathlib.Core.Path.{refl}
 use Rattle.semantics.specs.Sheetlist.{decimal}
 use Rattle.listing.proofs.Writing.{puts-next}
 use borrow.Author.Needs.{needs}
-use Rattle.listing.proofs.lines.put_number.Statement.{statement}
-use Rattle.listing.proofs.lines.put_number.Tie as tie
+use Rattle.listing.proofs.numbers.put_number.Statement.{statement}
+use Rattle.listing.proofs.numbers.put_number.Tie as tie
 
 put-byte-requires : tie.Need-put-byte-requires
 put-byte-requires c κs = search needs

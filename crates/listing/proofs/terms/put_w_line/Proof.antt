@@ -5,8 +5,8 @@ use lib.ListN.{getD}
 use borrow.Author.Needs.{needs}
 use Rattle.listing.proofs.Writing.{room-front, room-next, room-then, puts-next}
 use Rattle.listing.proofs.Pieces.{number, w-pieces}
-use Rattle.listing.proofs.lines.put_w_line.Statement.{statement}
-use Rattle.listing.proofs.lines.put_w_line.Tie as tie
+use Rattle.listing.proofs.terms.put_w_line.Statement.{statement}
+use Rattle.listing.proofs.terms.put_w_line.Tie as tie
 
 put-byte-requires : tie.Need-put-byte-requires
 put-byte-requires c κs =

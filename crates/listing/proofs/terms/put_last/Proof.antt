@@ -5,8 +5,8 @@ use Rattle.semantics.specs.Sheetlist.{signed}
 use Rattle.listing.proofs.Writing.{room-next, room-then, puts-next}
 use Rattle.listing.proofs.Pieces.{ending-pieces}
 use borrow.Author.Needs.{needs}
-use Rattle.listing.proofs.lines.put_last.Statement.{statement}
-use Rattle.listing.proofs.lines.put_last.Tie as tie
+use Rattle.listing.proofs.terms.put_last.Statement.{statement}
+use Rattle.listing.proofs.terms.put_last.Tie as tie
 
 put-byte-requires : tie.Need-put-byte-requires
 put-byte-requires c κs = search needs

@@ -1,0 +1,29 @@
+-- The refusal in the answer of a call that refused.
+use Rattle.sheet.specs.declared.Refusal.{Refusal}
+use Rattle.sheet.specs.declared.Written.{Written}
+use Rattle.sheet.specs.declared.Written.the-variants as written
+use Rattle.sheet_calls.specs.declared.Counted.{Counted}
+use Rattle.sheet_calls.specs.declared.Counted.the-variants as counted
+use Rattle.constraint_lists.specs.declared.ConstraintLists.{ConstraintLists}
+use Rattle.constraint_lists.specs.declared.ConstraintLists.the-variants as constraint
+use Rattle.interaction_lists.specs.declared.InteractionLists.{InteractionLists}
+use Rattle.interaction_lists.specs.declared.InteractionLists.the-variants as interaction
+
+abbrev none : Refusal
+none = record { number = 0; place = 0 }
+
+abbrev pub ofWritten : Written → Refusal
+ofWritten (written.Refused r) = r
+ofWritten (written.Words n) = none
+
+abbrev pub ofCounted : Counted → Refusal
+ofCounted (counted.Refused r) = r
+ofCounted (counted.Number n) = none
+
+abbrev pub ofConstraints : ConstraintLists → Refusal
+ofConstraints (constraint.Refused r) = r
+ofConstraints (constraint.Written n) = none
+
+abbrev pub ofInteractions : InteractionLists → Refusal
+ofInteractions (interaction.Refused r) = r
+ofInteractions (interaction.Written n) = none
