@@ -1,7 +1,8 @@
+-- A space is put, and behind it the number.
 use mathlib.Core.Path.{refl}
+use borrow.Author.Needs.{needs}
 use Rattle.semantics.specs.Sheetlist.{decimal}
 use Rattle.listing.proofs.Writing.{puts-next}
-use borrow.Author.Needs.{needs}
 use Rattle.listing.proofs.numbers.put_number.Statement.{statement}
 use Rattle.listing.proofs.numbers.put_number.Tie as tie
 
@@ -15,7 +16,10 @@ same-length : tie.Need-same-length
 same-length c = search needs
 
 returns : tie.Need-returns
-returns c = puts-next (c .before .before .before .before .before .before .put-byte .ensures) (decimal (c .before .before .before .before .before .before .before .before .before .args .n)) refl (c .before .before .before .before .before .before .before .before .before .pre) (c .before .before .put-decimal .ensures)
+returns c =
+    let space = c .before .before .before .before .before .before in
+    let start = space .before .before .before in
+    puts-next (space .put-byte .ensures) (decimal (start .args .n)) refl (start .pre) (c .before .before .put-decimal .ensures)
 
 pub put-number-spec : {M : Type 1} → statement M
 put-number-spec = tie.close (tie.spec put-byte-requires put-decimal-requires same-length returns)
