@@ -26,7 +26,7 @@ words-back (Refused v) scratch out = refl
 front-is : (r : Written) (scratch out : List ℕ) {o : Outcome} → builtOutcome r scratch out ≡ o → handedBack 1 o 0 ≡ take (countOf r) out
 front-is r scratch out e = ap (λ (x : Outcome). handedBack 1 x 0) (sym e) ∙ words-back r scratch out
 
-build-demand : BuildDemand
+pub build-demand : BuildDemand
 build-demand ws scratch-lent out-lent r scratch out e a =
     let g = demand-prime .graph ws scratch-lent out-lent (number-is e a) in
     (g .0, g .1, subst (GraphRule prime (g .0)) (front-is r scratch out e) (g .2))

@@ -20,7 +20,7 @@ use Rattle.sheet_calls.specs.declared.Counted.{Counted}
 use Rattle.sheet_calls.specs.declared.Counted.the-variants as counted
 use Rattle.sheet_calls.specs.Replies.{countedOutcome}
 use Rattle.dag.specs.Calls.{builtOutcome}
-use Rattle.dag.proofs.Demands.{build-demand}
+use Rattle.demands.proofs.Demands.{build-demand}
 use Rattle.listing.proofs.Steps.{builds, rotates, step-on, dagLine, afterGraph, graph-prints, sheet-prints}
 use Rattle.sheet_listing.specs.Refusals.{ofWritten, ofCounted}
 use Rattle.sheet_listing.proofs.Sounds.{Sound, reader-sound, builder-sound, rotation-real, refused-line, output-refused}
