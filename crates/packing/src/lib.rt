@@ -11,7 +11,7 @@ ghost use Rattle.semantics.specs.Call.{packCall, unpackCall};
 ghost use Rattle.packed_var.specs.Packed.{packedOutcome};
 ghost use Rattle.packing.specs.Leaves.{wordsRecord, unpackedOutcome};
 
-pub mod leaf;
+mod leaf;
 
 // A record's five words.
 pub struct Record {
