@@ -16,7 +16,7 @@ pub enum BlockChecked {
     Refused(Refusal),
 }
 
-// Whether a block has the check word that its words and its number, counted from 1, ask for.
+// Whether a block has the check word of its words and its number, counted from 1.
 pub fn block_check(bytes: &[u8], number: u32) -> BlockChecked
     ensures { λ r. ⌜ blockOutcome r ≡ blockCheckCall (now (bytes .entry)) number ⌝ }
 {

@@ -32,7 +32,7 @@ pub fn word_bytes(w: u32) -> [u8; 4]
     ]
 }
 
-// The check word that the 127 words from `at` on and the block's number ask for.
+// The check word of the 127 words from `at` on and the block's number.
 pub fn check_word(bytes: &[u8], at: usize, number: u32) -> u32
     requires { ⌜ at + 508 ≤ length (now bytes) ⌝ }
     ensures { λ r. ⌜ r ≡ checkWord number (wordsOf 127 (drop at (now (bytes .entry)))) ⌝ }

@@ -4,17 +4,18 @@ use mathlib.Core.List.{List}
 use Prim.Native.Nat.{ℕ}
 use lib.ListN.{take}
 use Rattle.semantics.specs.Arithmetic.{prime}
-use Rattle.semantics.specs.Call.{Outcome, handedBack, constraintCall, interactionCall}
-use Rattle.semantics.specs.Demand.{GraphRule, ConstraintRule, InteractionRule, GraphListsRule}
+use Rattle.semantics.specs.Sheet.{Sheet}
+use Rattle.semantics.specs.Call.{Outcome, Accepted, handedBack, builderCall, constraintCall, interactionCall}
+use Rattle.semantics.specs.Demand.{GraphRule, ConstraintRule, InteractionRule, GraphConstraintRule, GraphInteractionRule}
 use Rattle.semantics.proofs.Demands.{demand-prime}
 use Rattle.sheet.specs.declared.Written.{Written}
 use Rattle.sheet.specs.declared.Written.the-variants.{Words, Refused}
 use Rattle.sheet.specs.Replies.{countOf}
 use Rattle.dag.specs.Calls.{builtOutcome}
-use Rattle.demands.specs.Demand.{BuildDemand, ConstraintDemand, InteractionDemand, GraphListsDemand, Demand}
+use Rattle.demands.specs.Demand.{Built, GraphWords, ConstraintsExpanded, InteractionsExpanded, Demand}
 
 -- An answer's number is that of the definition's reply.
-number-is : {o o′ : Outcome} → o ≡ o′ → o .reply .number ≡ 0 → o′ .reply .number ≡ 0
+number-is : {o o′ : Outcome} → o ≡ o′ → Accepted o → Accepted o′
 number-is e a = ap (λ (x : Outcome). x .reply .number) (sym e) ∙ a
 
 -- The words that `build` hands back are the front of its output.
@@ -23,32 +24,40 @@ unfolding handedBack
 words-back (Words n) scratch out = refl
 words-back (Refused v) scratch out = refl
 
-front-is : (r : Written) (scratch out : List ℕ) {o : Outcome} → builtOutcome r scratch out ≡ o → handedBack 1 o 0 ≡ take (countOf r) out
-front-is r scratch out e = ap (λ (x : Outcome). handedBack 1 x 0) (sym e) ∙ words-back r scratch out
-
-pub build-demand : BuildDemand
+pub build-demand : (ws : List ℕ) (scratch-lent out-lent : ℕ) (r : Written) (scratch out : List ℕ)
+    → builtOutcome r scratch out ≡ builderCall prime ws scratch-lent out-lent → Built ws r out
 build-demand ws scratch-lent out-lent r scratch out e a =
     let g = demand-prime .graph ws scratch-lent out-lent (number-is e a) in
-    (g .0, g .1, subst (GraphRule prime (g .0)) (front-is r scratch out e) (g .2))
+    (g .0, g .1, subst (GraphRule prime (g .0)) (ap (λ (x : Outcome). handedBack 1 x 0) (sym e) ∙ words-back r scratch out) (g .2))
 
-constraint-demand : ConstraintDemand
-constraint-demand ws work pool h v t r work′ pool′ headers variables terms e a =
-    let g = demand-prime .constraints ws work pool h v t (number-is e a) in
-    (g .0, g .1, subst (ConstraintRule prime (g .0)) (sym e) (g .2))
+pub constraints-demand : (ws : List ℕ) (work pool h v t : ℕ) (o : Outcome) → o ≡ constraintCall prime ws work pool h v t → ConstraintsExpanded ws o
+constraints-demand ws work pool h v t o e = record {
+  own = λ a.
+      let g = demand-prime .constraints ws work pool h v t (number-is e a) in
+      (g .0, g .1, subst (ConstraintRule prime (g .0)) (sym e) (g .2));
+  source = λ a source s w.
+      let f : constraintCall prime (handedBack 1 (builderCall prime source (w .scratch) (w .out)) 0) work pool h v t ≡ o =
+      ap (λ (g : List ℕ). constraintCall prime g work pool h v t) (w .words) ∙ sym e in
+      subst (GraphConstraintRule prime s) f
+      (demand-prime .graphConstraints source (w .scratch) (w .out) s (w .accepted) (w .sheet) work pool h v t (number-is (sym f) a));
+}
 
-interaction-demand : InteractionDemand
-interaction-demand ws work pool h v t h₂ v₂ t₂ r work′ pool′ h′ v′ t′ h₃ v₃ t₃ e a =
-    let g = demand-prime .interactions ws work pool h v t h₂ v₂ t₂ (number-is e a) in
-    (g .0, g .1, subst (InteractionRule prime (g .0)) (sym e) (g .2))
-
-graph-lists-demand : GraphListsDemand
-graph-lists-demand ws scratch-lent out-lent r scratch out e a s k work pool h v t c work′ pool′ headers variables terms ec work₁ pool₁ h₁ v₁ t₁ h₂ v₂ t₂ i work₃ pool₃ h₃ v₃ t₃ h₄ v₄ t₄ ei =
-    let g = demand-prime .graphLists ws scratch-lent out-lent s (number-is e a) k work pool h v t work₁ pool₁ h₁ v₁ t₁ h₂ v₂ t₂ in
-    let f = front-is r scratch out e in
-    both (ap (λ (ws : List ℕ). constraintCall prime ws work pool h v t) f ∙ sym ec) (ap (λ (ws : List ℕ). interactionCall prime ws work₁ pool₁ h₁ v₁ t₁ h₂ v₂ t₂) f ∙ sym ei) g
-  where
-    both : {o o₁ o′ o₁′ : Outcome} → o ≡ o₁ → o′ ≡ o₁′ → GraphListsRule prime s o o′ → GraphListsRule prime s o₁ o₁′
-    both {o} {o₁} {o′} {o₁′} p q x = subst (λ (y : Outcome). GraphListsRule prime s o₁ y) q (subst (λ (y : Outcome). GraphListsRule prime s y o′) p x)
+pub interactions-demand : (ws : List ℕ) (work pool h v t h₂ v₂ t₂ : ℕ) (o : Outcome) → o ≡ interactionCall prime ws work pool h v t h₂ v₂ t₂
+    → InteractionsExpanded ws o
+interactions-demand ws work pool h v t h₂ v₂ t₂ o e = record {
+  own = λ a.
+      let g = demand-prime .interactions ws work pool h v t h₂ v₂ t₂ (number-is e a) in
+      (g .0, g .1, subst (InteractionRule prime (g .0)) (sym e) (g .2));
+  source = λ a source s w.
+      let f : interactionCall prime (handedBack 1 (builderCall prime source (w .scratch) (w .out)) 0) work pool h v t h₂ v₂ t₂ ≡ o =
+      ap (λ (g : List ℕ). interactionCall prime g work pool h v t h₂ v₂ t₂) (w .words) ∙ sym e in
+      subst (GraphInteractionRule prime s) f
+      (demand-prime .graphInteractions source (w .scratch) (w .out) s (w .accepted) (w .sheet) work pool h v t h₂ v₂ t₂ (number-is (sym f) a));
+}
 
 pub demand : Demand
-demand = record { graph = build-demand; constraints = constraint-demand; interactions = interaction-demand; graphLists = graph-lists-demand }
+demand = record {
+  build = build-demand;
+  constraints = λ ws work pool h v t r work′ pool′ h′ v′ t′. constraints-demand ws work pool h v t _;
+  interactions = λ ws work pool h v t h₂ v₂ t₂ r work′ pool′ h′ v′ t′ h₃ v₃ t₃. interactions-demand ws work pool h v t h₂ v₂ t₂ _;
+}

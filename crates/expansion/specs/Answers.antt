@@ -11,7 +11,7 @@ use Rattle.interaction_lists.specs.declared.InteractionLengths.{InteractionLeng
 use Rattle.interaction_lists.specs.declared.InteractionLists.{InteractionLists}
 use Rattle.interaction_lists.specs.declared.InteractionLists.the-variants as interaction
 
--- "number 0 with the count of words written to each slice", or a number and a place.
+-- "number 0 with the count of words (or bytes) written to each slice", or a number and a place.
 abbrev pub constraintReply : ConstraintLists → Reply
 constraintReply (Written n) = acceptedWith (n .headers ∷ n .variables ∷ n .terms ∷ []) []
 constraintReply (Refused r) = refusedReply r

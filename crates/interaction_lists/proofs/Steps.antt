@@ -1,9 +1,8 @@
 -- The steps of an expansion, in the order of its refusals.
 use mathlib.Core.Path.{_≡_, refl, sym, ap, subst, _∙_}
 use mathlib.Core.List.{List, [], _∷_, _++_, map, map-append}
-use Prim.Native.Nat.{ℕ, suc, _+_, _*_, _≤_}
+use Prim.Native.Nat.{ℕ, _+_, _*_, _≤_}
 use native.Mathlib.Omega.{arith}
-use lib.Dec.{leb}
 use lib.ListN.{length}
 use Rattle.semantics.specs.Arithmetic.{prime}
 use Rattle.semantics.specs.Answer.{Answer, good, refused}
@@ -11,9 +10,8 @@ use Rattle.semantics.specs.Sheet.{Sheet}
 use Rattle.semantics.specs.Check.{readSheet}
 use Rattle.semantics.specs.Walk.{order}
 use Rattle.semantics.specs.Expand.{expandAll}
-use Rattle.semantics.specs.Group.{Root, Item, Group, countRoots, fieldRoots, interactionTerm, headers, variables, terms, layout}
+use Rattle.semantics.specs.Group.{Root, Group, countRoots, fieldRoots, interactionTerm, headers, variables, terms, layout}
 use Rattle.semantics.specs.Call.{Result, fitted, firstShort, family, interactionOutputs, maxFieldsLen}
-use Rattle.semantics.proofs.Basics.{by-test}
 use Rattle.semantics.proofs.Demands.{count-nodes, field-nodes}
 use Rattle.records.specs.Access.{recordsOf}
 use Rattle.records.proofs.Reading.{counts, fields}

@@ -1,6 +1,6 @@
 -- The lists of the interactions and the two numbers, or why there are none (01, "What each call hands back").
 use mathlib.Core.List.{List, [], _∷_, _++_}
-use Prim.Native.Nat.{ℕ, zero, suc, _+_, _≤_, max}
+use Prim.Native.Nat.{ℕ, zero, suc, _+_, max}
 use lib.ListN.{length, take}
 use Rattle.semantics.specs.Arithmetic.{prime}
 use Rattle.semantics.specs.Answer.{Answer, good, refused}

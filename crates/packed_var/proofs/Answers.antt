@@ -1,4 +1,4 @@
--- The outcome of packing and its answer tell each other.
+-- The outcome of packing follows from its answer, and the answer from the outcome.
 use mathlib.Core.Path.{_≡_, refl, sym, ap, _∙_}
 use mathlib.Core.List.{[], _∷_}
 use Prim.Native.Nat.{ℕ}

@@ -1,20 +1,18 @@
--- What a variable says as a record, and what the answers of this crate stand for (01, "What each call hands back").
+-- A variable as a record, and what the answers of this crate stand for (01, "What each call hands back").
 use mathlib.Core.List.{[], _∷_}
 use Prim.Native.Nat.{ℕ}
+use lib.ListN.{getD}
 use Rattle.semantics.specs.Sheet.{Record, recordOf}
 use Rattle.semantics.specs.Call.{Reply, Outcome, acceptedWith, refusedWith}
 use Rattle.symbolic_variable.specs.declared.Entry.{Entry}
-use Rattle.symbolic_variable.specs.declared.Entry.the-variants.{Preprocessed, Main, Public, Challenge}
 use Rattle.symbolic_variable.specs.declared.SymbolicVariable.{SymbolicVariable}
+use Rattle.symbolic_variable.specs.Variable.{entryWords}
 use Rattle.packed_var.specs.declared.Packed.{Packed}
 use Rattle.packed_var.specs.declared.Packed.the-variants as packed
 
--- "a entry (0 preprocessed, 1 main, 2 challenge, 3 public), b part (0 unless main), c offset (0 for 2 and 3), d column"
+-- The record of kind 1 with an entry's three words and a column.
 abbrev pub entryRecord : Entry → (column : ℕ) → Record
-entryRecord (Preprocessed o) d = recordOf 1 0 0 o d
-entryRecord (Main p o) d = recordOf 1 1 p o d
-entryRecord Challenge d = recordOf 1 2 0 0 d
-entryRecord Public d = recordOf 1 3 0 0 d
+entryRecord e d = recordOf 1 (getD (entryWords e) 0 0) (getD (entryWords e) 1 0) (getD (entryWords e) 2 0) d
 
 abbrev pub variableRecord : SymbolicVariable → Record
 variableRecord v = entryRecord (v .entry) (v .index)

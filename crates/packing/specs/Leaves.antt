@@ -19,7 +19,7 @@ use Rattle.packing.specs.declared.Record.{Record}
 use Rattle.packing.specs.declared.Unpacked.{Unpacked}
 use Rattle.packing.specs.declared.Unpacked.the-variants as unpacked
 
--- "1 Variable; 2 IsFirstRow, 3 IsLastRow, 4 IsTransition: none"
+-- "1 Variable", "2 IsFirstRow, 3 IsLastRow, 4 IsTransition: none"
 abbrev pub leafRecord : Leaf → sheet.Record
 leafRecord (Variable v) = variableRecord v
 leafRecord IsFirstRow = recordOf 2 0 0 0 0

@@ -1,4 +1,4 @@
-// The leaf that a record's five words say: a variable or a row mark.
+// The leaf that a record's five words encode: a variable or a row mark.
 use symbolic_variable::Entry;
 use symbolic_variable::Refusal;
 use symbolic_variable::SymbolicVariable;

@@ -27,7 +27,7 @@ pub enum Unpacked {
     Refused(Refusal),
 }
 
-// The packed number of the variable or row mark that a record's five words say.
+// The packed number of the variable or row mark that a record's five words encode.
 pub fn pack(kind: u32, a: u32, b: u32, c: u32, d: u32) -> Packed
     ensures { λ r. ⌜ packedOutcome r ≡ packCall (recordOf kind a b c d) ⌝ }
 {

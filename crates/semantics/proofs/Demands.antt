@@ -17,7 +17,7 @@ use Rattle.semantics.specs.Expand.{expandAll}
 use Rattle.semantics.specs.Group.{Root, labelled, constraintRoots, countRoots, fieldRoots, Item, constraintTerm, interactionTerm, listed, layout}
 use Rattle.semantics.specs.Call.{Outcome, Result, Accepted, handedBack, needs, result, onSheet, builderCall, fitted, family, expansion, constraintOutputs, constraintCall, interactionOutputs, maxFieldsLen, interactionCall}
 use Rattle.semantics.specs.Refusals.{ofSheet, ofExpansion}
-use Rattle.semantics.specs.Demand.{Assignment, productOf, sumOf, ofConstraint, ofCount, ofField, second, first, Ascending, NonZero, noInteraction, constraintAt, interactionAt, fieldAt, listsFrom, GraphRule, ConstraintRule, InteractionRule, GraphListsRule, Demand}
+use Rattle.semantics.specs.Demand.{Assignment, productOf, sumOf, ofConstraint, ofCount, ofField, second, first, Ascending, NonZero, noInteraction, constraintAt, interactionAt, fieldAt, listsFrom, GraphRule, ConstraintRule, InteractionRule, GraphConstraintRule, GraphInteractionRule, Demand}
 use Rattle.semantics.proofs.Members.{Mem, mem-left, mem-right, mem-here, mem-getD, Below, cons-below, append-below, flat-mem, flat-below, not-in}
 use Rattle.semantics.proofs.Orders.{order-closed, order-roots, order-below, order-reached, order-all, order-distinct}
 use Rattle.semantics.proofs.Records.{LowRecord, each-low}
@@ -273,24 +273,32 @@ module _ (p : ℕ) (big : 1 < p) where
 
   -- The expansions of the graph's words, against the source.
   module _ (s : Sheet) (w : Inside p s) (g : List ℕ) (e : check p g ≡ good (graphOf p s)) where
-    graph-lists : (work pool h v t work₁ pool₁ h₁ v₁ t₁ h₂ v₂ t₂ : ℕ)
-        → GraphListsRule p s (constraintCall p g work pool h v t) (interactionCall p g work₁ pool₁ h₁ v₁ t₁ h₂ v₂ t₂)
-    graph-lists work pool h v t work₁ pool₁ h₁ v₁ t₁ h₂ v₂ t₂ = record {
-      constraint = λ a A j q b c d.
-          let r = constraint-rule g work pool h v t a in
-          let rule = subst (λ (u : Sheet). ConstraintRule p u (constraintCall p g work pool h v t)) (good-injective (sym (r .1) ∙ e)) (r .2) in
-          rule .value A q c ∙ ap (valueAt p (A .at) (graphOf p s .records)) d ∙ constraint-kept p big s w A j b;
-      count = λ a A i b. let rule = inter a in rule .count A i (omega (arith, same-interactions p big s w)) ∙ count-kept p big s w A i b;
-      field = λ a A i f b c.
-          let rule = inter a in
-          rule .field A i f (omega (arith, same-interactions p big s w)) (omega (arith, same-fields p big s w i b)) ∙ field-kept p big s w A i f b c;
-    }
-      where
-        inter : Accepted (interactionCall p g work₁ pool₁ h₁ v₁ t₁ h₂ v₂ t₂)
-            → InteractionRule p (graphOf p s) (interactionCall p g work₁ pool₁ h₁ v₁ t₁ h₂ v₂ t₂)
-        inter a =
-            let r = interaction-rule g work₁ pool₁ h₁ v₁ t₁ h₂ v₂ t₂ a in
-            subst (λ (u : Sheet). InteractionRule p u (interactionCall p g work₁ pool₁ h₁ v₁ t₁ h₂ v₂ t₂)) (good-injective (sym (r .1) ∙ e)) (r .2)
+    graph-constraints : (work pool h v t : ℕ) → Accepted (constraintCall p g work pool h v t) → GraphConstraintRule p s (constraintCall p g work pool h v t)
+    graph-constraints work pool h v t a =
+        let r = constraint-rule g work pool h v t a in
+        let rule = subst (λ (u : Sheet). ConstraintRule p u (constraintCall p g work pool h v t)) (good-injective (sym (r .1) ∙ e)) (r .2) in
+        record {
+          constraint = λ A j q b c d. rule .value A q c ∙ ap (valueAt p (A .at) (graphOf p s .records)) d ∙ constraint-kept p big s w A j b;
+        }
+
+    graph-interactions : (work pool h v t h′ v′ t′ : ℕ) → Accepted (interactionCall p g work pool h v t h′ v′ t′)
+        → GraphInteractionRule p s (interactionCall p g work pool h v t h′ v′ t′)
+    graph-interactions work pool h v t h′ v′ t′ a =
+        let r = interaction-rule g work pool h v t h′ v′ t′ a in
+        let rule = subst (λ (u : Sheet). InteractionRule p u (interactionCall p g work pool h v t h′ v′ t′)) (good-injective (sym (r .1) ∙ e)) (r .2) in
+        record {
+          count = λ A i b. rule .count A i (omega (arith, same-interactions p big s w)) ∙ count-kept p big s w A i b;
+          field = λ A i f b c.
+              rule .field A i f (omega (arith, same-interactions p big s w)) (omega (arith, same-fields p big s w i b)) ∙ field-kept p big s w A i f b c;
+        }
+
+  -- The words that the builder hands back are the graph's.
+  graph-checked : (ws : List ℕ) (scratch out : ℕ) (s : Sheet) → Accepted (builderCall p ws scratch out) → check p ws ≡ good s
+      → check p (handedBack 1 (builderCall p ws scratch out) 0) ≡ good (graphOf p s)
+  graph-checked ws scratch out s a c =
+      let b = builder-words ws scratch out a in
+      let q : b .0 ≡ s = good-injective (sym (b .1) ∙ c) in
+      graph-rule s (handedBack 1 (builderCall p ws scratch out) 0) (check-inside p ws s c) (b .2 ∙ ap (λ (u : Sheet). encode (graphOf p u)) q) .sheet
 
   -- Demand 3, whole.
   pub demand : Demand p
@@ -300,12 +308,10 @@ module _ (p : ℕ) (big : 1 < p) where
         (b .0, b .1, graph-rule (b .0) (handedBack 1 (builderCall p ws scratch out) 0) (check-inside p ws (b .0) (b .1)) (b .2));
     constraints = constraint-rule;
     interactions = interaction-rule;
-    graphLists = λ ws scratch out s a c.
-        let b = builder-words ws scratch out a in
-        let q : b .0 ≡ s = good-injective (sym (b .1) ∙ c) in
-        let g : List ℕ = handedBack 1 (builderCall p ws scratch out) 0 in
-        let w = check-inside p ws s c in
-        graph-lists s w g (graph-rule s g w (b .2 ∙ ap (λ (u : Sheet). encode (graphOf p u)) q) .sheet);
+    graphConstraints = λ ws scratch out s a c.
+        graph-constraints s (check-inside p ws s c) (handedBack 1 (builderCall p ws scratch out) 0) (graph-checked ws scratch out s a c);
+    graphInteractions = λ ws scratch out s a c.
+        graph-interactions s (check-inside p ws s c) (handedBack 1 (builderCall p ws scratch out) 0) (graph-checked ws scratch out s a c);
   }
 
 -- For the prime of the calls.

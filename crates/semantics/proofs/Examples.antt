@@ -91,9 +91,10 @@ examples :
     ≡ graph 6 (words (v ∷ recordOf 8 0 0 1 0 ∷ recordOf 8 1 0 1 0 ∷ []) (2 ∷ [])) 3)
     × (builds (v ∷ constZero ∷ recordOf 7 1 0 1 0 ∷ []) (2 ∷ [])
     ≡ graph 6 (words (constZero ∷ v ∷ recordOf 7 0 1 1 0 ∷ []) (2 ∷ [])) 3)
-    -- "v·0: two nodes, no headers", "constraint 0: one node, no headers"
+    -- "v·0: two nodes, no headers", of the graph and of the sheet itself; "constraint 0: one node, no headers"
     × (builds (v ∷ constZero ∷ recordOf 9 0 1 1 0 ∷ []) (2 ∷ []) ≡ graph 6 (words (v ∷ constZero ∷ []) (1 ∷ [])) 8)
     × (expands (words (v ∷ constZero ∷ []) (1 ∷ [])) ≡ expanded [] [] [])
+    × (expands (words (v ∷ constZero ∷ recordOf 9 0 1 1 0 ∷ []) (2 ∷ [])) ≡ expanded [] [] [])
     × (builds (constZero ∷ []) (0 ∷ []) ≡ graph 4 (words (constZero ∷ []) (0 ∷ [])) 3)
     × (expands (words (constZero ∷ []) (0 ∷ [])) ≡ expanded [] [] [])
     -- "v + w with degree words 1 and 2, both constraints: four nodes, two indices, two headers of two terms"
@@ -113,7 +114,7 @@ examples :
     × (expands (words (v ∷ w ∷ recordOf 6 0 1 1 0 ∷ recordOf 7 0 1 1 0 ∷ recordOf 9 2 3 2 0 ∷ []) (4 ∷ []))
     ≡ expanded (0 ∷ 0 ∷ 2 ∷ 1 ∷ 2 ∷ 1 ∷ 2 ∷ 1 ∷ []) (1 ∷ 1 ∷ 65537 ∷ 65537 ∷ []) (0 ∷ 1 ∷ 0 ∷ 2013265920 ∷ []))
 unfolding packs answers refuses sheetOf builds words graph expands expanded constZero
-examples = (refl, refl, refl, refl, refl, refl, refl, refl, refl, refl, refl, refl, refl, refl, refl, refl, refl, refl, refl, refl)
+examples = (refl, refl, refl, refl, refl, refl, refl, refl, refl, refl, refl, refl, refl, refl, refl, refl, refl, refl, refl, refl, refl)
 
 -- The sheet of the listing.
 listingSheet : Sheet
@@ -169,6 +170,15 @@ seventeen = manyVars 0 17 ++ (recordOf 6 0 1 1 0 ∷ sumsFrom 17 2 15)
 oneField : (count field : ℕ) → List Record → Sheet
 oneField count field rs = record { records = rs; constraints = []; interactions = record { bus = 7; weight = 1; count = count; message = field ∷ [] } ∷ [] }
 
+-- Two interactions with the count `node`, whose messages are none and twice `node`.
+twoMessages : (node : ℕ) → List Record → Sheet
+twoMessages node rs = record {
+  records = rs;
+  constraints = [];
+  interactions =
+      record { bus = 7; weight = 1; count = node; message = node ∷ node ∷ [] } ∷ record { bus = 7; weight = 1; count = node; message = [] } ∷ [];
+}
+
 fault : Record → ℕ
 unfolding expands
 fault r = recordFault prime (seventeen ++ (r ∷ [])) 33
@@ -180,8 +190,15 @@ further :
     ≡ expanded (0 ∷ 0 ∷ 1 ∷ 2 ∷ 1 ∷ 2 ∷ 1 ∷ 1 ∷ []) (1 ∷ 65537 ∷ []) (0 ∷ 1 ∷ 1 ∷ 1 ∷ 1 ∷ 1 ∷ []))
     -- the field's record goes in before the count's
     × (builderCall prime (encode (oneField 0 1 (v ∷ w ∷ []))) 2 19 ≡ graph 2 (encode (oneField 1 0 (w ∷ v ∷ []))) 0)
+    -- the largest offset is of any variable, and the largest message of any interaction
+    × (maxRotationCall prime (words (recordOf 1 1 0 3 0 ∷ recordOf 1 0 0 5 0 ∷ recordOf 6 0 1 7 0 ∷ []) []) ≡ answers (5 ∷ []))
+    × (interactionCall prime (encode (twoMessages 0 (v ∷ []))) 4096 60 8 8 8 8 8 8 .reply ≡ acceptedWith (4 ∷ 1 ∷ 6 ∷ 4 ∷ 1 ∷ 6 ∷ []) (2 ∷ 2 ∷ []))
+    -- a list that just goes into the pool, and one that does not; the first slice that is too short
+    × (constraintCall prime (words (v ∷ []) (0 ∷ [])) 4096 5 4 1 2 .reply ≡ acceptedWith (4 ∷ 1 ∷ 2 ∷ []) [])
+    × (constraintCall prime (words (v ∷ []) (0 ∷ [])) 4096 4 4 1 2 .reply ≡ refusedWith 16 0)
+    × (constraintCall prime (words (v ∷ []) (0 ∷ [])) 4096 5 4 0 1 .reply ≡ refusedWith 17 2)
     -- 256 working monomials pass, 272 give 12 although only 152 are left of them when they are combined
     × (fault (recordOf 9 31 31 2 0) ≡ 0)
     × (fault (recordOf 9 31 32 2 0) ≡ 12)
-unfolding sheetOf builds words graph expands expanded oneField fault seventeen manyVars sumsFrom
-further = (refl, refl, refl, refl, refl)
+unfolding sheetOf builds words graph expands expanded oneField twoMessages answers listing fault seventeen manyVars sumsFrom
+further = (refl, refl, refl, refl, refl, refl, refl, refl, refl, refl)

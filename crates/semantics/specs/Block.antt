@@ -26,7 +26,7 @@ total (w ∷ ws) = w + total ws
 unfoldable pub checkWord : (number : ℕ) → List ℕ → ℕ
 checkWord number ws = (total ws + number) % 4294967296
 
--- A block's check word is the one that its words and its number ask for.
+-- A block ends with the check word of its words and its number.
 unfoldable pub blockGood : (number : ℕ) → List ℕ → Bool
 blockGood number bs = eqb (wordAt (drop 508 bs)) (checkWord number (wordsOf 127 bs))
 

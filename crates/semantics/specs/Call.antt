@@ -1,7 +1,7 @@
 -- Every public call as one function from its input and the lent lengths to the reply and the content of each writable slice
 -- (01, "What each call hands back").
 use mathlib.Core.Path.{_≡_}
-use mathlib.Core.Bool.{Bool, true, false, cond}
+use mathlib.Core.Bool.{Bool, cond}
 use mathlib.Core.List.{List, [], _∷_, _++_, map, foldr}
 use Prim.Native.Nat.{ℕ, zero, suc, _+_, _*_, _-_, _/_, max}
 use lib.Dec.{eqb, leb}
@@ -123,7 +123,7 @@ maxRotationCall p ws = outcome [] [] (onSheet p ws (λ s. result [] (maxRotation
 unfoldable pub numConstraintsCall : (p : ℕ) (ws : List ℕ) → Outcome
 numConstraintsCall p ws = outcome [] [] (onSheet p ws (λ s. result [] (length (s .constraints) ∷ [])))
 
--- "The conversion copies the L words as an expression sheet."
+-- "The conversion .. copies the L words as an expression sheet."
 unfoldable pub conversionCall : (p : ℕ) (ws : List ℕ) (out : ℕ) → Outcome
 conversionCall p ws out = outcome [] (out ∷ []) (onSheet p ws (λ s. needs 15 (lengthOf s) out (result (encode s ∷ []) [])))
 
@@ -160,14 +160,14 @@ expansion p ws work pool lent roots outputs numbers =
     (andThen (expandAll p (s .records) pool (order (s .records) (map (λ (r : Root). r .node) (roots s))))
     (λ used. fitted (outputs s) lent (numbers s))))))
 
--- "The constraint call takes any sheet's constraints as given, repeats included": headers, variables, terms.
+-- "The constraint call .. takes any sheet's constraints as given, repeats included": headers, variables, terms.
 unfoldable pub constraintOutputs : (p : ℕ) → Sheet → List (List ℕ)
 constraintOutputs p s = family p s constraintTerm (constraintRoots s)
 
 unfoldable pub constraintCall : (p : ℕ) (ws : List ℕ) (work pool h v t : ℕ) → Outcome
 constraintCall p ws work pool h v t = expansion p ws work pool (h ∷ v ∷ t ∷ []) constraintRoots (constraintOutputs p) (λ s. [])
 
--- "The interaction call walks the counts of all interactions, then all fields": numerators, then denominators.
+-- "The interaction call .. walks the counts of all interactions, then all fields": numerators, then denominators.
 unfoldable pub interactionOutputs : (p : ℕ) → Sheet → List (List ℕ)
 interactionOutputs p s = family p s interactionTerm (countRoots s) ++ family p s interactionTerm (fieldRoots s)
 

@@ -17,12 +17,12 @@ use Rattle.semantics.specs.Monomial.{beforeVars}
 use Rattle.semantics.specs.Group.{Listed, listed}
 use Rattle.semantics.specs.Call.{Outcome, Accepted, handedBack, builderCall, constraintCall, interactionCall, constraintOutputs, interactionOutputs}
 
--- "every assignment of field values"
+-- A value for every variable and row mark.
 pub record Assignment (p : ℕ) : Type 0 where
   pub at : Leaf → ℕ
   pub below : (x : Leaf) → at x < p
 
--- "a variable or row mark, packed or not, has A's value": the product of some packed variables.
+-- "a variable (its entry, part, offset, column) or row mark, packed or not, has A's value": the product of some packed variables.
 unfoldable pub productOf : (p : ℕ) → (Leaf → ℕ) → List ℕ → ℕ
 productOf p A [] = 1
 productOf p A (v ∷ vs) = mulM p (A (leafOf (unpacked v))) (productOf p A vs)
@@ -33,7 +33,7 @@ sumTerms p product carries coefficient [] = 0
 sumTerms p product carries coefficient (t ∷ ts) =
     addM p (cond (carries t) (mulM p (coefficient t) product) 0) (sumTerms p product carries coefficient ts)
 
--- "the sum of its listed terms"
+-- The sum of the listed terms that carry what is asked for.
 unfoldable pub sumOf : (p : ℕ) → (Leaf → ℕ) → (carries : List ℕ → Bool) (coefficient : List ℕ → ℕ) → List Listed → ℕ
 sumOf p A carries coefficient [] = 0
 sumOf p A carries coefficient (h ∷ hs) =
@@ -56,7 +56,7 @@ second t = getD t 1 0
 unfoldable pub first : List ℕ → ℕ
 first t = getD t 0 0
 
--- "headers strictly ascend, no coefficient is zero"
+-- Headers strictly ascend.
 abbrev pub AllAfter : List ℕ → List Listed → Type 0
 AllAfter v [] = Unit {0}
 AllAfter v (h ∷ hs) = (beforeVars v (h .vars) ≡ true) × AllAfter v hs
@@ -91,7 +91,7 @@ fieldAt s i f = getD (interactionAt s i .message) f 0
 unfoldable pub listsFrom : (width : ℕ) → Outcome → (k : ℕ) → List Listed
 listsFrom width o k = listed width (handedBack 2 o k) (handedBack 2 o (suc k)) (handedBack 2 o (suc (suc k)))
 
--- "records reached": an order has each of them once, and no others.
+-- The records reached: an order has each of them once, and no others.
 pub record ReachedRule (rs : List Record) (roots : List ℕ) : Type 0 where
   pub once : Distinct (order rs roots)
   pub only : (x : ℕ) → member x (order rs roots) ≡ true → (c : ℕ) × (member c roots ≡ true) × Reaches (childrenAt rs) c x
@@ -135,15 +135,18 @@ module _ (p : ℕ) where
     pub field : (A : Assignment p) (i f : ℕ) → i < length (s .interactions) → f < length (interactionAt s i .message)
         → sumOf p (A .at) (ofField i f) first (listsFrom 3 o 3) ≡ valueAt p (A .at) (s .records) (fieldAt s i f)
 
-  -- The expansions of the graph, against the source: a source constraint's terms carry its node's place in the graph's list.
-  pub record GraphListsRule (s : Sheet) (o o′ : Outcome) : Type 0 where
-    pub constraint : Accepted o → (A : Assignment p) (j q : ℕ) → j < length (s .constraints) → q < length (graphOf p s .constraints)
+  -- The constraint expansion of the graph, against the source: a source constraint's terms carry its node's place in the graph's list.
+  pub record GraphConstraintRule (s : Sheet) (o : Outcome) : Type 0 where
+    pub constraint : (A : Assignment p) (j q : ℕ) → j < length (s .constraints) → q < length (graphOf p s .constraints)
         → constraintAt (graphOf p s) q ≡ built p s .num (constraintAt s j)
         → sumOf p (A .at) (ofConstraint q) second (listsFrom 2 o 0) ≡ valueAt p (A .at) (s .records) (constraintAt s j)
-    pub count : Accepted o′ → (A : Assignment p) (i : ℕ) → i < length (s .interactions)
-        → sumOf p (A .at) (ofCount i) first (listsFrom 3 o′ 0) ≡ valueAt p (A .at) (s .records) (interactionAt s i .count)
-    pub field : Accepted o′ → (A : Assignment p) (i f : ℕ) → i < length (s .interactions) → f < length (interactionAt s i .message)
-        → sumOf p (A .at) (ofField i f) first (listsFrom 3 o′ 3) ≡ valueAt p (A .at) (s .records) (fieldAt s i f)
+
+  -- The interaction expansion of the graph, against the source.
+  pub record GraphInteractionRule (s : Sheet) (o : Outcome) : Type 0 where
+    pub count : (A : Assignment p) (i : ℕ) → i < length (s .interactions)
+        → sumOf p (A .at) (ofCount i) first (listsFrom 3 o 0) ≡ valueAt p (A .at) (s .records) (interactionAt s i .count)
+    pub field : (A : Assignment p) (i f : ℕ) → i < length (s .interactions) → f < length (interactionAt s i .message)
+        → sumOf p (A .at) (ofField i f) first (listsFrom 3 o 3) ≡ valueAt p (A .at) (s .records) (fieldAt s i f)
 
   -- Demand 3: for the words of any sheet and any lent lengths, each call by itself.
   pub record Demand : Type 0 where
@@ -154,7 +157,9 @@ module _ (p : ℕ) where
     pub interactions : (ws : List ℕ) (work pool h v t h′ v′ t′ : ℕ) → Accepted (interactionCall p ws work pool h v t h′ v′ t′)
         → (s : Sheet) × (check p ws ≡ good s) × InteractionRule s (interactionCall p ws work pool h v t h′ v′ t′)
     -- of the graph's own words, from the same source
-    pub graphLists : (ws : List ℕ) (scratch out : ℕ) (s : Sheet) → Accepted (builderCall p ws scratch out) → check p ws ≡ good s
-        → (work pool h v t work₁ pool₁ h₁ v₁ t₁ h₂ v₂ t₂ : ℕ)
-        → GraphListsRule s (constraintCall p (handedBack 1 (builderCall p ws scratch out) 0) work pool h v t)
-        (interactionCall p (handedBack 1 (builderCall p ws scratch out) 0) work₁ pool₁ h₁ v₁ t₁ h₂ v₂ t₂)
+    pub graphConstraints : (ws : List ℕ) (scratch out : ℕ) (s : Sheet) → Accepted (builderCall p ws scratch out) → check p ws ≡ good s
+        → (work pool h v t : ℕ) → Accepted (constraintCall p (handedBack 1 (builderCall p ws scratch out) 0) work pool h v t)
+        → GraphConstraintRule s (constraintCall p (handedBack 1 (builderCall p ws scratch out) 0) work pool h v t)
+    pub graphInteractions : (ws : List ℕ) (scratch out : ℕ) (s : Sheet) → Accepted (builderCall p ws scratch out) → check p ws ≡ good s
+        → (work pool h v t h′ v′ t′ : ℕ) → Accepted (interactionCall p (handedBack 1 (builderCall p ws scratch out) 0) work pool h v t h′ v′ t′)
+        → GraphInteractionRule s (interactionCall p (handedBack 1 (builderCall p ws scratch out) 0) work pool h v t h′ v′ t′)

@@ -72,7 +72,7 @@ split (t ∷ ts) = push t (split ts)
 unfoldable pub groups : (ℕ → List Monomial) → List Root → List Group
 groups list roots = split (sort later (items list roots))
 
--- "Constraint terms: constraint index, coefficient. Interaction terms: coefficient, interaction, field."
+-- "Constraint terms: constraint index, coefficient. Interaction terms: coefficient, interaction, field (0 in numerators)."
 unfoldable pub constraintTerm : Item → List ℕ
 constraintTerm t = t .index ∷ t .coef ∷ []
 

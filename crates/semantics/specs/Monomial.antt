@@ -68,8 +68,8 @@ module _ (p : ℕ) where
   combine [] = []
   combine (m ∷ ms) = insertMonomial m (combine ms)
 
-  -- "leaf: one monomial, a constant 0 included; Add, Sub: working list is both children's lists, right negated for Sub; Mul: every left
-  -- monomial times every right one; Neg: the child's list negated": of a record, its node, and the children's lists.
+  -- "leaf: one monomial, a constant 0 included"; "Add, Sub: working list is both children's lists, right negated for Sub"; "Mul: every left
+  -- monomial times every right one, variables sorted by number"; "Neg: the child's list negated": of a record, its node, and the children's lists.
   unfoldable pub working : Record → Node → (ℕ → List Monomial) → List Monomial
   working r (leaf x) f = record { vars = packed r ∷ []; coef = 1 } ∷ []
   working r (const k) f = record { vars = []; coef = k } ∷ []

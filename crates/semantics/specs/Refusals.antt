@@ -1,4 +1,4 @@
--- "Every byte string and every lent slice meets a result or a listed refusal": the numbers that each call can send, and how large a header is.
+-- The numbers that each call can send, of those that 01 lists, and how large a header is.
 use mathlib.Core.Path.{_≡_}
 use mathlib.Core.Bool.{true}
 use mathlib.Core.List.{List, [], _∷_, _++_}
@@ -7,7 +7,8 @@ use lib.ListN.{length, getD}
 use Rattle.semantics.specs.Sheet.{Record}
 use Rattle.semantics.specs.Walk.{member}
 use Rattle.semantics.specs.Group.{rows}
-use Rattle.semantics.specs.Call.{Outcome, Accepted, handedBack, blockCheckCall, readerCall, writerCall, checkCall, builderCall, maxRotationCall, numConstraintsCall, conversionCall, packCall, variableCall, unpackCall, constraintCall, interactionCall}
+use Rattle.semantics.specs.Call.{Outcome, Accepted, handedBack}
+use Rattle.semantics.specs.Call.{blockCheckCall, readerCall, writerCall, checkCall, builderCall, maxRotationCall, numConstraintsCall, conversionCall, packCall, variableCall, unpackCall, constraintCall, interactionCall}
 
 -- The number of the reply is 0 or one of these.
 abbrev pub Sends : List ℕ → Outcome → Type 0

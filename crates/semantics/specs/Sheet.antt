@@ -14,7 +14,7 @@ pub record Record : Type 0 where
   pub c : ℕ
   pub d : ℕ
 
--- "bus, count weight, count's record, message length, then that many records"
+-- An interaction: bus, count weight, the count's record, and the message, whose length the words tell.
 pub record Interaction : Type 0 where
   pub bus : ℕ
   pub weight : ℕ
@@ -86,7 +86,7 @@ table =
 unfoldable pub row : ℕ → List ℕ
 row kind = getD table (kind - 1) []
 
--- "An unused word is 0"; "a entry (0 .. 3), b part (0 unless main), c offset (0 for 2 and 3), d column, any word"; "a below p";
+-- "An unused word is 0"; an entry is 0 to 3; "b part (0 unless main), c offset (0 for 2 and 3), d column, any word"; "a below p";
 -- "A child's number is below its record's own." `own` is the record's number, `a` its word a.
 unfoldable pub fits : (p own a how w : ℕ) → Bool
 fits p own a how w =

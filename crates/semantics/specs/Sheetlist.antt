@@ -74,7 +74,7 @@ unfoldable pub headerLines : (letter : ℕ) → (List ℕ → List ℕ) → List
 headerLines letter termLine hs =
     flatMap (λ (h : Listed). line ((letter ∷ []) ∷ map (hexDigits 8) (h .vars)) ++ flatMap termLine (h .terms)) hs
 
--- "A refusal ends the output there with `refused`, the step, number, place"; else what comes next.
+-- "A refusal ends the output there with `refused`, the step .., number, place"; else what comes next.
 unfoldable pub step : (name : List ℕ) → Outcome → List ℕ → List ℕ
 step name o rest =
     cond (eqb (o .reply .number) 0) rest

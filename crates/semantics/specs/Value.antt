@@ -49,7 +49,7 @@ module _ {R X : Type 0} (step : R → (ℕ → X) → X) (d : X) where
   fill done [] = done
   fill done (r ∷ rs) = fill (done ++ (step r (λ i. getD done i d) ∷ [])) rs
 
--- "under A a variable or row mark has A's value, a constant its own; Add, Sub, Mul and Neg act on their children's"
+-- "under A a variable .. or row mark, packed or not, has A's value, a constant its own; Add, Sub, Mul and Neg act on their children's"
 module _ (p : ℕ) (A : Leaf → ℕ) where
   unfoldable pub nodeValue : Node → (ℕ → ℕ) → ℕ
   nodeValue (leaf x) f = A x

@@ -3,7 +3,7 @@ use mathlib.Core.Path.{_≡_, refl, sym, ap, _∙_}
 use mathlib.Core.List.{List, [], _∷_, _++_}
 use Prim.Native.Nat.{ℕ}
 use Rattle.semantics.specs.Answer.{Answer, good, refused, andThen}
-use Rattle.semantics.specs.Call.{Outcome, outcome, result, paddedAll}
+use Rattle.semantics.specs.Call.{Outcome, acceptedWith, refusedWith, outcome, result, paddedAll}
 use Rattle.symbolic_variable.specs.declared.Entry.{Entry}
 use Rattle.symbolic_variable.specs.declared.Entry.the-variants.{Preprocessed, Main, Public, Challenge}
 use Rattle.symbolic_variable.specs.declared.SymbolicVariable.{SymbolicVariable}
@@ -14,9 +14,12 @@ use Rattle.symbolic_variable.specs.declared.Rotated.the-variants as entr
 use Rattle.symbolic_variable.specs.declared.RotatedVariable.{RotatedVariable}
 use Rattle.symbolic_variable.specs.declared.RotatedVariable.the-variants as variable
 use Rattle.symbolic_variable.specs.Variable.{entryWords, offsetMoved, entryRotated, variableOf, variableWords}
-use Rattle.symbolic_variable.specs.Replies.{acceptedOutcome, refusedOutcome, sumAnswer, rotatedOutcome, rotateCall, rotatedVariableOutcome, rotateVariableCall}
+use Rattle.symbolic_variable.specs.Replies.{sumAnswer, rotatedOutcome, rotateCall, rotatedVariableOutcome, rotateVariableCall}
 
 -- ---- entries
+abbrev acceptedOutcome : (numbers : List ℕ) → Outcome
+acceptedOutcome ns = record { reply = acceptedWith [] ns; slices = [] }
+
 abbrev handedBack : Answer Entry → Outcome
 handedBack a = outcome [] [] (andThen a (λ m. result [] (entryWords m)))
 
@@ -31,7 +34,7 @@ stays k {e} {f} is same =
 -- an entry with an offset that is a sum
 abbrev sumOutcome : (ℕ → Entry) → Sum → Outcome
 sumOutcome make (Fits o) = acceptedOutcome (entryWords (make o))
-sumOutcome make TooLarge = refusedOutcome (record { number = 11; place = 0 })
+sumOutcome make TooLarge = record { reply = refusedWith 11 0; slices = [] }
 
 sum-handed : (make : ℕ → Entry) (s : Sum) → sumOutcome make s ≡ handedBack (andThen (sumAnswer s) (λ o. good (make o)))
 unfolding outcome andThen result paddedAll

@@ -9,7 +9,6 @@ use Rattle.semantics.proofs.Acceptance.{Within, then-sent, result-sent}
 use Rattle.semantics.proofs.Refusals.{sends}
 use Rattle.symbolic_variable.specs.declared.Entry.{Entry}
 use Rattle.symbolic_variable.specs.declared.Entry.the-variants.{Preprocessed, Main, Public, Challenge}
-use Rattle.symbolic_variable.specs.declared.SymbolicVariable.{SymbolicVariable}
 use Rattle.symbolic_variable.specs.Variable.{offsetMoved, entryRotated}
 use Rattle.symbolic_variable.specs.Replies.{rotateCall, rotateVariableCall, RotateRefusals}
 

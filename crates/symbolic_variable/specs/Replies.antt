@@ -1,8 +1,8 @@
 -- The calls of this crate, and what their answers stand for (01, "What each call hands back").
-use mathlib.Core.List.{List, [], _∷_}
+use mathlib.Core.List.{[], _∷_}
 use Prim.Native.Nat.{ℕ}
 use Rattle.semantics.specs.Answer.{Answer, good, refused, andThen}
-use Rattle.semantics.specs.Call.{Outcome, acceptedWith, refusedWith, outcome, result}
+use Rattle.semantics.specs.Call.{Reply, Outcome, acceptedWith, refusedWith, outcome, result}
 use Rattle.semantics.specs.Refusals.{Sends}
 use Rattle.symbolic_variable.specs.declared.Refusal.{Refusal}
 use Rattle.symbolic_variable.specs.declared.Entry.{Entry}
@@ -17,30 +17,29 @@ use Rattle.symbolic_variable.specs.declared.Sum.{Sum}
 use Rattle.symbolic_variable.specs.declared.Sum.the-variants.{Fits, TooLarge}
 use Rattle.symbolic_variable.specs.Variable.{entryWords, entryOffset, variableWords, entryRotated, variableRotated}
 
--- Nothing is lent for writing: number 0 with numbers, or "a number and a place".
-abbrev pub acceptedOutcome : (numbers : List ℕ) → Outcome
-acceptedOutcome ns = record { reply = acceptedWith [] ns; slices = [] }
-
-abbrev pub refusedOutcome : Refusal → Outcome
-refusedOutcome r = record { reply = refusedWith (r .number) (r .place); slices = [] }
-
 -- An entry's offset: one number, or none.
+abbrev pub offsetReply : EntryOffset → Reply
+offsetReply (At o) = acceptedWith [] (o ∷ [])
+offsetReply Nowhere = acceptedWith [] []
+
 abbrev pub offsetOutcome : EntryOffset → Outcome
-offsetOutcome (At o) = acceptedOutcome (o ∷ [])
-offsetOutcome Nowhere = acceptedOutcome []
+offsetOutcome r = record { reply = offsetReply r; slices = [] }
 
 unfoldable pub offsetCall : Entry → Outcome
 offsetCall e = outcome [] [] (result [] (entryOffset e))
 
--- The sum of two offsets, or "11: offset above 15" for one that is too large.
+-- The sum of two offsets, or 11, place 0, where it is above 2^64 − 1.
 abbrev pub sumAnswer : Sum → Answer ℕ
 sumAnswer (Fits n) = good n
 sumAnswer TooLarge = refused 11 0
 
 -- An entry that was rotated: its three words.
+abbrev pub rotatedReply : Rotated → Reply
+rotatedReply (entry.To e) = acceptedWith [] (entryWords e)
+rotatedReply (entry.Refused r) = refusedWith (r .number) (r .place)
+
 abbrev pub rotatedOutcome : Rotated → Outcome
-rotatedOutcome (entry.To e) = acceptedOutcome (entryWords e)
-rotatedOutcome (entry.Refused r) = refusedOutcome r
+rotatedOutcome r = record { reply = rotatedReply r; slices = [] }
 
 unfoldable pub rotateCall : Entry → (offset : ℕ) → Outcome
 rotateCall e k = outcome [] [] (andThen (entryRotated e k) (λ m. result [] (entryWords m)))
@@ -51,9 +50,12 @@ refusalOf (entry.To e) = record { number = 0; place = 0 }
 refusalOf (entry.Refused r) = r
 
 -- A variable that was rotated: its entry's three words, then its column.
+abbrev pub rotatedVariableReply : RotatedVariable → Reply
+rotatedVariableReply (variable.To v) = acceptedWith [] (variableWords v)
+rotatedVariableReply (variable.Refused r) = refusedWith (r .number) (r .place)
+
 abbrev pub rotatedVariableOutcome : RotatedVariable → Outcome
-rotatedVariableOutcome (variable.To v) = acceptedOutcome (variableWords v)
-rotatedVariableOutcome (variable.Refused r) = refusedOutcome r
+rotatedVariableOutcome r = record { reply = rotatedVariableReply r; slices = [] }
 
 unfoldable pub rotateVariableCall : SymbolicVariable → (offset : ℕ) → Outcome
 rotateVariableCall v k = outcome [] [] (andThen (variableRotated v k) (λ m. result [] (variableWords m)))

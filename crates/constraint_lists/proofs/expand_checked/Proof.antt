@@ -16,7 +16,6 @@ use Rattle.expand.specs.declared.Expanded.{Expanded}
 use Rattle.expand.specs.declared.Expanded.the-variants.{Used}
 use Rattle.expand.specs.Walking.{Expands}
 use Rattle.grouping.specs.Families.{groupsOf}
-use Rattle.constraint_lists.specs.Lists.{CheckedSheet}
 use Rattle.constraint_lists.proofs.Walked.{constraints-grouping}
 use Rattle.constraint_lists.proofs.Steps.{short-few, work-short, pool-short, constraints-refused, constraints-grouped}
 use Rattle.constraint_lists.proofs.expand_checked.Statement.{statement}
