@@ -1,7 +1,7 @@
 -- The walk of a call: from a pool whose first words are cleared to all that the call's roots reach.
 use mathlib.Core.Path.{_≡_, sym, ap, subst, _∙_}
 use mathlib.Core.List.{List, [], _∷_, _++_, map}
-use Prim.Native.Nat.{ℕ, _+_, _*_, _≤_, _<_}
+use Prim.Native.Nat.{ℕ, _*_, _≤_, _<_}
 use native.Mathlib.Omega.{arith}
 use lib.ListN.{length, getD, replicate, length-append, length-replicate, getD-replicate, List·getD-append}
 use Rattle.semantics.specs.Arithmetic.{prime}

@@ -4,7 +4,6 @@ use mathlib.Core.List.{List}
 use Prim.Native.Nat.{ℕ}
 use lib.ListN.{take}
 use Rattle.semantics.specs.Arithmetic.{prime}
-use Rattle.semantics.specs.Sheet.{Sheet}
 use Rattle.semantics.specs.Call.{Outcome, Accepted, handedBack, builderCall, constraintCall, interactionCall}
 use Rattle.semantics.specs.Demand.{GraphRule, ConstraintRule, InteractionRule, GraphConstraintRule, GraphInteractionRule}
 use Rattle.semantics.proofs.Demands.{demand-prime}
@@ -12,7 +11,7 @@ use Rattle.sheet.specs.declared.Written.{Written}
 use Rattle.sheet.specs.declared.Written.the-variants.{Words, Refused}
 use Rattle.sheet.specs.Replies.{countOf}
 use Rattle.dag.specs.Calls.{builtOutcome}
-use Rattle.demands.specs.Demand.{Built, GraphWords, ConstraintsExpanded, InteractionsExpanded, Demand}
+use Rattle.demands.specs.Demand.{Built, ConstraintsExpanded, InteractionsExpanded, Demand}
 
 -- An answer's number is that of the definition's reply.
 number-is : {o o′ : Outcome} → o ≡ o′ → Accepted o → Accepted o′

@@ -4,18 +4,18 @@ use mathlib.Core.Bool.{Bool, true, false, cond}
 use mathlib.Core.List.{List, [], _∷_, _++_, append-assoc, append-nil}
 use Prim.Native.Nat.{ℕ, zero, suc, _+_, _-_, _≤_, _<_}
 use native.Mathlib.Omega.{arith}
-use native.Mathlib.Nat.{add-zero, zero-add}
+use native.Mathlib.Nat.{zero-add}
 use native.Mathlib.Numerals.{add-one}
 use lib.Dec.{eqb, ltb, leb}
-use lib.ListN.{length, getD, set, take, drop, replicate, length-append, length-take, length-drop, length-replicate, take-append-drop, replicate-append-replicate}
-use lib.Seq.{sets, sets-eq, set-split, take-at, drop-at, drop-drop, drop-append-add}
+use lib.ListN.{length, getD, set, take, drop, replicate, length-append, length-replicate, replicate-append-replicate}
+use lib.Seq.{sets, sets-eq, take-at, drop-at, drop-append-add}
 use borrow.Author.Tests.{eqb-true, eqb-false, ltb-true, ltb-false, lt-ltb, le-ltb}
 use Rattle.semantics.specs.Graph.{setNum}
 use Rattle.semantics.specs.Call.{zeros, padded}
 use Rattle.nodes.specs.Memory.{tabulate}
 use Rattle.nodes.proofs.Marks.{tabulate-length, tabulate-from, tabulate-same, tabulate-set}
 use Rattle.slices.specs.Putting.{put}
-use Rattle.graph_lists.specs.Lists.{flagged, plainWord, plainBelow, chosen, Wanted, flaggedAmong, marksOf}
+use Rattle.graph_lists.specs.Lists.{plainWord, plainBelow, chosen, Wanted, flaggedAmong, marksOf}
 use Rattle.slices.proofs.Puts.{put-none, put-length, put-put, put-one}
 use Rattle.graph_lists.proofs.Flags.{table-of}
 

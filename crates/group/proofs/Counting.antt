@@ -2,27 +2,27 @@
 use mathlib.Core.Path.{_≡_, refl, sym, _∙_, ap, subst}
 use mathlib.Core.Logic.{_⊎_, inl, inr}
 use mathlib.Core.Bool.{Bool, true, false}
-use mathlib.Core.List.{List, [], _∷_, _++_, map, append-assoc, append-nil}
+use mathlib.Core.List.{List, [], _∷_, _++_, map}
 use Prim.Native.Nat.{ℕ, zero, suc, _+_, _*_, _-_, _≤_, _<_}
 use native.Mathlib.Numerals.{add-one}
 use native.Mathlib.Omega.{arith}
-use lib.ListN.{length, getD, take, drop, set, length-map, length-append, length-take, length-drop, length-set}
-use lib.Seq.{sets, sets-eq, take-set-lt, drop-set-lt, getD-set-other, getD-set-same, drop-drop, take-at, drop-at, take-append-le, take-take, length-take-le, getD-drop}
+use lib.ListN.{length, getD, take, drop, set, length-drop, length-set}
+use lib.Seq.{drop-set-lt, getD-set-other, getD-set-same, drop-drop, drop-at, length-take-le, getD-drop}
 use Rattle.semantics.specs.Monomial.{beforeVars}
 use Rattle.semantics.specs.Group.{rows}
 use Rattle.semantics.specs.Call.{zeros}
-use Rattle.semantics.proofs.Sorting.{All, all-append}
+use Rattle.semantics.proofs.Sorting.{All}
 use Rattle.semantics.proofs.Order.{beforeVars-trans, beforeVars-total}
 use Rattle.monomial.specs.declared.vars.Order.{Order}
 use Rattle.monomial.specs.declared.vars.Order.the-variants.{Before, Same, After}
-use Rattle.group.specs.declared.Tallied.the-variants.{Headers, Full}
+use Rattle.group.specs.declared.Tallied.the-variants.{Headers}
 use Rattle.group.specs.declared.Found.the-variants.{There, Missing}
 use Rattle.monomial.specs.Words.{readMonomial}
 use Rattle.monomial.specs.Orders.{chosen, orderOf}
 use Rattle.group.specs.Grouped.{Tally, tally, Ascends, total, none, tallyRow, tallied, RowInside, Rows, Spot, Between, Counted}
 use Rattle.group.proofs.Tallies.{once, again, tally-nil, tally-less, tally-more, tally-same, tally-ascends}
 use Rattle.group.proofs.Places.{all-at, zeros-add, zeros-long}
-use Rattle.group.proofs.Headers.{rows-length, rows-at, word-at, rows-set, rows-insert, tallied-length, tallied-at, vars-at, count-at, inside-at, total-at}
+use Rattle.group.proofs.Headers.{rows-length, rows-at, word-at, rows-set, tallied-length, tallied-at, vars-at, count-at, total-at}
 
 -- What an order says.
 abbrev pub Told : (v w : List ℕ) → Order → Type 0

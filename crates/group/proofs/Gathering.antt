@@ -2,17 +2,15 @@
 use mathlib.Core.Path.{_≡_, refl, sym, _∙_, ap, subst}
 use mathlib.Core.Logic.{_⊎_, inl, inr}
 use mathlib.Core.Bool.{Bool, true, false, cond}
-use mathlib.Core.List.{List, [], _∷_, _++_, map, flatMap}
-use Prim.Native.Nat.{ℕ, zero, suc, _+_, _≤_, _<_}
-use native.Mathlib.Omega.{arith}
-use lib.ListN.{length}
+use mathlib.Core.List.{List, [], _∷_}
+use Prim.Native.Nat.{ℕ}
 use Rattle.semantics.specs.Monomial.{beforeVars, insertSorted, sort}
 use Rattle.semantics.specs.Group.{Item, later, Group, push, split}
 use Rattle.semantics.proofs.Basics.{not-both, cond-true, cond-false}
 use Rattle.semantics.proofs.Order.{beforeVars-irrefl, beforeVars-trans, beforeVars-total, beforeVars-asym}
 use Rattle.semantics.proofs.Sorting.{All, sort-all, insert-by, insert-nil, sort-nil, sort-cons}
 use Rattle.semantics.proofs.Grouping.{later-asym, later-vars}
-use Rattle.group.specs.Grouped.{byOrder, Tally, tally, tallyAll, select}
+use Rattle.group.specs.Grouped.{byOrder}
 
 -- Where one variable list stands, seen from another.
 abbrev pub Side : (v w : List ℕ) → Type 0

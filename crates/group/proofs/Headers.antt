@@ -1,23 +1,14 @@
 -- Rows of four words in the headers: one word changed, one row put in; and the tallies that they are.
 use mathlib.Core.Path.{_≡_, refl, sym, _∙_, ap, subst}
-use mathlib.Core.Logic.{_⊎_, inl, inr}
-use mathlib.Core.Bool.{Bool, true, false}
-use mathlib.Core.List.{List, [], _∷_, _++_, map, append-assoc, append-nil}
+use mathlib.Core.List.{List, [], _∷_, _++_, append-assoc}
 use Prim.Native.Nat.{ℕ, zero, suc, _+_, _*_, _-_, _≤_, _<_}
-use native.Mathlib.Numerals.{add-one}
 use native.Mathlib.Omega.{arith}
-use lib.ListN.{length, getD, take, drop, set, length-map, length-append, length-take, length-drop, length-set}
-use lib.Seq.{sets, sets-eq, take-set-lt, take-set-le, drop-set-lt, drop-set-add, getD-take, getD-drop, getD-set-other, getD-set-same, drop-drop, take-at, drop-at, take-append-le, drop-append-le, take-take, length-take-le, take-add}
-use Rattle.semantics.specs.Monomial.{beforeVars}
+use lib.ListN.{length, getD, take, drop, set, length-map, length-drop}
+use lib.Seq.{sets, take-set-lt, take-set-le, drop-set-lt, drop-set-add, getD-take, getD-drop, drop-drop, take-at, drop-at, length-take-le, take-add}
 use Rattle.semantics.specs.Group.{rows}
-use Rattle.semantics.specs.Call.{zeros}
 use Rattle.semantics.proofs.Lists.{getD-map}
 use Rattle.semantics.proofs.Sorting.{All}
-use Rattle.semantics.proofs.Order.{beforeVars-trans}
-use Rattle.group.specs.Grouped.{Tally, tally, Ascends, total, none, tallyRow, tallied, RowInside, Rows}
-use Rattle.group.proofs.Gathering.{Side, side}
-use Rattle.group.proofs.Tallies.{once, again, tally-nil, tally-less, tally-more, tally-same}
-use Rattle.group.proofs.Places.{all-at}
+use Rattle.group.specs.Grouped.{Tally, total, none, tallyRow, tallied, RowInside, Rows}
 
 pub rows-length : (n : ℕ) (H : List ℕ) → length (rows 4 n H) ≡ n
 unfolding rows

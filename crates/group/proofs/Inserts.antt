@@ -2,19 +2,19 @@
 use mathlib.Core.Path.{_≡_, refl, sym, _∙_, ap, subst}
 use mathlib.Core.Bool.{true}
 use mathlib.Core.List.{List, [], _∷_, _++_, map, append-assoc}
-use Prim.Native.Nat.{ℕ, zero, suc, _+_, _*_, _-_, _≤_, _<_}
+use Prim.Native.Nat.{ℕ, suc, _+_, _*_, _-_, _≤_, _<_}
 use native.Mathlib.Numerals.{add-one}
 use native.Mathlib.Omega.{arith}
 use lib.ListN.{length, getD, take, drop, length-append, length-drop, take-append-drop}
-use lib.Seq.{sets, sets-eq, drop-drop, take-at, drop-at, take-append-le, drop-append-le, take-take, length-take-le, take-add}
+use lib.Seq.{sets, sets-eq, drop-drop, drop-at, take-append-le, drop-append-le, take-take, length-take-le, take-add}
 use Rattle.semantics.specs.Monomial.{beforeVars}
 use Rattle.semantics.specs.Group.{rows}
 use Rattle.semantics.specs.Call.{zeros}
 use Rattle.semantics.proofs.Sorting.{All}
 use Rattle.group.specs.declared.Found.the-variants.{Missing}
-use Rattle.group.specs.declared.Tallied.the-variants.{Headers, Full}
+use Rattle.group.specs.declared.Tallied.the-variants.{Headers}
 use Rattle.group.specs.Grouped.{Tally, tally, tallyAll, tallyRow, tallied, Ascends, RowInside, Rows, Spot, Counted}
-use Rattle.group.specs.Waiting.{Inside, varsAt, Pending, Batch, batched}
+use Rattle.group.specs.Waiting.{Inside, varsAt, Batch, batched}
 use Rattle.group.proofs.Tallies.{once, tally-ascends}
 use Rattle.group.proofs.Headers.{rows-front, rows-insert, tallied-length}
 use Rattle.group.proofs.Counting.{tally-missing, zeros-drop, map-insert, all-insert, tally-once, read-vars}

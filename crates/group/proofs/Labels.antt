@@ -1,16 +1,16 @@
 -- Roots whose labels ascend, and whose lists ascend, give items in a steady order.
 use mathlib.Core.Path.{_≡_, refl, sym, _∙_, ap, subst}
 use mathlib.Core.Logic.{_⊎_, inl, inr}
-use mathlib.Core.Bool.{Bool, true, false, cond}
+use mathlib.Core.Bool.{true, false}
 use mathlib.Core.List.{List, [], _∷_, _++_, map, flatMap}
-use Prim.Native.Nat.{ℕ, zero, suc, _+_, _≤_, _<_}
+use Prim.Native.Nat.{ℕ, zero, suc, _<_}
 use native.Mathlib.Omega.{arith}
 use lib.Dec.{eqb}
 use lib.ListN.{length, getD}
 use Rattle.semantics.specs.Sheet.{Record, Interaction, Sheet}
 use Rattle.semantics.specs.Value.{Node, leaf, const, add, sub, neg, mul, nodeOf, fill}
-use Rattle.semantics.specs.Monomial.{Monomial, before, beforeVars, sort, negMonomial, products, working, finished, recordList, lists, listAt}
-use Rattle.semantics.specs.Group.{Root, labelled, constraintRoots, countRoots, fieldRoots, Item, itemsOf, items, key, later, Group, split, groups}
+use Rattle.semantics.specs.Monomial.{Monomial, before, beforeVars, negMonomial, products, working, finished, recordList, lists, listAt}
+use Rattle.semantics.specs.Group.{Root, labelled, constraintRoots, countRoots, fieldRoots, Item, itemsOf, items, key, later, groups}
 use Rattle.semantics.proofs.Basics.{by-test, not-both}
 use Rattle.semantics.proofs.Order.{lex-head, lex-tail, beforeVars-irrefl}
 use Rattle.semantics.proofs.Sorting.{All, all-append}

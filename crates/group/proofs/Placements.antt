@@ -1,16 +1,15 @@
 -- One term more in the slices, and the items of a list one after another.
 use mathlib.Core.Path.{_≡_, refl, sym, _∙_, ap, subst}
-use mathlib.Core.Logic.{_⊎_, inl, inr}
 use mathlib.Core.Bool.{Bool, true, false, cond, true≢false}
 use mathlib.Core.List.{List, [], _∷_, _++_, map, flatMap, append-assoc, append-nil}
 use Prim.Native.Nat.{ℕ, zero, suc, _+_, _*_, _-_, _≤_, _<_}
 use native.Mathlib.Numerals.{add-one}
 use native.Mathlib.Omega.{arith}
 use lib.Dec.{eqb}
-use lib.ListN.{length, getD, take, drop, set, length-append, length-set}
+use lib.ListN.{length, getD, drop, set, length-append, length-set}
 use lib.Seq.{sets, length-sets, drop-set-lt, getD-set-other, getD-set-same}
 use borrow.Author.Tests.{eq-eqb, ne-eqb}
-use Rattle.semantics.specs.Monomial.{Monomial, beforeVars}
+use Rattle.semantics.specs.Monomial.{Monomial}
 use Rattle.semantics.specs.Group.{Item, itemsOf, constraintTerm, interactionTerm, rows}
 use Rattle.semantics.specs.Call.{zeros, padded}
 use Rattle.semantics.proofs.Basics.{cond-true, cond-false}

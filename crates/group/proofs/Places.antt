@@ -1,19 +1,18 @@
 -- Terms placed one by one: each goes behind those of its group, and in the end every group has its terms.
 use mathlib.Core.Path.{_≡_, refl, sym, _∙_, ap, subst}
-use mathlib.Core.Logic.{_⊎_, inl, inr}
-use mathlib.Core.Bool.{Bool, true, false, cond}
+use mathlib.Core.Logic.{inl, inr}
+use mathlib.Core.Bool.{true}
 use mathlib.Core.List.{List, [], _∷_, _++_, map, flatMap, append-assoc, append-nil}
 use Prim.Native.Nat.{ℕ, zero, suc, _+_, _*_, _-_, _≤_, _<_}
-use native.Mathlib.Numerals.{add-one}
 use native.Mathlib.Omega.{arith}
-use lib.ListN.{length, getD, take, drop, set, replicate, length-append, length-replicate, replicate-append-replicate}
-use lib.Seq.{sets, sets-eq, take-at, drop-at}
+use lib.ListN.{length, getD, set, length-append, length-replicate, replicate-append-replicate}
+use lib.Seq.{sets, sets-eq, drop-at}
 use Rattle.semantics.specs.Monomial.{beforeVars}
-use Rattle.semantics.specs.Group.{Item, Group, terms, variables, headers}
+use Rattle.semantics.specs.Group.{Item, Group, terms}
 use Rattle.semantics.specs.Call.{zeros, padded}
 use Rattle.semantics.proofs.Sorting.{All}
 use Rattle.semantics.proofs.Grouping.{terms-length}
-use Rattle.group.specs.Grouped.{byOrder, Tally, tally, tallyAll, select, Ascends, countOf, total, placed, cursors, Room, none}
+use Rattle.group.specs.Grouped.{byOrder, Tally, select, Ascends, countOf, total, placed, cursors, Room, none}
 use Rattle.group.proofs.Gathering.{Side, side, less-is, more-is, same-is}
 use Rattle.group.proofs.Tallies.{counted, Whole}
 

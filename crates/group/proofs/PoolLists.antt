@@ -1,21 +1,20 @@
 -- The lists of the pool, monomial by monomial: where they stand, and what is counted of them.
 use mathlib.Core.Path.{_≡_, refl, sym, _∙_, ap, subst}
 use mathlib.Core.Bool.{Bool, true, false, cond}
-use mathlib.Core.List.{List, [], _∷_, _++_, map, flatMap, append-assoc, append-nil}
-use Prim.Native.Nat.{ℕ, zero, suc, _+_, _*_, _-_, _≤_, _<_}
-use native.Mathlib.Numerals.{add-one}
+use mathlib.Core.List.{List, [], _∷_, _++_, flatMap, append-nil}
+use Prim.Native.Nat.{ℕ, suc, _+_, _*_, _-_, _≤_, _<_}
 use native.Mathlib.Omega.{arith}
 use lib.Dec.{eqb}
-use lib.ListN.{length, getD, take, drop, length-append, length-take, length-drop}
+use lib.ListN.{length, getD, take, drop, length-take, length-drop}
 use lib.Seq.{getD-drop, getD-take, drop-drop, take-at, drop-at, take-add, length-take-le}
 use borrow.Author.Tests.{eq-eqb, ne-eqb}
 use Rattle.semantics.specs.Monomial.{Monomial}
 use Rattle.semantics.specs.Expand.{listSize}
-use Rattle.semantics.specs.Group.{Root, Item, itemsOf}
+use Rattle.semantics.specs.Group.{Root, itemsOf}
 use Rattle.semantics.proofs.Basics.{by-test, cond-true, cond-false}
 use Rattle.semantics.proofs.Sorting.{All}
 use Rattle.monomial.specs.Words.{monomialWords, listWords, readMonomial, readList, listIn, Fits, Stored}
-use Rattle.group.specs.Grouped.{Tally, tally, tallyAll, nonZero, Standing, listOf, InPool}
+use Rattle.group.specs.Grouped.{Tally, tallyAll, nonZero, Standing, listOf, InPool}
 use Rattle.group.proofs.Tallies.{varsOf, tallyAll-append}
 
 pub read-coef : (P : List ℕ) (at : ℕ) → readMonomial (drop at P) .coef ≡ getD P (at + 1) 0

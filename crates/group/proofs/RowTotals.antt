@@ -1,13 +1,12 @@
 -- Totals over rows: the sum of a column, and running totals written into the rows.
 use mathlib.Core.Path.{_≡_, refl, sym, _∙_, ap, subst}
 use mathlib.Core.List.{List, [], _∷_, _++_, map, append-assoc, append-nil}
-use Prim.Native.Nat.{ℕ, zero, suc, _+_, _*_, _-_, _≤_, _<_}
+use Prim.Native.Nat.{ℕ, _+_, _*_, _≤_, _<_}
 use native.Mathlib.Numerals.{add-one}
 use native.Mathlib.Omega.{arith}
-use lib.ListN.{length, getD, take, drop, set, length-map, length-set, length-drop, drop-of-length-le}
-use lib.Seq.{drop-cons, take-suc-set, drop-set-lt, take-all, append-snoc}
+use lib.ListN.{length, getD, take, drop, set, length-set, drop-of-length-le}
+use lib.Seq.{drop-cons, take-suc-set, drop-set-lt, take-all}
 use Rattle.semantics.specs.Group.{rows}
-use Rattle.semantics.proofs.Lists.{getD-map}
 use Rattle.group.specs.Grouped.{column, sum, totalled}
 use Rattle.group.proofs.Headers.{rows-length, word-at, rows-set}
 

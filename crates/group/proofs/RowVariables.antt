@@ -1,13 +1,13 @@
 -- The variables of the rows, written one row after another.
-use mathlib.Core.Path.{_≡_, refl, sym, _∙_, ap, subst}
-use mathlib.Core.List.{List, [], _∷_, _++_, map, flatMap, append-assoc, append-nil}
-use Prim.Native.Nat.{ℕ, zero, suc, _+_, _*_, _-_, _≤_, _<_}
+use mathlib.Core.Path.{_≡_, refl, sym, _∙_, ap}
+use mathlib.Core.List.{List, [], _∷_, _++_, flatMap, append-assoc, append-nil}
+use Prim.Native.Nat.{ℕ, _+_, _*_, _-_, _≤_, _<_}
 use native.Mathlib.Numerals.{add-one}
 use native.Mathlib.Omega.{arith}
-use lib.ListN.{length, getD, take, drop, length-append, length-take, length-drop, take-append-drop, drop-of-length-le}
+use lib.ListN.{length, getD, take, drop, length-append, length-drop, take-append-drop, drop-of-length-le}
 use lib.Seq.{drop-drop, take-all, take-at, take-suc, drop-append-add, length-take-le}
 use Rattle.group.specs.Grouped.{Tally, tallied, none, Rows, varsIn}
-use Rattle.group.proofs.Headers.{tallied-length, vars-at, inside-at}
+use Rattle.group.proofs.Headers.{vars-at, inside-at}
 
 -- A part of the pool copied into the tail of a slice.
 pub copied-part : (U P Y : List ℕ) (at from count : ℕ) → from + count ≤ length P → at + count ≤ length U

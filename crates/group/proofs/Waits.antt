@@ -16,10 +16,9 @@ use Rattle.monomial.specs.declared.vars.Order.{Order}
 use Rattle.monomial.specs.declared.vars.Order.the-variants.{After}
 use Rattle.monomial.specs.Orders.{orderOf}
 use Rattle.group.specs.declared.Found.the-variants.{There, Missing}
-use Rattle.group.specs.declared.Tallied.the-variants.{Headers}
-use Rattle.group.specs.Grouped.{Tally, tally, tallyAll, tallied, total, none, Ascends, Rows, Spot, Counted}
+use Rattle.group.specs.Grouped.{Tally, tally, tallyAll, tallied, none, Ascends, Rows, Spot}
 use Rattle.group.specs.Waiting.{Inside, varsAt, Pending, Batch, batched, MayFollow}
-use Rattle.group.proofs.Tallies.{once, again, tally-nil, tally-more, tallyAll-tally, tallyAll-append, above-tally}
+use Rattle.group.proofs.Tallies.{once, again, tally-more, tallyAll-tally, tallyAll-append, above-tally}
 use Rattle.group.proofs.Places.{all-at}
 use Rattle.group.proofs.Counting.{Told, order-told, tally-there, tally-missing, count-more, read-vars}
 

@@ -1,8 +1,8 @@
 -- Monomials that wait for a row while a list is counted: where each stands in the pool, and the row that it goes in front of.
 use mathlib.Core.Path.{_≡_}
 use mathlib.Core.Bool.{Bool, true, false}
-use mathlib.Core.List.{List, [], _∷_, _++_, map}
-use Prim.Native.Nat.{ℕ, zero, suc, _+_, _*_, _-_, _≤_, _<_}
+use mathlib.Core.List.{List, map}
+use Prim.Native.Nat.{ℕ, suc, _+_, _-_, _≤_, _<_}
 use lib.ListN.{length, getD, take, drop}
 use Rattle.semantics.specs.Monomial.{beforeVars}
 use Rattle.monomial.specs.Words.{readMonomial, listIn}

@@ -1,7 +1,7 @@
 -- Monomials as words: by value, in the lists of the pool, and in the work list.
 use mathlib.Core.Path.{_≡_}
 use mathlib.Core.Bool.{Bool, true, false}
-use mathlib.Core.List.{List, [], _∷_, _++_, map, flatMap}
+use mathlib.Core.List.{List, [], _∷_, map, flatMap}
 use Prim.Native.Nat.{ℕ, zero, suc, _+_, _*_, _≤_, _<_, max}
 use lib.ListN.{length, getD, take, drop}
 use Rattle.semantics.specs.Arithmetic.{prime}

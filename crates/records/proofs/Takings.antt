@@ -1,7 +1,7 @@
 -- What is taken of an interaction: its count, or its fields.
 use mathlib.Core.Path.{_≡_, refl, sym, ap, subst, _∙_}
 use mathlib.Core.List.{List}
-use Prim.Native.Nat.{ℕ, _+_, _≤_}
+use Prim.Native.Nat.{ℕ}
 use lib.ListN.{length}
 use Rattle.records.specs.declared.Interaction.{Interaction}
 use Rattle.records.specs.Access.{recordsOf, part, messageLength, interactionFrom, countAt, fieldsAt, NamesInside, RootsInside}

@@ -1,15 +1,15 @@
 -- Where the words of a checked sheet stand.
-use mathlib.Core.Path.{_≡_, refl, sym, _∙_, ap, subst}
+use mathlib.Core.Path.{_≡_, refl, sym, _∙_, ap}
 use mathlib.Core.List.{List, [], _∷_, _++_, flatMap, append-assoc}
-use Prim.Native.Nat.{ℕ, zero, suc, _+_, _*_, _-_, _≤_, _<_}
+use Prim.Native.Nat.{ℕ, zero, suc, _+_, _*_, _≤_, _<_}
 use native.Mathlib.Omega.{arith}
 use lib.ListN.{length, getD, drop, replicate, length-append, List·getD-append}
-use lib.Seq.{getD-append-add, drop-at, drop-cons}
+use lib.Seq.{getD-append-add, drop-at}
 use Rattle.semantics.specs.Answer.{good}
-use Rattle.semantics.specs.Sheet.{Record, Interaction, Sheet, recordWords, interactionWords, headWords, encode}
+use Rattle.semantics.specs.Sheet.{Record, Sheet, recordWords, interactionWords, headWords, encode}
 use Rattle.semantics.specs.Check.{check}
 use Rattle.semantics.specs.Value.{noRecord, recordAt}
-use Rattle.semantics.proofs.Encoding.{check-sound, records-length, sheet-length}
+use Rattle.semantics.proofs.Encoding.{check-sound, records-length}
 
 -- Word j of element i, where each element has as many words.
 module _ {X : Type 0} (words : X → List ℕ) (width : ℕ) (wide : (x : X) → length (words x) ≡ width) where

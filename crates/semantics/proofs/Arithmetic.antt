@@ -1,5 +1,5 @@
 -- The ring laws, for any modulus above 1 (where the modulus need not be above 1, for any).
-use mathlib.Core.Path.{_≡_, refl, sym, _∙_, ap}
+use mathlib.Core.Path.{_≡_, sym, _∙_, ap}
 use Prim.Native.Nat.{ℕ, zero, suc, _+_, _*_, _-_, _%_, _/_, _≤_, _<_}
 use native.Mathlib.Omega.{arith}
 use native.Mathlib.Nat.{zero-mod, mod-lt, mod-mod, mod-eq-of-lt, mod-add-mod, add-mod-mod, add-mul-mod-self-right, mul-mod-left, div-add-mod'}

@@ -1,26 +1,24 @@
 -- Wherever an expansion's walk accepts, each reached record's list has the record's value.
 use mathlib.Core.Path.{_≡_, refl, sym, _∙_, ap, subst}
 use mathlib.Core.Logic.{_⊎_, inl, inr}
-use mathlib.Core.Bool.{Bool, true, false, cond, true≢false}
-use mathlib.Core.List.{List, [], _∷_, _++_, map}
-use Prim.Native.Nat.{ℕ, zero, suc, _+_, _≤_, _<_}
-use native.Mathlib.Omega.{arith}
+use mathlib.Core.Bool.{cond}
+use mathlib.Core.List.{List, [], _∷_}
+use Prim.Native.Nat.{ℕ, _<_}
 use native.Mathlib.Nat.{zero-add}
-use lib.Dec.{eqb, leb}
+use lib.Dec.{eqb}
 use lib.ListN.{length, getD}
-use borrow.Author.Tests.{eqb-true, eqb-false}
+use borrow.Author.Tests.{eqb-true}
 use Rattle.semantics.specs.Answer.{Answer, good, refused, andThen}
-use Rattle.semantics.specs.Arithmetic.{addM, subM, mulM, negM}
 use Rattle.semantics.specs.Sheet.{Record, Each, GoodRecord}
 use Rattle.semantics.specs.Packing.{packed, packFault, unpacked}
 use Rattle.semantics.specs.Value.{Leaf, Node, leaf, const, add, sub, neg, mul, leafOf, nodeOf, noRecord, recordAt, fill, nodeValue, valueAt}
-use Rattle.semantics.specs.Walk.{children, childrenAt, member}
-use Rattle.semantics.specs.Monomial.{Monomial, negMonomial, products, combine, working, finished, recordList, lists, listAt}
-use Rattle.semantics.specs.Expand.{workFault, recordFault, listSize, expandRecord, expandAll}
+use Rattle.semantics.specs.Walk.{children, childrenAt}
+use Rattle.semantics.specs.Monomial.{Monomial, working, finished, recordList, lists, listAt}
+use Rattle.semantics.specs.Expand.{recordFault, expandRecord, expandAll}
 use Rattle.semantics.specs.Demand.{productOf}
 use Rattle.semantics.proofs.Basics.{by-test}
 use Rattle.semantics.proofs.Members.{Mem, mem-here, mem-there, mem-cases, not-in}
-use Rattle.semantics.proofs.Arithmetic.{addM-lt, mulM-lt, addM-zero, mulM-one, one-mulM, subM-add}
+use Rattle.semantics.proofs.Arithmetic.{addM-zero, mulM-one, one-mulM, subM-add}
 use Rattle.semantics.proofs.Monomials.{one, val, val-append, val-neg, val-mul}
 use Rattle.semantics.proofs.Combining.{val-combine}
 use Rattle.semantics.proofs.Lists.{each-zero}

@@ -1,17 +1,17 @@
 -- The graph of a sheet inside the limits is again a sheet inside the limits, no longer than its source, with the values of its source.
 use mathlib.Core.Path.{_≡_, refl, sym, _∙_, ap, subst}
 use mathlib.Core.Logic.{_⊎_, inl, inr}
-use mathlib.Core.Bool.{Bool, true, false, cond, true≢false, _&&_}
+use mathlib.Core.Bool.{true, _&&_}
 use mathlib.Core.List.{List, [], _∷_, _++_, map, flatMap}
-use Prim.Native.Nat.{ℕ, zero, suc, _+_, _*_, _≤_, _<_}
+use Prim.Native.Nat.{ℕ, suc, _≤_, _<_}
 use native.Mathlib.Omega.{arith}
-use lib.Dec.{eqb, ltb, leb}
-use lib.ListN.{length, getD, replicate, length-append, length-map, List·getD-map}
+use lib.Dec.{ltb, leb}
+use lib.ListN.{length, getD, replicate, length-append, length-map}
 use borrow.Author.Tests.{ltb-true, ltb-false, leb-true, lt-ltb, le-leb}
-use Rattle.semantics.specs.Sheet.{Record, Interaction, Sheet, recordWords, interactionWords, headWords, encode, lengthOf, names, interactionTests, headTests, passes, Each, GoodRecord, Named, GoodInteraction, Inside}
+use Rattle.semantics.specs.Sheet.{Interaction, Sheet, interactionWords, headWords, lengthOf, names, interactionTests, headTests, passes, Each, Named, GoodInteraction, Inside}
 use Rattle.semantics.specs.Value.{Leaf, valueAt}
-use Rattle.semantics.specs.Walk.{member, order}
-use Rattle.semantics.specs.Graph.{Built, build, graphRoots, built, insertOnce, sortedOnce, renamed, graphOf}
+use Rattle.semantics.specs.Walk.{order}
+use Rattle.semantics.specs.Graph.{graphRoots, built, insertOnce, sortedOnce, renamed, graphOf}
 use Rattle.semantics.specs.Demand.{Assignment, noInteraction, constraintAt, interactionAt, fieldAt}
 use Rattle.semantics.proofs.Basics.{by-test, and-true, true-and}
 use Rattle.semantics.proofs.Members.{Mem, mem-here, mem-there, mem-cases, not-in, mem-left, mem-right, mem-either, mem-getD, Below, cons-below, append-below, flat-mem, flat-below, place-of, mem-map, map-below}

@@ -1,17 +1,17 @@
 -- The graph keeps every value, each node may stand where it stands, and there are no more nodes than records reached.
 use mathlib.Core.Path.{_≡_, refl, sym, _∙_, ap, subst}
 use mathlib.Core.Logic.{_⊎_, inl, inr}
-use mathlib.Core.Bool.{Bool, true, false, cond, true≢false, _&&_}
+use mathlib.Core.Bool.{true}
 use mathlib.Core.List.{List, [], _∷_, _++_}
-use Prim.Native.Nat.{ℕ, zero, suc, _+_, _≤_, _<_}
+use Prim.Native.Nat.{ℕ, suc, _≤_, _<_}
 use native.Mathlib.Omega.{arith}
 use native.Mathlib.Nat.{zero-add}
 use lib.Dec.{eqb, ltb}
 use lib.ListN.{length, getD, length-append}
 use borrow.Author.Tests.{eqb-true, eqb-false, ltb-true, ltb-false}
-use Rattle.semantics.specs.Sheet.{Record, recordOf, Each, GoodRecord}
+use Rattle.semantics.specs.Sheet.{Record, Each, GoodRecord}
 use Rattle.semantics.specs.Value.{Leaf, Node, leaf, const, add, sub, neg, mul, nodeOf, noRecord, recordAt, nodeValue, valueAt}
-use Rattle.semantics.specs.Walk.{children, childrenAt, member}
+use Rattle.semantics.specs.Walk.{children, childrenAt}
 use Rattle.semantics.specs.Graph.{Pick, present, make, equalRecords, find, intern, Built, setNum, nodeFor, pick, takeIn, addRecord, build}
 use Rattle.semantics.proofs.Basics.{by-test, and-true}
 use Rattle.semantics.proofs.Members.{Mem, mem-here, mem-there, mem-cases, not-in}

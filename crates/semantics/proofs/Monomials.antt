@@ -1,17 +1,15 @@
 -- The values of lists of monomials.
-use mathlib.Core.Path.{_≡_, refl, sym, _∙_, ap}
-use mathlib.Core.Bool.{Bool, true, false, cond}
+use mathlib.Core.Path.{_≡_, refl, sym, _∙_}
 use mathlib.Core.List.{List, [], _∷_, _++_, map}
-use Prim.Native.Nat.{ℕ, zero, suc, _+_, _*_, _≤_, _<_}
+use Prim.Native.Nat.{ℕ, _<_}
 use native.Mathlib.Omega.{arith}
-use lib.Dec.{ltb, eqb}
-use Rattle.semantics.specs.Arithmetic.{addM, mulM, negM, subM}
+use Rattle.semantics.specs.Arithmetic.{addM, mulM, negM}
 use Rattle.semantics.specs.Packing.{unpacked}
 use Rattle.semantics.specs.Value.{Leaf, leafOf}
 use Rattle.semantics.specs.Monomial.{Monomial, sort, above, negMonomial, mulMonomial, products}
 use Rattle.semantics.specs.Demand.{productOf}
 use Rattle.semantics.proofs.Sorting.{sort-same}
-use Rattle.semantics.proofs.Arithmetic.{addM-lt, mulM-lt, zero-addM, sums, prods, ring, addM-zero, negM-zero, mulM-zero, zero-mulM, one-mulM}
+use Rattle.semantics.proofs.Arithmetic.{addM-lt, mulM-lt, zero-addM, sums, prods, ring, negM-zero, mulM-zero, zero-mulM, one-mulM}
 
 -- The value of a list, where each variable list has a weight: the product of its variables, or 1 at one list and 0 elsewhere.
 module _ (p : ℕ) (w : List ℕ → ℕ) where

@@ -1,21 +1,21 @@
 -- The order of a sheet's records: its laws over records that look at earlier ones only, and its length.
-use mathlib.Core.Path.{_≡_, refl, sym, _∙_, ap, subst}
+use mathlib.Core.Path.{_≡_, refl, sym, subst}
 use mathlib.Core.Logic.{_⊎_, inl, inr}
-use mathlib.Core.Bool.{Bool, true, false, cond, true≢false}
-use mathlib.Core.List.{List, [], _∷_, _++_}
-use Prim.Native.Nat.{ℕ, zero, suc, _+_, _≤_, _<_}
+use mathlib.Core.Bool.{Bool, true, false, cond}
+use mathlib.Core.List.{List, [], _∷_}
+use Prim.Native.Nat.{ℕ, zero, suc, _≤_, _<_}
 use native.Mathlib.Omega.{arith}
 use lib.Dec.{eqb, ltb}
 use lib.ListN.{length, getD, List·getD-eq-default}
-use borrow.Author.Tests.{eqb-true, eqb-false, eq-eqb, ltb-true, ltb-false}
+use borrow.Author.Tests.{eqb-true, eqb-false, ltb-true, ltb-false}
 use Rattle.semantics.specs.Sheet.{Record, Each}
 use Rattle.semantics.specs.Value.{Node, leaf, const, add, sub, neg, mul, nodeOf, noRecord, recordAt}
-use Rattle.semantics.specs.Walk.{children, childrenAt, member, foldLeft, visit, order, Reaches, itself, through, Distinct}
+use Rattle.semantics.specs.Walk.{children, childrenAt, member, visit, order, Reaches, Distinct}
 use Rattle.semantics.proofs.Basics.{by-test, not-both}
 use Rattle.semantics.proofs.Members.{Mem, mem-here, mem-there, mem-cases, not-in, Below, cons-below}
 use Rattle.semantics.proofs.Lists.{each-zero}
 use Rattle.semantics.proofs.Records.{LowNode, LowRecord}
-use Rattle.semantics.proofs.Walks.{fold-keeps, visit-old, visit-has, fold-has, Closed, visit-closed, fold-reach, visit-reach, closed-reach, reach-le, visit-distinct}
+use Rattle.semantics.proofs.Walks.{fold-keeps, fold-has, Closed, visit-closed, fold-reach, visit-reach, closed-reach, reach-le, visit-distinct}
 
 two-below : (n x y : ℕ) → x < n → y < n → Below n (x ∷ y ∷ [])
 two-below n x y h k = cons-below n x (y ∷ []) h (cons-below n y [] k (λ c m. not-in c m))

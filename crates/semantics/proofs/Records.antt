@@ -1,21 +1,20 @@
 -- What the check of a record tells, and the values of records.
 use mathlib.Core.Path.{_≡_, refl, sym, _∙_, ap, subst}
-use mathlib.Core.Bool.{Bool, true, false, cond, true≢false, _&&_}
+use mathlib.Core.Bool.{Bool, true, false, _&&_}
 use mathlib.Core.List.{List, [], _∷_, _++_, map}
-use Prim.Native.Nat.{ℕ, zero, suc, _+_, _≤_, _<_}
+use Prim.Native.Nat.{ℕ, zero, suc, _≤_, _<_}
 use native.Mathlib.Omega.{arith}
 use native.Mathlib.Nat.{zero-add}
 use lib.Dec.{eqb, ltb, leb}
-use lib.ListN.{length, getD, length-append, List·getD-append, List·getD-eq-default}
+use lib.ListN.{length, getD, List·getD-append, List·getD-eq-default}
 use lib.Seq.{getD-at}
 use borrow.Author.Tests.{eqb-true, eqb-false, ltb-true, ltb-false, leb-true, lt-ltb}
-use Rattle.semantics.specs.Arithmetic.{addM, subM, mulM, negM}
 use Rattle.semantics.specs.Sheet.{Record, recordOf, recordWords, recordTests, row, table, fits, passes, Each, GoodRecord}
 use Rattle.semantics.specs.Value.{Leaf, Node, leaf, const, add, sub, neg, mul, leafOf, nodeOf, noRecord, recordAt, fill, nodeValue, recordValue, values, valueAt}
-use Rattle.semantics.proofs.Basics.{by-test, and-true, true-and, not-both}
+use Rattle.semantics.proofs.Basics.{by-test, and-true, true-and}
 use Rattle.semantics.proofs.Arithmetic.{addM-lt, subM-lt, mulM-lt, negM-lt}
 use Rattle.semantics.proofs.Lists.{each-zero}
-use Rattle.semantics.proofs.Passes.{fill-at, fill-old, fill-length, fill-snoc}
+use Rattle.semantics.proofs.Passes.{fill-at, fill-length, fill-snoc}
 
 -- The children that a node looks at are below n.
 abbrev pub LowNode : ℕ → Node → Type 0

@@ -1,14 +1,11 @@
 -- The rules of the builder: what each gives may stand as a record, and has the value of the record that it is for.
 use mathlib.Core.Path.{_≡_, refl, sym, _∙_, ap, subst}
 use mathlib.Core.Logic.{_⊎_, inl, inr}
-use mathlib.Core.Bool.{Bool, true, false, cond, true≢false, _||_}
-use mathlib.Core.List.{List, [], _∷_, _++_}
-use Prim.Native.Nat.{ℕ, zero, suc, _<_}
-use native.Mathlib.Omega.{arith}
-use lib.Dec.{eqb}
+use mathlib.Core.Bool.{true, true≢false, _||_}
+use Prim.Native.Nat.{ℕ, _<_}
 use borrow.Author.Tests.{eqb-true}
 use Rattle.semantics.specs.Arithmetic.{addM, subM, mulM, negM}
-use Rattle.semantics.specs.Sheet.{Record, recordOf, GoodRecord, row, table}
+use Rattle.semantics.specs.Sheet.{recordOf, GoodRecord, row, table}
 use Rattle.semantics.specs.Value.{Leaf, Node, leaf, const, add, sub, neg, mul, nodeOf, nodeValue}
 use Rattle.semantics.specs.Graph.{Pick, present, make, ifConstants, isConst, ifNeg, addRule, subRule, negRule, mulRule}
 use Rattle.semantics.proofs.Basics.{by-test, or-true}

@@ -3,7 +3,7 @@
 use mathlib.Core.Path.{_≡_}
 use mathlib.Core.Bool.{Bool, cond}
 use mathlib.Core.List.{List, [], _∷_, _++_, map, foldr}
-use Prim.Native.Nat.{ℕ, zero, suc, _+_, _*_, _-_, _/_, max}
+use Prim.Native.Nat.{ℕ, suc, _+_, _*_, _-_, _/_, max}
 use lib.Dec.{eqb, leb}
 use lib.ListN.{length, getD, take, replicate}
 use Rattle.semantics.specs.Answer.{Answer, good, refused, andThen}

@@ -1,9 +1,9 @@
 -- The sheet check (01: "words are read from the front and the first that fails decides").
-use mathlib.Core.Bool.{Bool, true, false, cond, _&&_}
-use mathlib.Core.List.{List, [], _∷_, _++_}
+use mathlib.Core.Bool.{Bool, cond}
+use mathlib.Core.List.{List, [], _∷_}
 use Prim.Native.Nat.{ℕ, zero, suc, _+_, _*_}
-use lib.Dec.{eqb, leb, ltb}
-use lib.ListN.{length, getD, take, drop, replicate}
+use lib.Dec.{eqb}
+use lib.ListN.{getD, take, drop, replicate}
 use Rattle.semantics.specs.Answer.{Answer, good, refused}
 use Rattle.semantics.specs.Sheet.{Record, Interaction, Sheet, recordOf, recordTests, interactionTests, headTests, names}
 

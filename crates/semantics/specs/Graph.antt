@@ -1,9 +1,9 @@
 -- Building the graph (01, "Building the graph").
-use mathlib.Core.Bool.{Bool, true, false, cond, _&&_, _||_}
+use mathlib.Core.Bool.{Bool, false, cond, _&&_, _||_}
 use mathlib.Core.List.{List, [], _∷_, _++_, map, flatMap, foldr}
-use Prim.Native.Nat.{ℕ, zero, suc, max}
+use Prim.Native.Nat.{ℕ, suc, max}
 use lib.Dec.{eqb, ltb}
-use lib.ListN.{length, getD}
+use lib.ListN.{length}
 use Rattle.semantics.specs.Arithmetic.{addM, subM, mulM, negM}
 use Rattle.semantics.specs.Sheet.{Record, Interaction, Sheet, recordOf}
 use Rattle.semantics.specs.Value.{Node, leaf, const, add, sub, neg, mul, nodeOf, recordAt}

@@ -1,5 +1,5 @@
 -- Grouping the monomials of roots by their variables, and the lists as words (01: "Zero coefficients are dropped before grouping ..").
-use mathlib.Core.Bool.{Bool, true, false, cond}
+use mathlib.Core.Bool.{Bool, cond}
 use mathlib.Core.List.{List, [], _∷_, _++_, map, flatMap}
 use Prim.Native.Nat.{ℕ, zero, suc, _+_, _*_, _/_}
 use lib.Dec.{eqb}

@@ -1,12 +1,12 @@
 -- Packed variables (01, "Packing and expanding").
-use mathlib.Core.Bool.{Bool, true, false, cond, _&&_}
-use mathlib.Core.List.{List, [], _∷_, map}
-use Prim.Native.Nat.{ℕ, zero, suc, _+_, _*_, _-_, _/_, _%_}
+use mathlib.Core.Bool.{Bool, false, cond, _&&_}
+use mathlib.Core.List.{List, _∷_, map}
+use Prim.Native.Nat.{ℕ, _+_, _*_, _-_, _/_, _%_}
 use lib.Dec.{eqb, leb, ltb}
 use lib.ListN.{getD}
 use Rattle.semantics.specs.Answer.{Answer, good, refused, andThen}
 use Rattle.semantics.specs.Sheet.{Record, recordOf, recordWords, fits, row}
-use Rattle.semantics.specs.Check.{Scan, reading, scanWords, judged}
+use Rattle.semantics.specs.Check.{reading, scanWords, judged}
 
 -- "bits 0 to 3 type, 4 to 11 part, 12 to 15 offset, 16 to 31 column. Types: 0 preprocessed, 1 main, 3 public, 8 first, 9 last, 10 transition."
 unfoldable pub packed : Record → ℕ

@@ -1,7 +1,7 @@
 -- What a record is, and its value under an assignment (01, "For demand 3").
-use mathlib.Core.Bool.{Bool, true, false, cond}
+use mathlib.Core.Bool.{cond}
 use mathlib.Core.List.{List, [], _∷_, _++_}
-use Prim.Native.Nat.{ℕ, zero, suc}
+use Prim.Native.Nat.{ℕ}
 use lib.Dec.{eqb}
 use lib.ListN.{getD}
 use Rattle.semantics.specs.Arithmetic.{addM, subM, mulM, negM}

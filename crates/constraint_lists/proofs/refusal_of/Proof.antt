@@ -1,23 +1,18 @@
 use mathlib.Core.Path.{sym, ap}
-use Prim.Native.Nat.{_-_}
 use Rattle.constraint_lists.specs.Lists.{refusalOf}
 use borrow.Author.Needs.{needs}
 use Rattle.constraint_lists.proofs.refusal_of.Statement.{statement}
 use Rattle.constraint_lists.proofs.refusal_of.Tie as tie
 
--- src/lib.rt:31:27
 enum-known-walked : tie.Need-enum-known-walked
 enum-known-walked c = search needs
 
--- src/lib.rt:32:30
 enum-told : tie.Need-enum-told
 enum-told c = search needs
 
--- src/lib.rt:27:1
 returns : tie.Need-returns
 returns c = search needs
 
--- src/lib.rt:27:1
 returns-2 : tie.Need-returns-2
 returns-2 c = ap refusalOf (sym (c .enum-told .given .1))
 

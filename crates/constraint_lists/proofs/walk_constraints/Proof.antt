@@ -1,6 +1,6 @@
 use mathlib.Core.Path.{subst}
 use mathlib.Core.List.{List}
-use Prim.Native.Nat.{ℕ, _-_, _*_}
+use Prim.Native.Nat.{ℕ, _*_}
 use native.Mathlib.Omega.{arith}
 use lib.ListN.{length, take, drop, length-take}
 use Rattle.semantics.specs.Walk.{order}
@@ -11,29 +11,23 @@ use borrow.Author.Needs.{needs}
 use Rattle.constraint_lists.proofs.walk_constraints.Statement.{statement}
 use Rattle.constraint_lists.proofs.walk_constraints.Tie as tie
 
--- src/lib.rt:63:17
 mul-heads : tie.Need-mul-heads
 mul-heads c = search needs
 
--- src/lib.rt:64:22
 slice-relend-prefix-zero-all : tie.Need-slice-relend-prefix-zero-all
 slice-relend-prefix-zero-all c = search needs
 
--- src/lib.rt:64:22
 slice-aggregate-zero-all : tie.Need-slice-aggregate-zero-all
 slice-aggregate-zero-all c =
     let a = c .before .before .before .before .args in
     omega (arith, length-take (2 * a .records) (a .pool .now), c .before .before .before .before .pre .2)
 
--- src/lib.rt:64:5
 zero-all-requires : tie.Need-zero-all-requires
 zero-all-requires c κs = search needs
 
--- src/lib.rt:65:9
 constraints-at-requires : tie.Need-constraints-at-requires
 constraints-at-requires c κs = search needs
 
--- src/lib.rt:66:5
 expand-names-requires : tie.Need-expand-names-requires
 expand-names-requires c κs =
     let a = c .before .before .before .before .before .before .before .before .before .before .args in
@@ -45,15 +39,12 @@ expand-names-requires c κs =
       names-there (a .s .now) (a .records) (a .constraints) (p .0 .0) h (c .before .before .constraints-at .result) (c .before .before .constraints-at .ensures),
     )
 
--- src/lib.rt:53:1
 same-length : tie.Need-same-length
 same-length c = search needs
 
--- src/lib.rt:53:1
 same-length-2 : tie.Need-same-length-2
 same-length-2 c = search needs
 
--- src/lib.rt:53:1
 returns : tie.Need-returns
 returns c =
     let a = c .before .before .before .before .before .before .before .before .before .before .before .before .before .before .before .args in

@@ -1,52 +1,41 @@
 use mathlib.Core.Path.{ap, _∙_}
-use Prim.Native.Nat.{ℕ, _-_}
+use Prim.Native.Nat.{ℕ}
 use lib.ListN.{length, replicate}
 use Rattle.expansion.proofs.Replies.{constraint-done}
 use borrow.Author.Needs.{needs}
 use Rattle.expansion.proofs.expand_constraints.Statement.{statement}
 use Rattle.expansion.proofs.expand_constraints.Tie as tie
 
--- src/lib.rt:95:9
 expand-sheet-requires : tie.Need-expand-sheet-requires
 expand-sheet-requires c κs = search needs
 
--- src/lib.rt:96:9
 lengths-of-requires : tie.Need-lengths-of-requires
 lengths-of-requires c κs = search needs
 
--- src/lib.rt:97:5
 zero-all-requires : tie.Need-zero-all-requires
 zero-all-requires c κs = search needs
 
--- src/lib.rt:98:5
 zero-all-requires-2 : tie.Need-zero-all-requires-2
 zero-all-requires-2 c κs = search needs
 
--- src/lib.rt:99:5
 clear-behind-requires : tie.Need-clear-behind-requires
 clear-behind-requires c κs = search needs
 
--- src/lib.rt:85:1
 same-length : tie.Need-same-length
 same-length c = search needs
 
--- src/lib.rt:85:1
 same-length-2 : tie.Need-same-length-2
 same-length-2 c = search needs
 
--- src/lib.rt:85:1
 same-length-3 : tie.Need-same-length-3
 same-length-3 c = search needs
 
--- src/lib.rt:85:1
 same-length-4 : tie.Need-same-length-4
 same-length-4 c = search needs
 
--- src/lib.rt:85:1
 same-length-5 : tie.Need-same-length-5
 same-length-5 c = search needs
 
--- src/lib.rt:85:1
 returns : tie.Need-returns
 returns c =
     let a = c .before .before .before .before .before .before .before .before .before .before .before .before .before .before .before .before .before .before .before .before .before .before .before .before .before .before .before .before .before .before .before .before .before .before .before .before .before .before .before .before .before .args in

@@ -1,68 +1,53 @@
 use mathlib.Core.Path.{ap, _∙_}
-use Prim.Native.Nat.{ℕ, _-_}
+use Prim.Native.Nat.{ℕ}
 use lib.ListN.{length, replicate}
 use Rattle.expansion.proofs.Replies.{interaction-done}
 use borrow.Author.Needs.{needs}
 use Rattle.expansion.proofs.expand_interactions.Statement.{statement}
 use Rattle.expansion.proofs.expand_interactions.Tie as tie
 
--- src/lib.rt:218:9
 expand-sheet-interactions-requires : tie.Need-expand-sheet-interactions-requires
 expand-sheet-interactions-requires c κs = search needs
 
--- src/lib.rt:229:9
 both-lengths-requires : tie.Need-both-lengths-requires
 both-lengths-requires c κs = search needs
 
--- src/lib.rt:230:5
 zero-all-requires : tie.Need-zero-all-requires
 zero-all-requires c κs = search needs
 
--- src/lib.rt:231:5
 zero-all-requires-2 : tie.Need-zero-all-requires-2
 zero-all-requires-2 c κs = search needs
 
--- src/lib.rt:232:5
 clear-behind-requires : tie.Need-clear-behind-requires
 clear-behind-requires c κs = search needs
 
--- src/lib.rt:233:5
 clear-behind-requires-2 : tie.Need-clear-behind-requires-2
 clear-behind-requires-2 c κs = search needs
 
--- src/lib.rt:205:1
 same-length : tie.Need-same-length
 same-length c = c .before .before .before .before .before .before .before .before .before .before .before .before .before .before .before .before .before .before .before .before .before .before .before .before .before .before .zero-all .kept .0 ∙ c .before .before .before .before .before .before .before .before .before .before .before .before .before .before .before .before .before .before .before .before .before .before .before .before .before .before .before .before .before .before .before .before .before .before .before .before .before .before .before .before .before .before .before .before .before .expand-sheet-interactions .kept .1 .0
 
--- src/lib.rt:205:1
 same-length-2 : tie.Need-same-length-2
 same-length-2 c = c .before .before .before .before .before .before .before .before .before .before .before .before .before .before .before .before .before .before .before .before .before .before .zero-all2 .kept .0 ∙ c .before .before .before .before .before .before .before .before .before .before .before .before .before .before .before .before .before .before .before .before .before .before .before .before .before .before .before .before .before .before .before .before .before .before .before .before .before .before .before .before .before .before .before .before .before .expand-sheet-interactions .kept .1 .1 .0
 
--- src/lib.rt:205:1
 same-length-3 : tie.Need-same-length-3
 same-length-3 c = c .before .before .before .before .before .before .before .before .before .before .before .before .before .before .before .before .clear-behind .kept .0 ∙ c .before .before .before .before .before .before .before .before .before .before .before .before .before .before .before .before .before .before .before .before .before .before .before .before .before .before .before .before .before .before .before .before .before .before .before .before .before .before .before .before .before .before .before .before .before .expand-sheet-interactions .kept .1 .1 .1 .0
 
--- src/lib.rt:205:1
 same-length-4 : tie.Need-same-length-4
 same-length-4 c = c .before .before .before .before .before .before .before .before .before .before .before .before .before .before .before .before .clear-behind .kept .1 .0 ∙ c .before .before .before .before .before .before .before .before .before .before .before .before .before .before .before .before .before .before .before .before .before .before .before .before .before .before .before .before .before .before .before .before .before .before .before .before .before .before .before .before .before .before .before .before .before .expand-sheet-interactions .kept .1 .1 .1 .1 .0
 
--- src/lib.rt:205:1
 same-length-5 : tie.Need-same-length-5
 same-length-5 c = c .before .before .before .before .before .before .before .before .before .before .before .before .before .before .before .before .clear-behind .kept .1 .1 .0 ∙ c .before .before .before .before .before .before .before .before .before .before .before .before .before .before .before .before .before .before .before .before .before .before .before .before .before .before .before .before .before .before .before .before .before .before .before .before .before .before .before .before .before .before .before .before .before .expand-sheet-interactions .kept .1 .1 .1 .1 .1 .0
 
--- src/lib.rt:205:1
 same-length-6 : tie.Need-same-length-6
 same-length-6 c = search needs
 
--- src/lib.rt:205:1
 same-length-7 : tie.Need-same-length-7
 same-length-7 c = search needs
 
--- src/lib.rt:205:1
 same-length-8 : tie.Need-same-length-8
 same-length-8 c = search needs
 
--- src/lib.rt:205:1
 returns : tie.Need-returns
 returns c =
     let a = c .before .before .before .before .before .before .before .before .before .before .before .before .before .before .before .before .before .before .before .before .before .before .before .before .before .before .before .before .before .before .before .before .before .before .before .before .before .before .before .before .before .before .before .before .before .before .before .before .before .before .before .before .before .before .before .before .before .before .before .before .before .before .before .args in

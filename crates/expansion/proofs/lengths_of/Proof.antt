@@ -1,23 +1,18 @@
 use mathlib.Core.Path.{sym, ap}
-use Prim.Native.Nat.{_-_}
 use Rattle.expansion.specs.Answers.{lengthsOf}
 use borrow.Author.Needs.{needs}
 use Rattle.expansion.proofs.lengths_of.Statement.{statement}
 use Rattle.expansion.proofs.lengths_of.Tie as tie
 
--- src/calls.rt:76:34
 enum-known-lists : tie.Need-enum-known-lists
 enum-known-lists c = search needs
 
--- src/calls.rt:77:40
 enum-told : tie.Need-enum-told
 enum-told c = search needs
 
--- src/calls.rt:72:1
 returns : tie.Need-returns
 returns c = search needs
 
--- src/calls.rt:72:1
 returns-2 : tie.Need-returns-2
 returns-2 c = ap lengthsOf (sym (c .enum-told .given .1))
 

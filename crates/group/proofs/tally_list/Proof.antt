@@ -1,18 +1,12 @@
-use mathlib.Core.Path.{_≡_, refl, sym, ap, subst, _∙_}
-use mathlib.Core.List.{List, [], _∷_}
-use Prim.Native.Nat.{ℕ, _+_, _*_, _-_, _≤_, _<_}
+use mathlib.Core.Path.{refl, subst, _∙_}
+use Prim.Native.Nat.{_+_, _-_, _≤_}
 use native.Mathlib.Omega.{arith}
 use borrow.Author.Needs.{needs}
-use lib.ListN.{length, getD, drop}
 use Rattle.group.specs.Grouped.{Counted}
 use Rattle.group.specs.Waiting.{batched}
 use Rattle.group.proofs.Runs.{Tallying, tallying-start, tallying-step, tallying-full, tallying-done}
 use Rattle.group.proofs.tally_list.Statement.{statement}
 use Rattle.group.proofs.tally_list.Tie as tie
-use Rattle.group.proofs.tally_list.Reads as reads
-use Rattle.group.proofs.tally_list.Lts as lts
-use Rattle.group.proofs.pending.insert_pending.Reads as insert-pending-reads
-use Rattle.group.proofs.pending.tally_run.Reads as tally-run-reads
 
 abbrev Inv-loop : tie.InvT-loop
 Inv-loop headers₀ n pool at count rows₀ place₀ i₀ headers rows place i = Tallying headers₀ n pool at count headers rows place i
@@ -20,57 +14,45 @@ Inv-loop headers₀ n pool at count rows₀ place₀ i₀ headers rows place i =
 abbrev μ-loop : tie.MeasureT-loop
 μ-loop headers₀ n pool at count rows₀ place₀ i₀ headers rows place i = count - i
 
--- src/lib.rt:48:5
 loop-holds : tie.Need-loop-holds Inv-loop μ-loop
 loop-holds c =
     let a = c .before .before .args in
     let p = c .before .before .pre in
     tallying-start (a .headers .now) (a .n) (a .pool .now) (a .at) (a .count) (p .0) (p .1) (p .2)
 
--- src/lib.rt:56:13
 sub-tally-run : tie.Need-sub-tally-run Inv-loop μ-loop
 sub-tally-run c = search needs
 
--- src/lib.rt:57:13
 slice-aggregate-tally-run : tie.Need-slice-aggregate-tally-run Inv-loop μ-loop
 slice-aggregate-tally-run c = search needs
 
--- src/lib.rt:58:13
 slice-aggregate-tally-run-2 : tie.Need-slice-aggregate-tally-run-2 Inv-loop μ-loop
 slice-aggregate-tally-run-2 c = search needs
 
--- src/lib.rt:51:13
 tally-run-requires : tie.Need-tally-run-requires Inv-loop μ-loop
 tally-run-requires c κs =
     let b = c .before .before .before .before .loop in
     let t = c .before .before .before .loop-test .taken in
     (b .inv .rows-are, b .inv .standing, b .inv .small, omega arith, refl)
 
--- src/lib.rt:60:65
 slice-aggregate-insert-pending : tie.Need-slice-aggregate-insert-pending Inv-loop μ-loop
 slice-aggregate-insert-pending c = search needs
 
--- src/lib.rt:60:74
 slice-aggregate-insert-pending-2 : tie.Need-slice-aggregate-insert-pending-2 Inv-loop μ-loop
 slice-aggregate-insert-pending-2 c = search needs
 
--- src/lib.rt:60:13
 insert-pending-requires : tie.Need-insert-pending-requires Inv-loop μ-loop
 insert-pending-requires c κs = c .before .before .before .before .before .before .before .tally-run .ensures .batch
 
--- src/lib.rt:61:30
 enum-known-next : tie.Need-enum-known-next Inv-loop μ-loop
 enum-known-next c = search needs
 
--- src/lib.rt:62:13
 enum-told : tie.Need-enum-told Inv-loop μ-loop
 enum-told c = search needs
 
--- src/lib.rt:62:13
 same-length : tie.Need-same-length Inv-loop μ-loop
 same-length c = c .before .before .before .before .insert-pending .kept .0 ∙ c .before .before .before .before .before .before .before .before .before .before .before .before .tally-run .kept .0 ∙ c .before .before .before .before .before .before .before .before .before .before .before .before .before .before .before .before .before .loop .inv .long
 
--- src/lib.rt:62:13
 returns : tie.Need-returns Inv-loop μ-loop
 returns c =
     let a = c .before .before .before .before .before .before .before .before .before .before .before .before .before .before .before .before .before .before .before .before .args in
@@ -81,7 +63,6 @@ returns c =
     let gs = batched (b .rows) (u .result .pending) (u .last .0) P (u .last .1 .1 .1 .1 .1 .0) in
     tallying-full (b .inv) (u .ensures) (v .last .0) (subst (Counted (v .last .0) P gs) (c .enum-told .given .1) (v .ensures))
 
--- src/lib.rt:66:9
 add-i : tie.Need-add-i Inv-loop μ-loop
 add-i c =
     let a = c .before .before .before .before .before .before .before .before .before .before .before .before .before .before .before .before .before .before .before .before .before .before .args in
@@ -96,7 +77,6 @@ add-i c =
     let q = c .before .before .before .before .before .before .before .before .before .before .before .before .before .before .before .before .before .before .before .before .before .before .pre .2 in
     search needs
 
--- src/lib.rt:48:5
 loop-less : tie.Need-loop-less Inv-loop μ-loop
 loop-less c =
     let a = c .before .before .before .before .before .before .before .before .before .before .before .before .before .before .before .before .before .before .before .before .before .before .args in
@@ -109,7 +89,6 @@ loop-less c =
     let s = u .ensures .upto in
     search needs
 
--- src/lib.rt:48:5
 loop-again : tie.Need-loop-again Inv-loop μ-loop
 loop-again c =
     let a = c .before .before .before .before .before .before .before .before .before .before .before .before .before .before .before .before .before .before .before .before .before .before .args in
@@ -121,11 +100,9 @@ loop-again c =
     let n = c .before .before .next .given in
     tallying-step (b .inv) (u .ensures) (v .last .0) (n .0 .0) (v .kept .0 ∙ u .kept .0) (subst (Counted (v .last .0) P gs) (n .1) (v .ensures))
 
--- src/lib.rt:41:1
 same-length-2 : tie.Need-same-length-2 Inv-loop μ-loop
 same-length-2 c = c .before .loop .inv .long
 
--- src/lib.rt:41:1
 returns-2 : tie.Need-returns-2 Inv-loop μ-loop
 returns-2 c = tallying-done (c .before .loop .inv) (c .loop-test .left)
 

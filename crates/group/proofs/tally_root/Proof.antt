@@ -1,57 +1,41 @@
-use mathlib.Core.Path.{_≡_, refl, sym, ap, subst, _∙_}
-use mathlib.Core.Bool.{Bool, true, false, cond}
-use mathlib.Core.List.{List, [], _∷_, _++_, map}
-use Prim.Native.Nat.{ℕ, zero, suc, _+_, _*_, _-_, _≤_, _<_}
+use mathlib.Core.Path.{sym, subst}
+use Prim.Native.Nat.{ℕ, _+_, _*_}
 use native.Mathlib.Omega.{arith}
-use lib.ListN.{length, getD, take, drop, set, length-set}
+use lib.ListN.{getD}
 use Rattle.monomial.specs.Words.{listIn}
 use Rattle.group.specs.Grouped.{tallied, tallyAll, nonZero, Counted, Standing}
 use Rattle.group.proofs.PoolLists.{stands}
 use borrow.Author.Needs.{needs}
 use Rattle.group.proofs.tally_root.Statement.{statement}
 use Rattle.group.proofs.tally_root.Tie as tie
-use Rattle.group.proofs.tally_root.Reads as reads
-use Rattle.group.proofs.tally_root.Lts as lts
-use Rattle.group.proofs.tally_list.Reads as tally-list-reads
-use Rattle.group.proofs.wide.Reads as wide-reads
 
--- src/group.rt:154:24
 mul-wide : tie.Need-mul-wide
 mul-wide c = search needs
 
--- src/group.rt:154:19
 mul-wide-2 : tie.Need-mul-wide-2
 mul-wide-2 c = search needs
 
--- src/group.rt:154:19
 shared-slice-read-wide : tie.Need-shared-slice-read-wide
 shared-slice-read-wide c = search needs
 
--- src/group.rt:154:9
 wide-requires : tie.Need-wide-requires
 wide-requires c κs = search needs
 
--- src/group.rt:155:27
 mul-wide-3 : tie.Need-mul-wide-3
 mul-wide-3 c = search needs
 
--- src/group.rt:155:27
 add-wide : tie.Need-add-wide
 add-wide c = search needs
 
--- src/group.rt:155:22
 mul-wide-4 : tie.Need-mul-wide-4
 mul-wide-4 c = search needs
 
--- src/group.rt:155:22
 shared-slice-read-wide-2 : tie.Need-shared-slice-read-wide-2
 shared-slice-read-wide-2 c = search needs
 
--- src/group.rt:155:9
 wide-requires-2 : tie.Need-wide-requires-2
 wide-requires-2 c κs = search needs
 
--- src/group.rt:156:5
 tally-list-requires : tie.Need-tally-list-requires
 tally-list-requires c κs =
     let a = c .before .before .before .before .before .before .before .args in
@@ -62,11 +46,9 @@ tally-list-requires c κs =
     let e = p .1 .stored .count-is in
     (p .0, subst (λ (i : ℕ). Standing (c .before .wide2 .result) P i) (sym x) (subst (λ (i : ℕ). Standing i P (getD P (2 * a .node) 0)) (sym y) (stands P (a .node) (p .1))), omega (arith, p .2))
 
--- src/group.rt:150:1
 same-length : tie.Need-same-length
 same-length c = search needs
 
--- src/group.rt:150:1
 returns : tie.Need-returns
 returns c =
     let a = c .before .before .before .before .before .before .before .before .before .before .args in

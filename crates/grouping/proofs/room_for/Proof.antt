@@ -1,6 +1,6 @@
 use mathlib.Core.Path.{refl, ap, subst}
 use mathlib.Core.Logic.{inl, inr}
-use Prim.Native.Nat.{ℕ, _*_, _-_, _≤_, _<_}
+use Prim.Native.Nat.{ℕ, _*_, _≤_, _<_}
 use native.Mathlib.Omega.{arith}
 use borrow.Author.Needs.{needs}
 use Rattle.grouping.proofs.Finished.{width-small}

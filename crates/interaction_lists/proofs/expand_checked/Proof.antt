@@ -1,6 +1,6 @@
 use mathlib.Core.Path.{ap, subst, _∙_}
 use mathlib.Core.List.{[], _∷_, _++_}
-use Prim.Native.Nat.{ℕ, _-_, _*_, _+_}
+use Prim.Native.Nat.{ℕ, _*_}
 use native.Mathlib.Omega.{arith}
 use lib.ListN.{length}
 use Rattle.semantics.specs.Arithmetic.{prime}
@@ -19,58 +19,47 @@ use borrow.Author.Needs.{needs}
 use Rattle.interaction_lists.proofs.expand_checked.Statement.{statement}
 use Rattle.interaction_lists.proofs.expand_checked.Tie as tie
 
--- src/lib.rt:291:9
 returns : tie.Need-returns
 returns c =
     let a = c .before .before .before .before .before .before .before .before .before .before .args in
     (work-short (length (a .work .now)) (length (a .pool .now)) (length (a .headers .now) ∷ length (a .variables .now) ∷ length (a .terms .now) ∷ length (a .denom-headers .now) ∷ length (a .denom-variables .now) ∷ length (a .denom-terms .now) ∷ []) (λ s. countRoots s ++ fieldRoots s) (interactionOutputs prime) (λ s. length (s .interactions) ∷ maxFieldsLen s ∷ []) (readSheet (a .s .now)) (c .if1 .taken), tt)
 
--- src/lib.rt:296:21
 mul-if2 : tie.Need-mul-if2
 mul-if2 c =
     let a = c .before .before .before .before .before .before .before .before .before .before .args in
     let h = c .before .before .before .before .before .before .before .before .before .before .pre in
     omega (arith, h .records-are, counts-small (a .s .now) (h .checked) .0)
 
--- src/lib.rt:299:20
 mul-t19 : tie.Need-mul-t19
 mul-t19 c =
     let a = c .before .before .before .before .before .before .before .before .before .before .before .args in
     let h = c .before .before .before .before .before .before .before .before .before .before .before .pre in
     omega (arith, h .records-are, counts-small (a .s .now) (h .checked) .0)
 
--- src/lib.rt:297:9
 returns-2 : tie.Need-returns-2
 returns-2 c =
     let a = c .before .before .before .before .before .before .before .before .before .before .before .args in
     let h = c .before .before .before .before .before .before .before .before .before .before .before .pre in
     (pool-short (length (a .work .now)) (length (a .pool .now)) (length (a .headers .now) ∷ length (a .variables .now) ∷ length (a .terms .now) ∷ length (a .denom-headers .now) ∷ length (a .denom-variables .now) ∷ length (a .denom-terms .now) ∷ []) (λ s. countRoots s ++ fieldRoots s) (interactionOutputs prime) (λ s. length (s .interactions) ∷ maxFieldsLen s ∷ []) (readSheet (a .s .now)) (c .before .if1 .left) (2 * a .records) (ap (λ (n : ℕ). 2 * n) (h .records-are)) (c .if2 .taken), tt)
 
--- src/lib.rt:302:9
 walk-interactions-requires : tie.Need-walk-interactions-requires
 walk-interactions-requires c κs = search needs
 
--- src/lib.rt:303:24
 enum-known-walked : tie.Need-enum-known-walked
 enum-known-walked c = search needs
 
--- src/lib.rt:304:42
 enum-told : tie.Need-enum-told
 enum-told c = search needs
 
--- src/lib.rt:304:42
 refusal-of-requires : tie.Need-refusal-of-requires
 refusal-of-requires c κs = search needs
 
--- src/lib.rt:304:9
 same-length : tie.Need-same-length
 same-length c = search needs
 
--- src/lib.rt:304:9
 same-length-2 : tie.Need-same-length-2
 same-length-2 c = search needs
 
--- src/lib.rt:304:9
 returns-3 : tie.Need-returns-3
 returns-3 c =
     let a = c .before .before .before .before .before .before .before .before .before .before .before .before .before .before .before .before .before .before .before .before .before .args in
@@ -82,7 +71,6 @@ returns-3 c =
       tt,
     )
 
--- src/lib.rt:306:5
 group-interactions-requires : tie.Need-group-interactions-requires
 group-interactions-requires c κs =
     let a = c .before .before .before .before .before .before .before .before .before .before .before .before .before .before .before .before .before .before .before .before .before .before .before .before .before .before .before .before .args in
@@ -94,39 +82,30 @@ group-interactions-requires c κs =
       h .interactions-are,
     )
 
--- src/lib.rt:273:1
 same-length-3 : tie.Need-same-length-3
 same-length-3 c = search needs
 
--- src/lib.rt:273:1
 same-length-4 : tie.Need-same-length-4
 same-length-4 c = search needs
 
--- src/lib.rt:273:1
 same-length-5 : tie.Need-same-length-5
 same-length-5 c = search needs
 
--- src/lib.rt:273:1
 same-length-6 : tie.Need-same-length-6
 same-length-6 c = search needs
 
--- src/lib.rt:273:1
 same-length-7 : tie.Need-same-length-7
 same-length-7 c = search needs
 
--- src/lib.rt:273:1
 same-length-8 : tie.Need-same-length-8
 same-length-8 c = search needs
 
--- src/lib.rt:273:1
 same-length-9 : tie.Need-same-length-9
 same-length-9 c = search needs
 
--- src/lib.rt:273:1
 same-length-10 : tie.Need-same-length-10
 same-length-10 c = search needs
 
--- src/lib.rt:273:1
 returns-4 : tie.Need-returns-4
 returns-4 c =
     let a = c .before .before .before .before .before .before .before .before .before .before .before .before .before .before .before .before .before .before .before .before .before .before .before .before .before .before .before .before .before .before .before .before .before .before .before .before .before .before .before .before .before .args in

@@ -1,6 +1,6 @@
 use borrow.Author.Needs.{needs}
 use mathlib.Core.Path.{ap, _∙_}
-use Prim.Native.Nat.{ℕ, _-_, max}
+use Prim.Native.Nat.{_-_, max}
 use lib.ListN.{length}
 use Rattle.records.specs.Access.{recordsOf}
 use Rattle.records.specs.declared.Interaction.{Interaction}

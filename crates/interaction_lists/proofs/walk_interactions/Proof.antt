@@ -1,6 +1,6 @@
 use mathlib.Core.Path.{subst}
 use mathlib.Core.List.{List, _++_}
-use Prim.Native.Nat.{ℕ, _-_, _*_, _+_}
+use Prim.Native.Nat.{ℕ, _*_}
 use native.Mathlib.Omega.{arith}
 use lib.ListN.{length, take, drop, length-take}
 use Rattle.semantics.specs.Check.{readSheet}
@@ -13,29 +13,23 @@ use borrow.Author.Needs.{needs}
 use Rattle.interaction_lists.proofs.walk_interactions.Statement.{statement}
 use Rattle.interaction_lists.proofs.walk_interactions.Tie as tie
 
--- src/lib.rt:186:17
 mul-heads : tie.Need-mul-heads
 mul-heads c = search needs
 
--- src/lib.rt:187:22
 slice-relend-prefix-zero-all : tie.Need-slice-relend-prefix-zero-all
 slice-relend-prefix-zero-all c = search needs
 
--- src/lib.rt:187:22
 slice-aggregate-zero-all : tie.Need-slice-aggregate-zero-all
 slice-aggregate-zero-all c =
     let a = c .before .before .before .before .args in
     omega (arith, length-take (2 * a .records) (a .pool .now), c .before .before .before .before .pre .2)
 
--- src/lib.rt:187:5
 zero-all-requires : tie.Need-zero-all-requires
 zero-all-requires c κs = search needs
 
--- src/lib.rt:188:9
 interactions-at-requires : tie.Need-interactions-at-requires
 interactions-at-requires c κs = search needs
 
--- src/lib.rt:189:9
 expand-counts-requires : tie.Need-expand-counts-requires
 expand-counts-requires c κs =
     let a = c .before .before .before .before .before .before .before .before .before .before .args in
@@ -48,23 +42,18 @@ expand-counts-requires c κs =
       interactions-there (a .s .now) (h .checked) (at .result) (a .interactions) (at .ensures) (h .interactions-are),
     )
 
--- src/lib.rt:190:24
 enum-known-counted : tie.Need-enum-known-counted
 enum-known-counted c = search needs
 
--- src/lib.rt:191:9
 enum-told : tie.Need-enum-told
 enum-told c = search needs
 
--- src/lib.rt:191:9
 same-length : tie.Need-same-length
 same-length c = search needs
 
--- src/lib.rt:191:9
 same-length-2 : tie.Need-same-length-2
 same-length-2 c = search needs
 
--- src/lib.rt:191:9
 returns : tie.Need-returns
 returns c =
     let a = c .before .before .before .before .before .before .before .before .before .before .before .before .before .before .before .before .before .args in
@@ -78,7 +67,6 @@ returns c =
     (first-refused (a .s .now) (h .checked) (a .work .now) (z .last .0 ++ drop (2 * a .records) (a .pool .now)) (2 * a .records) (walk-starts (a .s .now) (a .records) (h .records-are) (z .last .0) (drop (2 * a .records) (a .pool .now)) (length (take (2 * a .records) (a .pool .now))) (z .ensures)
     (omega (arith, length-take (2 * a .records) (a .pool .now), p .2)) (h .checked) (a .work .now) (p .1)) (counts (readSheet (a .s .now) .interactions)) (fields (readSheet (a .s .now) .interactions)) (counts-below (a .s .now) (h .checked)) (x .last .1 .1 .1 .0) (x .last .1 .1 .1 .1 .0) (x .result) (subst (λ (l : List ℕ). Visiting (a .s .now) l (λ (d : List ℕ). Holds (a .s .now) d (z .last .0 ++ drop (2 * a .records) (a .pool .now)) (2 * a .records)) (Expands (a .s .now) (x .last .1 .1 .1 .1 .0) (x .result))) (counts-there (a .s .now) (h .checked) (at .result) (a .interactions) (at .ensures) (h .interactions-are)) (x .ensures)) (c .enum-told .given .0 .0) (c .enum-told .given .1))
 
--- src/lib.rt:193:5
 expand-fields-requires : tie.Need-expand-fields-requires
 expand-fields-requires c κs =
     let a = c .before .before .before .before .before .before .before .before .before .before .before .before .before .before .before .before .before .before .before .before .args in
@@ -92,15 +80,12 @@ expand-fields-requires c κs =
       interactions-there (a .s .now) (h .checked) (at .result) (a .interactions) (at .ensures) (h .interactions-are),
     )
 
--- src/lib.rt:176:1
 same-length-3 : tie.Need-same-length-3
 same-length-3 c = search needs
 
--- src/lib.rt:176:1
 same-length-4 : tie.Need-same-length-4
 same-length-4 c = search needs
 
--- src/lib.rt:176:1
 returns-2 : tie.Need-returns-2
 returns-2 c =
     let a = c .before .before .before .before .before .before .before .before .before .before .before .before .before .before .before .before .before .before .before .before .before .before .before .before .before .args in

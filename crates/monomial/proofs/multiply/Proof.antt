@@ -3,22 +3,16 @@ use borrow.Author.Needs.{needs}
 use Rattle.semantics.specs.Monomial.{mulMonomial}
 use Rattle.monomial.proofs.multiply.Statement.{statement}
 use Rattle.monomial.proofs.multiply.Tie as tie
-use Rattle.monomial.proofs.multiply.Reads as reads
-use Rattle.monomial.proofs.multiply.Lts as lts
 
--- src/lib.rt:50:9
 merge-vars-requires : tie.Need-merge-vars-requires
 merge-vars-requires c κs = search needs
 
--- src/lib.rt:53:16
 add-t6 : tie.Need-add-t6
 add-t6 c = search needs
 
--- src/lib.rt:54:15
 mul-requires : tie.Need-mul-requires
 mul-requires c κs = search needs
 
--- src/lib.rt:44:1
 returns : tie.Need-returns
 unfolding mulMonomial
 returns c = (λ t. record { vars = c .before .before .before .merge-vars .ensures t; coef = c .mul .ensures t }, refl)

@@ -4,14 +4,10 @@ use Rattle.semantics.specs.Monomial.{negMonomial}
 use Rattle.monomial.specs.Words.{monomialOf}
 use Rattle.monomial.proofs.negative.Statement.{statement}
 use Rattle.monomial.proofs.negative.Tie as tie
-use Rattle.monomial.proofs.negative.Reads as reads
-use Rattle.monomial.proofs.negative.Lts as lts
 
--- src/lib.rt:65:15
 neg-requires : tie.Need-neg-requires
 neg-requires c κs = search needs
 
--- src/lib.rt:58:1
 returns : tie.Need-returns
 unfolding negMonomial
 returns c = (λ t. record { vars = monomialOf (c .before .before .args .m) .vars; coef = c .neg .ensures t }, refl)

@@ -1,15 +1,11 @@
-use mathlib.Core.Path.{_≡_, refl, sym, ap, subst, _∙_}
-use mathlib.Core.Bool.{Bool, true, false, cond}
-use mathlib.Core.List.{List, [], _∷_, _++_}
-use Prim.Native.Nat.{ℕ, zero, suc, _+_, _*_, _-_, _/_, _%_, _≤_, _<_}
+use mathlib.Core.Path.{refl}
+use Prim.Native.Nat.{_-_}
 use native.Mathlib.Omega.{arith}
 use borrow.Author.Needs.{needs}
-use lib.ListN.{length, getD, take, drop, replicate, set, length-set}
+use lib.ListN.{length}
 use Rattle.slices.proofs.Laws.{Copied, copy-more, copy-full, copy-done}
 use Rattle.slices.proofs.copy_words.Statement.{statement}
 use Rattle.slices.proofs.copy_words.Tie as tie
-use Rattle.slices.proofs.copy_words.Reads as reads
-use Rattle.slices.proofs.copy_words.Lts as lts
 
 abbrev Inv-loop : tie.InvT-loop
 Inv-loop list out₀ i₀ out i = Copied list out out₀ i
@@ -17,51 +13,39 @@ Inv-loop list out₀ i₀ out i = Copied list out out₀ i
 abbrev μ-loop : tie.MeasureT-loop
 μ-loop list out₀ i₀ out i = length list - i
 
--- src/lib.rt:41:5
 loop-holds : tie.Need-loop-holds Inv-loop μ-loop
 loop-holds c = (omega arith, omega arith, refl, refl, refl)
 
--- src/lib.rt:43:13
 same-length : tie.Need-same-length Inv-loop μ-loop
 same-length c = search needs
 
--- src/lib.rt:43:13
 returns : tie.Need-returns Inv-loop μ-loop
 returns c = copy-full (c .before .before .before .args .list .now) (c .before .before .loop .out) (c .before .before .before .args .out .now) (c .before .before .loop .i) (c .if1 .taken) (c .before .before .loop .inv)
 
--- src/lib.rt:45:18
 mul-out : tie.Need-mul-out Inv-loop μ-loop
 mul-out c = search needs
 
--- src/lib.rt:45:18
 shared-slice-read-out : tie.Need-shared-slice-read-out Inv-loop μ-loop
 shared-slice-read-out c = search needs
 
--- src/lib.rt:45:9
 mul-out-2 : tie.Need-mul-out-2 Inv-loop μ-loop
 mul-out-2 c = search needs
 
--- src/lib.rt:45:9
 slice-write-out : tie.Need-slice-write-out Inv-loop μ-loop
 slice-write-out c = search needs
 
--- src/lib.rt:46:9
 add-i : tie.Need-add-i Inv-loop μ-loop
 add-i c = search needs
 
--- src/lib.rt:41:5
 loop-less : tie.Need-loop-less Inv-loop μ-loop
 loop-less c = search needs
 
--- src/lib.rt:41:5
 loop-again : tie.Need-loop-again Inv-loop μ-loop
 loop-again c = copy-more (c .before .before .before .before .args .list .now) (c .before .before .before .loop .out) (c .before .before .before .before .args .out .now) (c .before .before .before .loop .i) (omega arith) (omega arith) (c .before .before .before .loop .inv)
 
--- src/lib.rt:37:1
 same-length-2 : tie.Need-same-length-2 Inv-loop μ-loop
 same-length-2 c = search needs
 
--- src/lib.rt:37:1
 returns-2 : tie.Need-returns-2 Inv-loop μ-loop
 returns-2 c = copy-done (c .before .before .args .list .now) (c .before .loop .out) (c .before .before .args .out .now) (c .before .loop .i) (c .loop-test .left) (c .before .loop .inv)
 

@@ -1,17 +1,12 @@
-use mathlib.Core.Path.{_≡_, refl, sym, ap, subst, _∙_}
-use mathlib.Core.List.{List, [], _∷_, _++_}
-use Prim.Native.Nat.{ℕ, zero, suc, _+_, _*_, _-_, _≤_, _<_}
+use mathlib.Core.Path.{_∙_}
+use Prim.Native.Nat.{_+_, _*_, _-_, _≤_, _<_}
 use native.Mathlib.Omega.{arith}
 use borrow.Author.Needs.{needs}
-use lib.ListN.{length, getD, take, drop, set, length-set}
+use lib.ListN.{length, getD}
 use Rattle.group.specs.Waiting.{Inside}
 use Rattle.group.proofs.Inserts.{Inserting, insert-full, insert-start, insert-next, insert-step, insert-done}
 use Rattle.group.proofs.pending.insert_pending.Statement.{statement}
 use Rattle.group.proofs.pending.insert_pending.Tie as tie
-use Rattle.group.proofs.pending.insert_pending.Reads as reads
-use Rattle.group.proofs.pending.insert_pending.Lts as lts
-use Rattle.group.proofs.pending.put_row.Reads as put-row-reads
-use Rattle.slices.proofs.shift.shift_up.Reads as shift-up-reads
 
 abbrev Inv-loop : tie.InvT-loop
 Inv-loop headers₀ n pool places fronts b end₀ j₀ headers end j = Inserting headers₀ n pool places b headers end j
@@ -19,30 +14,24 @@ Inv-loop headers₀ n pool places fronts b end₀ j₀ headers end j = Inserting
 abbrev μ-loop : tie.MeasureT-loop
 μ-loop headers₀ n pool places fronts b end₀ j₀ headers end j = j
 
--- src/pending.rt:174:24
 mul-if1 : tie.Need-mul-if1 Inv-loop μ-loop
 mul-if1 c = let o = c .before .before .before .before .pre .rows-are .room in
     search needs
 
--- src/pending.rt:174:8
 sub-if1 : tie.Need-sub-if1 Inv-loop μ-loop
 sub-if1 c = let o = c .before .before .before .before .pre .rows-are .room in
     search needs
 
--- src/pending.rt:174:32
 mul-if1-2 : tie.Need-mul-if1-2 Inv-loop μ-loop
 mul-if1-2 c = let o = c .before .before .before .before .pre .waiting .room in
     search needs
 
--- src/pending.rt:175:9
 returns : tie.Need-returns Inv-loop μ-loop
 returns c = insert-full (c .before .before .before .before .before .pre) (c .if1 .taken)
 
--- src/pending.rt:179:5
 loop-holds : tie.Need-loop-holds Inv-loop μ-loop
 loop-holds c = insert-start (c .before .before .before .before .before .pre) (c .if1 .left)
 
--- src/pending.rt:180:9
 sub-j : tie.Need-sub-j Inv-loop μ-loop
 sub-j c = search needs
 
@@ -63,78 +52,60 @@ next c =
     let s = p .waiting .same in
     (x .0, x .1, omega arith, omega arith, g .inner, u, g .fits)
 
--- src/pending.rt:181:18
 mul-at : tie.Need-mul-at Inv-loop μ-loop
 mul-at c = let x = next c in search needs
 
--- src/pending.rt:181:18
 shared-slice-read-at : tie.Need-shared-slice-read-at Inv-loop μ-loop
 shared-slice-read-at c = let x = next (c .before) in omega arith
 
--- src/pending.rt:182:17
 mul-k : tie.Need-mul-k Inv-loop μ-loop
 mul-k c = let x = next (c .before) in search needs
 
--- src/pending.rt:182:17
 shared-slice-read-k : tie.Need-shared-slice-read-k Inv-loop μ-loop
 shared-slice-read-k c = let x = next (c .before .before) in omega arith
 
--- src/pending.rt:183:34
 mul-shift-up : tie.Need-mul-shift-up Inv-loop μ-loop
 mul-shift-up c = let x = next (c .before .before .before) in omega arith
 
--- src/pending.rt:183:41
 mul-shift-up-2 : tie.Need-mul-shift-up-2 Inv-loop μ-loop
 mul-shift-up-2 c = let x = next (c .before .before .before) in omega arith
 
--- src/pending.rt:183:50
 mul-shift-up-3 : tie.Need-mul-shift-up-3 Inv-loop μ-loop
 mul-shift-up-3 c = let x = next (c .before .before .before) in omega arith
 
--- src/pending.rt:183:50
 add-shift-up : tie.Need-add-shift-up Inv-loop μ-loop
 add-shift-up c = let x = next (c .before .before .before) in omega arith
 
--- src/pending.rt:183:9
 shift-up-requires : tie.Need-shift-up-requires Inv-loop μ-loop
 shift-up-requires c κs = let x = next (c .before .before .before) in (omega arith, omega arith)
 
--- src/pending.rt:184:26
 mul-put-row : tie.Need-mul-put-row Inv-loop μ-loop
 mul-put-row c = let x = next (c .before .before .before .before .before .before .before) in omega arith
 
--- src/pending.rt:184:34
 mul-put-row-2 : tie.Need-mul-put-row-2 Inv-loop μ-loop
 mul-put-row-2 c = let x = next (c .before .before .before .before .before .before .before) in omega arith
 
--- src/pending.rt:184:26
 add-put-row : tie.Need-add-put-row Inv-loop μ-loop
 add-put-row c = let x = next (c .before .before .before .before .before .before .before) in omega arith
 
--- src/pending.rt:184:41
 cast-put-row : tie.Need-cast-put-row Inv-loop μ-loop
 cast-put-row c = let x = next (c .before .before .before .before .before .before .before) in omega arith
 
--- src/pending.rt:184:52
 mul-put-row-3 : tie.Need-mul-put-row-3 Inv-loop μ-loop
 mul-put-row-3 c = let x = next (c .before .before .before .before .before .before .before) in omega arith
 
--- src/pending.rt:184:52
 shared-slice-read-put-row : tie.Need-shared-slice-read-put-row Inv-loop μ-loop
 shared-slice-read-put-row c = let x = next (c .before .before .before .before .before .before .before .before) in omega arith
 
--- src/pending.rt:184:9
 put-row-requires : tie.Need-put-row-requires Inv-loop μ-loop
 put-row-requires c κs =
     let x = next (c .before .before .before .before .before .before .before .before) in
     let k = c .before .before .before .before .shift-up .kept .0 in
     omega arith
 
--- src/pending.rt:179:5
 loop-less : tie.Need-loop-less Inv-loop μ-loop
 loop-less c = search needs
 
--- src/pending.rt:179:5
 loop-again : tie.Need-loop-again Inv-loop μ-loop
 loop-again c =
     let v = c .before .before .before .before .before .before .before .before .before .before .before .before .loop in
@@ -142,16 +113,13 @@ loop-again c =
     insert-step (c .before .before .before .before .before .before .before .before .before .before .before .before .before .before .before .before .before .before .pre) (v .inv) (v .j - 1) (omega (arith, c .before .before .before .before .before .before .before .before .before .before .before .loop-test .taken)) (c .before .before .before .before .before .before .before .shift-up .last .0) (c .before .before .put-row .last .0) (c .before .before .put-row .kept .0 ∙ c .before .before .before .before .before .before .before .shift-up .kept .0)
     (c .before .before .before .before .before .before .before .shift-up .ensures) (c .before .before .put-row .ensures)
 
--- src/pending.rt:187:22
 add-t11 : tie.Need-add-t11 Inv-loop μ-loop
 add-t11 c = let f = c .before .loop .inv .fits in
     search needs
 
--- src/pending.rt:163:1
 same-length : tie.Need-same-length Inv-loop μ-loop
 same-length c = c .before .loop .inv .long
 
--- src/pending.rt:163:1
 returns-2 : tie.Need-returns-2 Inv-loop μ-loop
 returns-2 c = insert-done (c .before .before .before .before .before .before .before .pre) (c .before .loop .inv) (c .loop-test .left)
 

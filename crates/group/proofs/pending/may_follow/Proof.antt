@@ -1,78 +1,55 @@
-use mathlib.Core.Path.{_≡_, refl, sym, ap, subst, _∙_}
-use mathlib.Core.Bool.{true}
-use mathlib.Core.List.{List}
-use Prim.Native.Nat.{ℕ, zero, suc, _+_, _*_, _-_, _≤_, _<_}
+use Prim.Native.Nat.{_-_}
 use native.Mathlib.Omega.{arith}
-use lib.ListN.{length, getD, take, drop}
-use Rattle.group.specs.Waiting.{Inside}
 use Rattle.group.proofs.Waits.{follows-last}
 use borrow.Author.Needs.{needs}
 use Rattle.group.proofs.pending.may_follow.Statement.{statement}
 use Rattle.group.proofs.pending.may_follow.Tie as tie
-use Rattle.group.proofs.pending.may_follow.Reads as reads
-use Rattle.group.proofs.pending.may_follow.Lts as lts
-use Rattle.group.proofs.pending.wide.Reads as wide-reads
-use Rattle.group.proofs.search.order_in.Reads as order-in-reads
 
--- src/pending.rt:53:9
 returns : tie.Need-returns
 returns c = (omega (arith, c .before .before .before .pre .1), λ j e. absurd (omega (arith, c .if1 .taken)))
 
--- src/pending.rt:56:9
 returns-2 : tie.Need-returns-2
 returns-2 c = search needs
 
--- src/pending.rt:58:23
 sub-last : tie.Need-sub-last
 sub-last c = search needs
 
--- src/pending.rt:58:16
 mul-last : tie.Need-mul-last
 mul-last c = search needs
 
--- src/pending.rt:58:16
 shared-slice-read-last : tie.Need-shared-slice-read-last
 shared-slice-read-last c = search needs
 
--- src/pending.rt:59:40
 add-order-in : tie.Need-add-order-in
 add-order-in c = search needs
 
--- src/pending.rt:59:53
 mul-wide : tie.Need-mul-wide
 mul-wide c = search needs
 
--- src/pending.rt:59:53
 shared-slice-read-wide : tie.Need-shared-slice-read-wide
 shared-slice-read-wide c = search needs
 
--- src/pending.rt:59:48
 wide-requires : tie.Need-wide-requires
 wide-requires c κs = search needs
 
--- src/pending.rt:59:64
 add-order-in-2 : tie.Need-add-order-in-2
 add-order-in-2 c = let a = c .before .before .before .before .before .before .before .args in
     let i = c .before .before .before .before .before .before .before .pre .2 (a .b - 1) (omega (arith, c .before .before .before .before .if1 .left)) in
     omega (arith, i .2)
 
--- src/pending.rt:59:79
 mul-wide-2 : tie.Need-mul-wide-2
 mul-wide-2 c = let a = c .before .before .before .before .before .before .before .args in
     let i = c .before .before .before .before .before .before .before .pre .2 (a .b - 1) (omega (arith, c .before .before .before .before .if1 .left)) in
     omega (arith, i .1)
 
--- src/pending.rt:59:79
 shared-slice-read-wide-2 : tie.Need-shared-slice-read-wide-2
 shared-slice-read-wide-2 c = let a = c .before .before .before .before .before .before .before .before .args in
     let i = c .before .before .before .before .before .before .before .before .pre .2 (a .b - 1) (omega (arith, c .before .before .before .before .before .if1 .left)) in
     omega (arith, i .1)
 
--- src/pending.rt:59:74
 wide-requires-2 : tie.Need-wide-requires-2
 wide-requires-2 c κs = search needs
 
--- src/pending.rt:59:9
 order-in-requires : tie.Need-order-in-requires
 order-in-requires c κs =
     let a = c .before .before .before .before .before .before .before .before .before .args in
@@ -82,19 +59,15 @@ order-in-requires c κs =
     let y = c .wide2 .ensures in
     (omega (arith, p .3 .1), omega (arith, i .1))
 
--- src/pending.rt:61:25
 enum-told : tie.Need-enum-told
 enum-told c = search needs
 
--- src/pending.rt:62:24
 enum-told-2 : tie.Need-enum-told-2
 enum-told-2 c = search needs
 
--- src/pending.rt:63:26
 enum-told-3 : tie.Need-enum-told-3
 enum-told-3 c = search needs
 
--- src/pending.rt:48:1
 returns-3 : tie.Need-returns-3
 returns-3 c =
     let a = c .before .before .before .before .before .before .before .before .before .before .before .before .args in
@@ -102,11 +75,9 @@ returns-3 c =
     let o = c .before .before .order-in in
     (omega arith, follows-last (a .pool .now) (a .places .now) (a .b) (a .at) (o .result) (c .before .before .before .before .before .wide .result) (c .before .before .before .wide2 .result) (o .ensures) (c .before .before .before .before .before .wide .ensures) (c .before .before .before .wide2 .ensures) (c .enum-told .given .1))
 
--- src/pending.rt:48:1
 returns-4 : tie.Need-returns-4
 returns-4 c = search needs
 
--- src/pending.rt:48:1
 returns-5 : tie.Need-returns-5
 returns-5 c = search needs
 

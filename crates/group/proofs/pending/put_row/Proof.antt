@@ -1,63 +1,46 @@
-use mathlib.Core.Path.{_≡_, refl, sym, ap, subst, _∙_}
-use Prim.Native.Nat.{ℕ, zero, suc, _+_, _*_, _-_, _≤_, _<_}
 use native.Mathlib.Omega.{arith}
-use lib.ListN.{length, getD, take, drop, set, length-set}
+use lib.ListN.{length-set}
 use Rattle.group.proofs.Headers.{row-sets}
 use borrow.Author.Needs.{needs}
 use Rattle.group.proofs.pending.put_row.Statement.{statement}
 use Rattle.group.proofs.pending.put_row.Tie as tie
-use Rattle.group.proofs.pending.put_row.Reads as reads
-use Rattle.group.proofs.pending.put_row.Lts as lts
 
--- src/group.rt:79:5
 mul-headers : tie.Need-mul-headers
 mul-headers c = search needs
 
--- src/group.rt:79:5
 slice-write-headers : tie.Need-slice-write-headers
 slice-write-headers c = search needs
 
--- src/group.rt:80:13
 add-headers : tie.Need-add-headers
 add-headers c = search needs
 
--- src/group.rt:80:5
 mul-headers-2 : tie.Need-mul-headers-2
 mul-headers-2 c = search needs
 
--- src/group.rt:80:5
 slice-write-headers-2 : tie.Need-slice-write-headers-2
 slice-write-headers-2 c = simp length-set (omega arith)
 
--- src/group.rt:81:13
 add-headers-2 : tie.Need-add-headers-2
 add-headers-2 c = search needs
 
--- src/group.rt:81:5
 mul-headers-3 : tie.Need-mul-headers-3
 mul-headers-3 c = search needs
 
--- src/group.rt:81:5
 slice-write-headers-3 : tie.Need-slice-write-headers-3
 slice-write-headers-3 c = simp length-set (omega arith)
 
--- src/group.rt:82:13
 add-headers-3 : tie.Need-add-headers-3
 add-headers-3 c = search needs
 
--- src/group.rt:82:5
 mul-headers-4 : tie.Need-mul-headers-4
 mul-headers-4 c = search needs
 
--- src/group.rt:82:5
 slice-write-headers-4 : tie.Need-slice-write-headers-4
 slice-write-headers-4 c = simp length-set (omega arith)
 
--- src/group.rt:75:1
 same-length : tie.Need-same-length
 same-length c = search needs
 
--- src/group.rt:75:1
 returns : tie.Need-returns
 returns c = row-sets (c .args .headers .now) (c .args .at) (c .args .place) 0 (c .args .count) 1
 

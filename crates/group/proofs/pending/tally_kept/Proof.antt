@@ -1,6 +1,6 @@
-use mathlib.Core.Path.{_≡_, refl, sym, ap, subst, _∙_}
-use mathlib.Core.List.{List, [], _∷_}
-use Prim.Native.Nat.{ℕ, _+_, _≤_}
+use mathlib.Core.Path.{sym, ap, subst, _∙_}
+use mathlib.Core.List.{List}
+use Prim.Native.Nat.{ℕ}
 use native.Mathlib.Omega.{arith}
 use lib.ListN.{drop}
 use Rattle.monomial.specs.Words.{readMonomial}
@@ -10,23 +10,16 @@ use Rattle.group.proofs.PoolLists.{read-coef, nonZero-none, nonZero-kep
 use borrow.Author.Needs.{needs}
 use Rattle.group.proofs.pending.tally_kept.Statement.{statement}
 use Rattle.group.proofs.pending.tally_kept.Tie as tie
-use Rattle.group.proofs.pending.tally_kept.Reads as reads
-use Rattle.group.proofs.pending.tally_kept.Lts as lts
-use Rattle.group.proofs.pending.tally_near.Reads as tally-near-reads
 
--- src/pending.rt:118:13
 add-if1 : tie.Need-add-if1
 add-if1 c = search needs
 
--- src/pending.rt:118:8
 mul-if1 : tie.Need-mul-if1
 mul-if1 c = search needs
 
--- src/pending.rt:118:8
 shared-slice-read-if1 : tie.Need-shared-slice-read-if1
 shared-slice-read-if1 c = search needs
 
--- src/pending.rt:119:9
 returns : tie.Need-returns
 unfolding tallyAll
 returns c =
@@ -36,23 +29,18 @@ returns c =
     let gs = batched (a .n) (a .b) (a .headers .now) P (a .places .now) in
     (omega arith, c .before .before .before .before .before .before .pre .0, sym (ap (λ vs. tallyAll vs gs) (nonZero-none m (read-coef P (a .at) ∙ c .if1 .taken))))
 
--- src/pending.rt:121:5
 tally-near-requires : tie.Need-tally-near-requires
 tally-near-requires c κs = search needs
 
--- src/pending.rt:105:1
 same-length : tie.Need-same-length
 same-length c = search needs
 
--- src/pending.rt:105:1
 same-length-2 : tie.Need-same-length-2
 same-length-2 c = search needs
 
--- src/pending.rt:105:1
 same-length-3 : tie.Need-same-length-3
 same-length-3 c = search needs
 
--- src/pending.rt:105:1
 returns-2 : tie.Need-returns-2
 returns-2 c =
     let a = c .before .before .before .before .before .before .before .before .before .before .before .before .before .before .before .before .args in

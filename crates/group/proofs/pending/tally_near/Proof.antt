@@ -1,10 +1,10 @@
-use mathlib.Core.Path.{_≡_, refl, sym, ap, subst, _∙_}
-use mathlib.Core.Bool.{true, false}
+use mathlib.Core.Path.{refl, subst}
+use mathlib.Core.Bool.{true}
 use mathlib.Core.List.{List}
-use Prim.Native.Nat.{ℕ, zero, suc, _+_, _*_, _-_, _≤_, _<_}
+use Prim.Native.Nat.{ℕ, _+_, _*_, _≤_, _<_}
 use native.Mathlib.Omega.{arith}
-use lib.ListN.{length, getD, take, drop}
-use Rattle.group.specs.declared.Found.the-variants.{There, Missing}
+use lib.ListN.{length, getD}
+use Rattle.group.specs.declared.Found.the-variants.{There}
 use Rattle.group.specs.Grouped.{tallied, Spot}
 use Rattle.group.specs.Waiting.{varsAt, MayFollow}
 use Rattle.group.proofs.Counting.{there-lt, there-small}
@@ -12,17 +12,10 @@ use Rattle.group.proofs.Waits.{batch-count, batch-wait}
 use borrow.Author.Needs.{needs}
 use Rattle.group.proofs.pending.tally_near.Statement.{statement}
 use Rattle.group.proofs.pending.tally_near.Tie as tie
-use Rattle.group.proofs.pending.tally_near.Reads as reads
-use Rattle.group.proofs.pending.tally_near.Lts as lts
-use Rattle.group.proofs.pending.may_follow.Reads as may-follow-reads
-use Rattle.group.proofs.pending.row_before.Reads as row-before-reads
-use Rattle.group.proofs.search.find_near.Reads as find-near-reads
 
--- src/pending.rt:86:9
 find-near-requires : tie.Need-find-near-requires
 find-near-requires c κs = search needs
 
--- src/pending.rt:88:22
 enum-known-found : tie.Need-enum-known-found
 enum-known-found c = search needs
 
@@ -44,47 +37,36 @@ row c =
     let t = there-small (a .n) k (a .headers .now) (a .pool .now) v (p .0 .rows-are) (there c) in
     (there-lt (a .n) k (a .headers .now) (a .pool .now) v (p .0 .rows-are) (there c), omega (arith, p .2), p .0 .rows-are .room)
 
--- src/pending.rt:89:23
 mul-row : tie.Need-mul-row
 mul-row c = let x = row c in search needs
 
--- src/pending.rt:90:40
 add-headers : tie.Need-add-headers
 add-headers c = let x = row c in search needs
 
--- src/pending.rt:90:32
 mul-headers : tie.Need-mul-headers
 mul-headers c = let x = row c in search needs
 
--- src/pending.rt:90:32
 slice-read-headers : tie.Need-slice-read-headers
 slice-read-headers c = let x = row (c .before) in search needs
 
--- src/pending.rt:90:32
 add-headers-2 : tie.Need-add-headers-2
 add-headers-2 c = let x = row (c .before) in search needs
 
--- src/pending.rt:90:21
 add-headers-3 : tie.Need-add-headers-3
 add-headers-3 c = let x = row (c .before) in search needs
 
--- src/pending.rt:90:13
 mul-headers-2 : tie.Need-mul-headers-2
 mul-headers-2 c = let x = row (c .before) in search needs
 
--- src/pending.rt:90:13
 slice-write-headers : tie.Need-slice-write-headers
 slice-write-headers c = let x = row (c .before) in search needs
 
--- src/pending.rt:93:24
 enum-known-found-2 : tie.Need-enum-known-found-2
 enum-known-found-2 c = search needs
 
--- src/pending.rt:94:16
 may-follow-requires : tie.Need-may-follow-requires
 may-follow-requires c κs = search needs
 
--- src/pending.rt:95:17
 mul-places : tie.Need-mul-places
 mul-places c = search needs
 
@@ -92,39 +74,30 @@ mul-places c = search needs
 follows : (c : tie.Then1) → let a = c .before .before .before .before .before .before .before .before .before .before .before .before .args in MayFollow (a .b) (a .places .now) (a .pool .now) (a .at) true
 follows c = let a = c .before .before .before .before .before .before .before .before .before .before .before .before .args in subst (MayFollow (a .b) (a .places .now) (a .pool .now) (a .at)) (c .if1 .taken) (c .before .may-follow .ensures)
 
--- src/pending.rt:95:17
 slice-write-places : tie.Need-slice-write-places
 slice-write-places c = omega (arith, follows c .0)
 
--- src/pending.rt:96:17
 mul-fronts : tie.Need-mul-fronts
 mul-fronts c = search needs
 
--- src/pending.rt:96:17
 slice-write-fronts : tie.Need-slice-write-fronts
 slice-write-fronts c = omega (arith, follows c .0, c .before .before .before .before .before .before .before .before .before .before .before .before .pre .0 .waiting .same)
 
--- src/pending.rt:97:36
 add-t27 : tie.Need-add-t27
 add-t27 c = search needs
 
--- src/pending.rt:97:43
 row-before-requires : tie.Need-row-before-requires
 row-before-requires c κs = search needs
 
--- src/pending.rt:97:17
 same-length : tie.Need-same-length
 same-length c = search needs
 
--- src/pending.rt:97:17
 same-length-2 : tie.Need-same-length-2
 same-length-2 c = search needs
 
--- src/pending.rt:97:17
 same-length-3 : tie.Need-same-length-3
 same-length-3 c = search needs
 
--- src/pending.rt:97:17
 returns : tie.Need-returns
 returns c =
     let a = c .before .before .before .before .before .before .before .before .before .before .before .before .before .args in
@@ -135,26 +108,21 @@ returns c =
     let x = batch-wait (a .n) (a .b) (a .headers .now) (a .pool .now) (a .places .now) (a .fronts .now) v (p .0) (a .at) k refl (p .1) s (follows (c .before)) in
     (omega arith, x .0, x .1)
 
--- src/pending.rt:73:1
 same-length-4 : tie.Need-same-length-4
 same-length-4 c = search needs
 
--- src/pending.rt:73:1
 returns-2 : tie.Need-returns-2
 returns-2 c =
     let a = c .before .before .before .before .before .before .before .before .before .before .args in
     let x = batch-count (a .n) (a .b) (a .headers .now) (a .pool .now) (a .places .now) (a .fronts .now) (varsAt (a .pool .now) (a .at)) (c .before .before .before .before .before .before .before .before .before .before .pre .0) (c .before .before .found .given .0 .0) (there (c .before)) in
     (omega arith, x .0, x .1)
 
--- src/pending.rt:73:1
 same-length-5 : tie.Need-same-length-5
 same-length-5 c = search needs
 
--- src/pending.rt:73:1
 same-length-6 : tie.Need-same-length-6
 same-length-6 c = search needs
 
--- src/pending.rt:73:1
 returns-3 : tie.Need-returns-3
 returns-3 c =
     let a = c .before .before .before .before .before .before .before .before .before .before .before .before .args in

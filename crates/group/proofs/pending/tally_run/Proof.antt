@@ -1,19 +1,15 @@
-use mathlib.Core.Path.{_≡_, refl, sym, ap, subst, _∙_}
-use mathlib.Core.List.{List, [], _∷_}
-use Prim.Native.Nat.{ℕ, _+_, _*_, _-_, _≤_, _<_}
+use mathlib.Core.Path.{sym, subst, _∙_}
+use mathlib.Core.List.{[], _∷_}
+use Prim.Native.Nat.{ℕ, _+_, _-_}
 use native.Mathlib.Omega.{arith}
 use borrow.Author.Needs.{needs}
-use lib.ListN.{length, getD, drop}
+use lib.ListN.{drop}
 use Rattle.monomial.specs.Words.{readMonomial}
 use Rattle.group.specs.Grouped.{nonZero}
 use Rattle.group.specs.Waiting.{batched, Nexts}
 use Rattle.group.proofs.Runs.{Running, run-start, run-asks, run-step, run-stop, run-done}
 use Rattle.group.proofs.pending.tally_run.Statement.{statement}
 use Rattle.group.proofs.pending.tally_run.Tie as tie
-use Rattle.group.proofs.pending.tally_run.Reads as reads
-use Rattle.group.proofs.pending.tally_run.Lts as lts
-use Rattle.group.proofs.pending.tally_kept.Reads as tally-kept-reads
-use Rattle.group.proofs.pending.wide.Reads as wide-reads
 
 abbrev Inv-loop : tie.InvT-loop
 Inv-loop headers₀ n pool at count places₀ fronts₀ place₀ near₀ b₀ i₀ headers places fronts place near b i =
@@ -23,38 +19,30 @@ abbrev μ-loop : tie.MeasureT-loop
 μ-loop headers₀ n pool at count places₀ fronts₀ place₀ near₀ b₀ i₀ headers places fronts place near b i =
     count - i
 
--- src/pending.rt:141:5
 loop-holds : tie.Need-loop-holds Inv-loop μ-loop
 loop-holds c =
     let a = c .before .before .before .before .args in
     let p = c .before .before .before .before .pre in
     run-start (a .n) (a .pool .now) (a .at) (a .count) (a .headers .now) (a .places .now) (a .fronts .now) (p .0) (p .1) (p .3) (p .4)
 
--- src/pending.rt:142:13
 tally-kept-requires : tie.Need-tally-kept-requires Inv-loop μ-loop
 tally-kept-requires c κs = run-asks (c .before .before .before .before .loop .inv) (c .before .before .before .loop-test .taken) (c .before .before .before .before .before .before .before .before .before .pre .2)
 
--- src/pending.rt:143:25
 enum-known-next : tie.Need-enum-known-next Inv-loop μ-loop
 enum-known-next c = search needs
 
--- src/pending.rt:144:13
 enum-told : tie.Need-enum-told Inv-loop μ-loop
 enum-told c = search needs
 
--- src/pending.rt:144:13
 same-length : tie.Need-same-length Inv-loop μ-loop
 same-length c = c .before .before .before .before .before .before .before .before .tally-kept .kept .0 ∙ c .before .before .before .before .before .before .before .before .before .before .before .before .before .loop .inv .long
 
--- src/pending.rt:144:13
 same-length-2 : tie.Need-same-length-2 Inv-loop μ-loop
 same-length-2 c = c .before .before .before .before .before .before .before .before .tally-kept .kept .1 .1 .1 .1 .1 .0 ∙ c .before .before .before .before .before .before .before .before .before .before .before .before .before .loop .inv .long-places
 
--- src/pending.rt:144:13
 same-length-3 : tie.Need-same-length-3 Inv-loop μ-loop
 same-length-3 c = c .before .before .before .before .before .before .before .before .tally-kept .kept .1 .1 .1 .1 .1 .1 .0 ∙ c .before .before .before .before .before .before .before .before .before .before .before .before .before .loop .inv .long-fronts
 
--- src/pending.rt:144:13
 returns : tie.Need-returns Inv-loop μ-loop
 returns c =
     let a = c .before .before .before .before .before .before .before .before .before .before .before .before .before .before .before .before .before .before .args in
@@ -66,40 +54,32 @@ returns c =
     run-stop (b .inv) (u .last .0) (u .last .1 .1 .1 .1 .1 .0) (u .last .1 .1 .1 .1 .1 .1 .0)
     (subst (Nexts (a .n) (b .b) vs gs (u .last .0) P (u .last .1 .1 .1 .1 .1 .0) (u .last .1 .1 .1 .1 .1 .1 .0)) (c .enum-told .given .1) (u .ensures))
 
--- src/pending.rt:152:17
 add-place : tie.Need-add-place Inv-loop μ-loop
 add-place c = let x = run-asks (c .before .before .before .before .before .before .before .before .before .before .before .before .before .before .loop .inv) (c .before .before .before .before .before .before .before .before .before .before .before .before .before .loop-test .taken) (c .before .before .before .before .before .before .before .before .before .before .before .before .before .before .before .before .before .before .before .pre .2) in
     omega (arith, x .1 .2)
 
--- src/pending.rt:152:34
 mul-wide : tie.Need-mul-wide Inv-loop μ-loop
 mul-wide c = let x = run-asks (c .before .before .before .before .before .before .before .before .before .before .before .before .before .before .loop .inv) (c .before .before .before .before .before .before .before .before .before .before .before .before .before .loop-test .taken) (c .before .before .before .before .before .before .before .before .before .before .before .before .before .before .before .before .before .before .before .pre .2) in
     omega (arith, x .1 .1)
 
--- src/pending.rt:152:34
 shared-slice-read-wide : tie.Need-shared-slice-read-wide Inv-loop μ-loop
 shared-slice-read-wide c = let x = run-asks (c .before .before .before .before .before .before .before .before .before .before .before .before .before .before .before .loop .inv) (c .before .before .before .before .before .before .before .before .before .before .before .before .before .before .loop-test .taken) (c .before .before .before .before .before .before .before .before .before .before .before .before .before .before .before .before .before .before .before .before .pre .2) in
     omega (arith, x .1 .1)
 
--- src/pending.rt:152:29
 wide-requires : tie.Need-wide-requires Inv-loop μ-loop
 wide-requires c κs = search needs
 
--- src/pending.rt:152:17
 add-place-2 : tie.Need-add-place-2 Inv-loop μ-loop
 add-place-2 c = let x = run-asks (c .before .before .before .before .before .before .before .before .before .before .before .before .before .before .before .before .loop .inv) (c .before .before .before .before .before .before .before .before .before .before .before .before .before .before .before .loop-test .taken) (c .before .before .before .before .before .before .before .before .before .before .before .before .before .before .before .before .before .before .before .before .before .pre .2) in
     let w = c .wide .ensures in
     omega (arith, x .1 .0, x .1 .2)
 
--- src/pending.rt:153:9
 add-i : tie.Need-add-i Inv-loop μ-loop
 add-i c = search needs
 
--- src/pending.rt:141:5
 loop-less : tie.Need-loop-less Inv-loop μ-loop
 loop-less c = search needs
 
--- src/pending.rt:141:5
 loop-again : tie.Need-loop-again Inv-loop μ-loop
 loop-again c =
     let a = c .before .before .before .before .before .before .before .before .before .before .before .before .before .before .before .before .before .before .before .before .before .args in
@@ -113,19 +93,15 @@ loop-again c =
     (run-step (b .inv) (c .before .before .before .before .before .before .before .before .before .before .before .before .before .before .before .loop-test .taken) (u .last .0) (u .last .1 .1 .1 .1 .1 .0) (u .last .1 .1 .1 .1 .1 .1 .0) (n .0 .0) (n .0 .1 .0) (u .kept .0) (u .kept .1 .1 .1 .1 .1 .0) (u .kept .1 .1 .1 .1 .1 .1 .0)
     (subst (Nexts (a .n) (b .b) vs gs (u .last .0) P (u .last .1 .1 .1 .1 .1 .0) (u .last .1 .1 .1 .1 .1 .1 .0)) (n .1) (u .ensures)))
 
--- src/pending.rt:125:1
 same-length-4 : tie.Need-same-length-4 Inv-loop μ-loop
 same-length-4 c = c .before .loop .inv .long
 
--- src/pending.rt:125:1
 same-length-5 : tie.Need-same-length-5 Inv-loop μ-loop
 same-length-5 c = c .before .loop .inv .long-places
 
--- src/pending.rt:125:1
 same-length-6 : tie.Need-same-length-6 Inv-loop μ-loop
 same-length-6 c = c .before .loop .inv .long-fronts
 
--- src/pending.rt:125:1
 returns-2 : tie.Need-returns-2 Inv-loop μ-loop
 returns-2 c = run-done (c .before .loop .inv) (c .loop-test .left)
 

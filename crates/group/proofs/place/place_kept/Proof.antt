@@ -1,9 +1,6 @@
-use mathlib.Core.Path.{_≡_, refl, sym, ap, subst, _∙_}
-use mathlib.Core.Bool.{Bool, true, false, cond}
-use mathlib.Core.List.{List, [], _∷_, _++_, map}
-use Prim.Native.Nat.{ℕ, zero, suc, _+_, _*_, _-_, _≤_, _<_}
-use native.Mathlib.Omega.{arith}
-use lib.ListN.{length, getD, take, drop, set, length-set}
+use mathlib.Core.Path.{sym, subst, _∙_}
+use mathlib.Core.List.{List, _++_}
+use lib.ListN.{drop}
 use mathlib.Core.List.{append-nil}
 use Rattle.semantics.specs.Group.{Item}
 use Rattle.monomial.specs.Words.{readMonomial}
@@ -13,23 +10,16 @@ use Rattle.group.proofs.Placements.{items-none, items-one}
 use borrow.Author.Needs.{needs}
 use Rattle.group.proofs.place.place_kept.Statement.{statement}
 use Rattle.group.proofs.place.place_kept.Tie as tie
-use Rattle.group.proofs.place.place_kept.Reads as reads
-use Rattle.group.proofs.place.place_kept.Lts as lts
-use Rattle.group.proofs.place.place_monomial.Reads as place-monomial-reads
 
--- src/place.rt:94:13
 add-if1 : tie.Need-add-if1
 add-if1 c = search needs
 
--- src/place.rt:94:8
 mul-if1 : tie.Need-mul-if1
 mul-if1 c = search needs
 
--- src/place.rt:94:8
 shared-slice-read-if1 : tie.Need-shared-slice-read-if1
 shared-slice-read-if1 c = search needs
 
--- src/place.rt:95:9
 returns : tie.Need-returns
 returns c =
     let a = c .before .before .before .before .before .args in
@@ -39,7 +29,6 @@ returns c =
     λ gs done x y. subst (λ (l : List Item). Placing (a .interaction) gs (a .n) (a .headers .now) P (a .terms .now) (done ++ l)) (sym e)
     (subst (λ (l : List Item). Placing (a .interaction) gs (a .n) (a .headers .now) P (a .terms .now) l) (sym (append-nil done)) x)
 
--- src/place.rt:97:5
 place-monomial-requires : tie.Need-place-monomial-requires
 place-monomial-requires c κs =
     let a = c .before .before .before .before .before .before .before .args in
@@ -49,15 +38,12 @@ place-monomial-requires c κs =
     let e = items-one (a .index) (a .field) m (λ z. c .before .before .if1 .left (sym (read-coef P (a .at)) ∙ z)) in
     (subst (ToPlace (a .interaction) (a .n) (a .headers .now) P (a .terms .now)) e (p .0), p .1, p .2)
 
--- src/place.rt:80:1
 same-length : tie.Need-same-length
 same-length c = search needs
 
--- src/place.rt:80:1
 same-length-2 : tie.Need-same-length-2
 same-length-2 c = search needs
 
--- src/place.rt:80:1
 returns-2 : tie.Need-returns-2
 returns-2 c =
     let a = c .before .before .before .before .before .before .before .before .before .before .before .before .args in

@@ -1,18 +1,11 @@
-use mathlib.Core.Path.{_≡_, refl, sym, ap, subst, _∙_}
-use mathlib.Core.Bool.{Bool, true, false, cond}
-use mathlib.Core.List.{List, [], _∷_, _++_, map}
-use Prim.Native.Nat.{ℕ, zero, suc, _+_, _*_, _-_, _≤_, _<_}
+use mathlib.Core.Path.{sym, subst}
+use Prim.Native.Nat.{ℕ, _+_, _-_}
 use native.Mathlib.Omega.{arith}
-use lib.ListN.{length, getD, take, drop, set, length-set}
 use borrow.Author.Needs.{needs}
 use Rattle.group.proofs.PoolLists.{standing-next}
 use Rattle.group.proofs.Placements.{Listing, listing-start, listing-asks, listing-step, listing-done}
 use Rattle.group.proofs.place.place_list.Statement.{statement}
 use Rattle.group.proofs.place.place_list.Tie as tie
-use Rattle.group.proofs.place.place_list.Reads as reads
-use Rattle.group.proofs.place.place_list.Lts as lts
-use Rattle.group.proofs.place.place_kept.Reads as place-kept-reads
-use Rattle.group.proofs.place.wide.Reads as wide-reads
 
 abbrev Inv-loop : tie.InvT-loop
 Inv-loop headers₀ n pool at count interaction index field terms₀ near₀ place₀ i₀ headers terms near place i =
@@ -21,14 +14,12 @@ Inv-loop headers₀ n pool at count interaction index field terms₀ near₀ pla
 abbrev μ-loop : tie.MeasureT-loop
 μ-loop headers₀ n pool at count interaction index field terms₀ near₀ place₀ i₀ headers terms near place i = count - i
 
--- src/place.rt:128:5
 loop-holds : tie.Need-loop-holds Inv-loop μ-loop
 loop-holds c =
     let a = c .before .before .before .args in
     let P = a .pool .now in
     listing-start (a .interaction) (a .n) P (a .index) (a .field) (a .at) (a .count) (a .headers .now) (a .terms .now) (c .before .before .before .pre .1)
 
--- src/place.rt:129:9
 place-kept-requires : tie.Need-place-kept-requires Inv-loop μ-loop
 place-kept-requires c κs =
     let a = c .before .before .before .before .before .before .before .args in
@@ -39,7 +30,6 @@ place-kept-requires c κs =
     let s = standing-next (a .count) (b .i) (b .place) P t (b .inv .standing) in
     (listing-asks (a .interaction) (a .n) P (a .index) (a .field) (a .at) (a .count) (a .headers .now) (a .terms .now) (b .headers) (b .terms) (b .place) (b .i) (b .inv) t (p .0), s .0, s .1)
 
--- src/place.rt:140:17
 add-place : tie.Need-add-place Inv-loop μ-loop
 add-place c =
     let a = c .before .before .before .before .before .before .before .before .before .before .before .before .args in
@@ -50,7 +40,6 @@ add-place c =
     let s = standing-next (a .count) (b .i) (b .place) P t (b .inv .standing) in
     search needs
 
--- src/place.rt:140:34
 mul-wide : tie.Need-mul-wide Inv-loop μ-loop
 mul-wide c =
     let a = c .before .before .before .before .before .before .before .before .before .before .before .before .args in
@@ -61,7 +50,6 @@ mul-wide c =
     let s = standing-next (a .count) (b .i) (b .place) P t (b .inv .standing) in
     search needs
 
--- src/place.rt:140:34
 shared-slice-read-wide : tie.Need-shared-slice-read-wide Inv-loop μ-loop
 shared-slice-read-wide c =
     let a = c .before .before .before .before .before .before .before .before .before .before .before .before .before .args in
@@ -72,11 +60,9 @@ shared-slice-read-wide c =
     let s = standing-next (a .count) (b .i) (b .place) P t (b .inv .standing) in
     omega (arith, s .1)
 
--- src/place.rt:140:29
 wide-requires : tie.Need-wide-requires Inv-loop μ-loop
 wide-requires c κs = search needs
 
--- src/place.rt:140:17
 add-place-2 : tie.Need-add-place-2 Inv-loop μ-loop
 add-place-2 c =
     let a = c .before .before .before .before .before .before .before .before .before .before .before .before .before .before .args in
@@ -88,15 +74,12 @@ add-place-2 c =
     let w = c .wide .ensures in
     search needs
 
--- src/place.rt:141:9
 add-i : tie.Need-add-i Inv-loop μ-loop
 add-i c = search needs
 
--- src/place.rt:128:5
 loop-less : tie.Need-loop-less Inv-loop μ-loop
 loop-less c = search needs
 
--- src/place.rt:128:5
 loop-again : tie.Need-loop-again Inv-loop μ-loop
 loop-again c =
     let a = c .before .before .before .before .before .before .before .before .before .before .before .before .before .before .args in
@@ -109,15 +92,12 @@ loop-again c =
     subst (λ (x : ℕ). Listing (a .interaction) (a .n) P (a .index) (a .field) (a .at) (a .count) (a .headers .now) (a .terms .now) (k .last .0) (k .last .1 .1 .1 .1 .1 .1 .1 .0) (b .place + 2 + x) (b .i + 1)) (sym (c .wide .ensures))
     (listing-step (a .interaction) (a .n) P (a .index) (a .field) (a .at) (a .count) (a .headers .now) (a .terms .now) (b .headers) (b .terms) (b .place) (b .i) (b .inv) t (k .last .0) (k .last .1 .1 .1 .1 .1 .1 .1 .0) (k .kept .0) (k .kept .1 .1 .1 .1 .1 .1 .1 .0) (k .ensures))
 
--- src/place.rt:111:1
 same-length : tie.Need-same-length Inv-loop μ-loop
 same-length c = c .before .loop .inv .going .long
 
--- src/place.rt:111:1
 same-length-2 : tie.Need-same-length-2 Inv-loop μ-loop
 same-length-2 c = c .before .loop .inv .going .termsLong
 
--- src/place.rt:111:1
 returns : tie.Need-returns Inv-loop μ-loop
 returns c =
     let a = c .before .before .before .before .before .args in

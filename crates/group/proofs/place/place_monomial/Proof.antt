@@ -1,4 +1,4 @@
-use mathlib.Core.Path.{_≡_, refl, sym, ap, subst, _∙_}
+use mathlib.Core.Path.{refl, sym, ap, subst, _∙_}
 use Prim.Native.Nat.{ℕ, _+_, _*_, _≤_, _<_}
 use native.Mathlib.Omega.{arith}
 use lib.ListN.{length, getD, drop, set}
@@ -13,41 +13,28 @@ use Rattle.group.specs.Waiting.{varsAt}
 use borrow.Author.Needs.{needs}
 use Rattle.group.proofs.place.place_monomial.Statement.{statement}
 use Rattle.group.proofs.place.place_monomial.Tie as tie
-use Rattle.group.proofs.place.place_monomial.Reads as reads
-use Rattle.group.proofs.place.place_monomial.Lts as lts
-use Rattle.group.proofs.place.put_term.Reads as put-term-reads
-use Rattle.group.proofs.place.wide.Reads as wide-reads
-use Rattle.group.proofs.search.find_near.Reads as find-near-reads
 
--- src/place.rt:67:21
 add-coef : tie.Need-add-coef
 add-coef c = search needs
 
--- src/place.rt:67:16
 mul-coef : tie.Need-mul-coef
 mul-coef c = search needs
 
--- src/place.rt:67:16
 shared-slice-read-coef : tie.Need-shared-slice-read-coef
 shared-slice-read-coef c = search needs
 
--- src/place.rt:68:9
 find-near-requires : tie.Need-find-near-requires
 find-near-requires c κs = search needs
 
--- src/place.rt:69:22
 enum-known-found : tie.Need-enum-known-found
 enum-known-found c = search needs
 
--- src/place.rt:70:9
 enum-told : tie.Need-enum-told
 enum-told c = search needs
 
--- src/place.rt:70:9
 same-length : tie.Need-same-length
 same-length c = search needs
 
--- src/place.rt:70:9
 returns : tie.Need-returns
 returns c =
     let a = c .before .before .before .before .before .before .before .before .args in
@@ -71,27 +58,21 @@ row c =
     let r = c .before .before .before .before .before .before .before .before .before .pre .0 .placing .rows-are in
     (there-lt (a .n) (c .before .found .given .0 .0) (a .headers .now) (a .pool .now) (varsAt (a .pool .now) (a .at)) r (there c), r .room)
 
--- src/place.rt:72:15
 mul-row : tie.Need-mul-row
 mul-row c = let x = row c in search needs
 
--- src/place.rt:73:26
 add-cursor : tie.Need-add-cursor
 add-cursor c = let x = row c in search needs
 
--- src/place.rt:73:18
 mul-cursor : tie.Need-mul-cursor
 mul-cursor c = let x = row c in search needs
 
--- src/place.rt:73:18
 slice-read-cursor : tie.Need-slice-read-cursor
 slice-read-cursor c = let x = row (c .before) in omega arith
 
--- src/place.rt:74:21
 wide-requires : tie.Need-wide-requires
 wide-requires c κs = search needs
 
--- src/place.rt:74:5
 put-term-requires : tie.Need-put-term-requires
 put-term-requires c κs =
     let a = c .before .before .before .before .before .before .before .before .before .before .before .before .args in
@@ -100,7 +81,6 @@ put-term-requires c κs =
     let q = term-fits (a .interaction) (g .gs) (a .n) (a .headers .now) (a .pool .now) (a .terms .now) (g .done) t (t .vars) (c .before .before .before .before .found .given .0 .0) (g .placing) (g .room) refl (there (c .before .before .before)) in
     subst (λ (i : ℕ). widthOf (a .interaction) * i + widthOf (a .interaction) ≤ length (a .terms .now)) (sym (c .wide .ensures)) q
 
--- src/place.rt:75:24
 add-headers : tie.Need-add-headers
 add-headers c =
     let a = c .before .before .before .before .before .before .before .before .before .before .before .before .before .before .before .args in
@@ -110,27 +90,21 @@ add-headers c =
     let z = g .placing .small in
     search needs
 
--- src/place.rt:75:13
 add-headers-2 : tie.Need-add-headers-2
 add-headers-2 c = let q = add-cursor (c .before .before .before .before .before .before) in search needs
 
--- src/place.rt:75:5
 mul-headers : tie.Need-mul-headers
 mul-headers c = let q = mul-cursor (c .before .before .before .before .before .before) in search needs
 
--- src/place.rt:75:5
 slice-write-headers : tie.Need-slice-write-headers
 slice-write-headers c = let x = row (c .before .before .before .before .before .before) in omega arith
 
--- src/place.rt:53:1
 same-length-2 : tie.Need-same-length-2
 same-length-2 c = search needs
 
--- src/place.rt:53:1
 same-length-3 : tie.Need-same-length-3
 same-length-3 c = search needs
 
--- src/place.rt:53:1
 returns-2 : tie.Need-returns-2
 returns-2 c =
     let a = c .before .before .before .before .before .before .before .before .before .before .before .before .before .before .before .args in

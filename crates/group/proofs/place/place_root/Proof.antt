@@ -1,57 +1,40 @@
-use mathlib.Core.Path.{_≡_, refl, sym, ap, subst, _∙_}
-use mathlib.Core.Bool.{Bool, true, false, cond}
-use mathlib.Core.List.{List, [], _∷_, _++_, map}
-use Prim.Native.Nat.{ℕ, zero, suc, _+_, _*_, _-_, _≤_, _<_}
-use native.Mathlib.Omega.{arith}
-use lib.ListN.{length, getD, take, drop, set, length-set}
+use mathlib.Core.Path.{sym, subst}
+use Prim.Native.Nat.{ℕ, _+_, _*_}
+use lib.ListN.{getD}
 use Rattle.monomial.specs.Words.{listIn}
 use Rattle.group.specs.Grouped.{Standing, itemsAt, ToPlace, Places}
 use Rattle.group.proofs.PoolLists.{stands}
 use borrow.Author.Needs.{needs}
 use Rattle.group.proofs.place.place_root.Statement.{statement}
 use Rattle.group.proofs.place.place_root.Tie as tie
-use Rattle.group.proofs.place.place_root.Reads as reads
-use Rattle.group.proofs.place.place_root.Lts as lts
-use Rattle.group.proofs.place.place_list.Reads as place-list-reads
-use Rattle.group.proofs.place.wide.Reads as wide-reads
 
--- src/place.rt:147:24
 mul-wide : tie.Need-mul-wide
 mul-wide c = search needs
 
--- src/place.rt:147:19
 mul-wide-2 : tie.Need-mul-wide-2
 mul-wide-2 c = search needs
 
--- src/place.rt:147:19
 shared-slice-read-wide : tie.Need-shared-slice-read-wide
 shared-slice-read-wide c = search needs
 
--- src/place.rt:147:9
 wide-requires : tie.Need-wide-requires
 wide-requires c κs = search needs
 
--- src/place.rt:148:27
 mul-wide-3 : tie.Need-mul-wide-3
 mul-wide-3 c = search needs
 
--- src/place.rt:148:27
 add-wide : tie.Need-add-wide
 add-wide c = search needs
 
--- src/place.rt:148:22
 mul-wide-4 : tie.Need-mul-wide-4
 mul-wide-4 c = search needs
 
--- src/place.rt:148:22
 shared-slice-read-wide-2 : tie.Need-shared-slice-read-wide-2
 shared-slice-read-wide-2 c = search needs
 
--- src/place.rt:148:9
 wide-requires-2 : tie.Need-wide-requires-2
 wide-requires-2 c κs = search needs
 
--- src/place.rt:149:5
 place-list-requires : tie.Need-place-list-requires
 place-list-requires c κs =
     let a = c .before .before .before .before .before .before .before .before .before .args in
@@ -64,15 +47,12 @@ place-list-requires c κs =
       subst (λ (i : ℕ). Standing (y .result) P i) (sym (x .ensures)) (subst (λ (i : ℕ). Standing i P (getD P (2 * a .node) 0)) (sym (y .ensures)) (stands P (a .node) (p .1))),
     )
 
--- src/place.rt:134:1
 same-length : tie.Need-same-length
 same-length c = search needs
 
--- src/place.rt:134:1
 same-length-2 : tie.Need-same-length-2
 same-length-2 c = search needs
 
--- src/place.rt:134:1
 returns : tie.Need-returns
 returns c =
     let a = c .before .before .before .before .before .before .before .before .before .before .before .before .before .before .args in

@@ -1,57 +1,41 @@
-use mathlib.Core.Path.{_≡_, refl, sym, ap, subst, _∙_}
-use mathlib.Core.Bool.{Bool, true, false, cond}
-use mathlib.Core.List.{List, [], _∷_, _++_, map}
-use Prim.Native.Nat.{ℕ, zero, suc, _+_, _*_, _-_, _≤_, _<_}
+use Prim.Native.Nat.{_*_}
 use native.Mathlib.Omega.{arith}
-use lib.ListN.{length, getD, take, drop, set, length-set}
+use lib.ListN.{length-set}
 use Rattle.group.proofs.Headers.{three-sets}
 use borrow.Author.Needs.{needs}
 use Rattle.group.proofs.place.put_interaction_term.Statement.{statement}
 use Rattle.group.proofs.place.put_interaction_term.Tie as tie
-use Rattle.group.proofs.place.put_interaction_term.Reads as reads
-use Rattle.group.proofs.place.put_interaction_term.Lts as lts
 
--- src/place.rt:36:13
 mul-i : tie.Need-mul-i
 mul-i c = search needs
 
--- src/place.rt:37:5
 mul-terms : tie.Need-mul-terms
 mul-terms c = search needs
 
--- src/place.rt:37:5
 slice-write-terms : tie.Need-slice-write-terms
 slice-write-terms c = search needs
 
--- src/place.rt:38:11
 add-terms : tie.Need-add-terms
 add-terms c = search needs
 
--- src/place.rt:38:5
 mul-terms-2 : tie.Need-mul-terms-2
 mul-terms-2 c = search needs
 
--- src/place.rt:38:5
 slice-write-terms-2 : tie.Need-slice-write-terms-2
 slice-write-terms-2 c = simp length-set (omega arith)
 
--- src/place.rt:39:11
 add-terms-2 : tie.Need-add-terms-2
 add-terms-2 c = search needs
 
--- src/place.rt:39:5
 mul-terms-3 : tie.Need-mul-terms-3
 mul-terms-3 c = search needs
 
--- src/place.rt:39:5
 slice-write-terms-3 : tie.Need-slice-write-terms-3
 slice-write-terms-3 c = simp length-set (omega arith)
 
--- src/place.rt:32:1
 same-length : tie.Need-same-length
 same-length c = search needs
 
--- src/place.rt:32:1
 returns : tie.Need-returns
 returns c = three-sets (c .args .terms .now) (3 * c .args .at) (c .args .coef) (c .args .index) (c .args .field)
 

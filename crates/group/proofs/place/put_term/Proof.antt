@@ -1,48 +1,35 @@
-use mathlib.Core.Path.{_≡_, refl, sym, ap, subst, _∙_}
-use mathlib.Core.Bool.{Bool, true, false, cond}
-use mathlib.Core.List.{List, [], _∷_, _++_, map}
-use Prim.Native.Nat.{ℕ, zero, suc, _+_, _*_, _-_, _≤_, _<_}
-use native.Mathlib.Omega.{arith}
-use lib.ListN.{length, getD, take, drop, set, length-set}
+use mathlib.Core.Path.{subst}
+use mathlib.Core.Bool.{Bool}
+use Prim.Native.Nat.{_+_, _*_, _≤_}
+use lib.ListN.{length}
 use Rattle.group.specs.Grouped.{widthOf}
-use borrow.Author.Tests.{not-true, not-false}
 use Rattle.group.proofs.Placements.{put-interaction, put-constraint}
 use borrow.Author.Needs.{needs}
 use Rattle.group.proofs.place.put_term.Statement.{statement}
 use Rattle.group.proofs.place.put_term.Tie as tie
-use Rattle.group.proofs.place.put_term.Reads as reads
-use Rattle.group.proofs.place.put_term.Lts as lts
-use Rattle.group.proofs.place.put_constraint_term.Reads as put-constraint-term-reads
-use Rattle.group.proofs.place.put_interaction_term.Reads as put-interaction-term-reads
 
--- src/place.rt:55:9
 put-interaction-term-requires : tie.Need-put-interaction-term-requires
 put-interaction-term-requires c κs =
     let a = c .before .before .before .args in
     subst (λ (b : Bool). widthOf b * a .at + widthOf b ≤ length (a .terms .now)) (c .before .if1 .taken) (c .before .before .before .pre)
 
--- src/place.rt:56:9
 same-length : tie.Need-same-length
 same-length c = search needs
 
--- src/place.rt:56:9
 returns : tie.Need-returns
 returns c =
     let a = c .before .before .before .before .before .before .args in
     let u = c .before .before .put-interaction-term in
     put-interaction (a .terms .now) (u .last .0) (a .at) (a .index) (a .field) (a .coef) (a .interaction) (c .before .before .before .before .if1 .taken) (u .ensures)
 
--- src/place.rt:58:5
 put-constraint-term-requires : tie.Need-put-constraint-term-requires
 put-constraint-term-requires c κs =
     let a = c .before .before .before .args in
     subst (λ (b : Bool). widthOf b * a .at + widthOf b ≤ length (a .terms .now)) (c .before .if1 .left) (c .before .before .before .pre)
 
--- src/place.rt:43:1
 same-length-2 : tie.Need-same-length-2
 same-length-2 c = search needs
 
--- src/place.rt:43:1
 returns-2 : tie.Need-returns-2
 returns-2 c =
     let a = c .before .before .before .before .before .before .args in

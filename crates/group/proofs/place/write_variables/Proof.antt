@@ -1,18 +1,14 @@
-use mathlib.Core.Path.{_≡_, refl, sym, ap, subst, _∙_}
-use mathlib.Core.Bool.{Bool, true, false, cond}
-use mathlib.Core.List.{List, [], _∷_, _++_, map}
-use Prim.Native.Nat.{ℕ, zero, suc, _+_, _*_, _-_, _≤_, _<_}
+use mathlib.Core.Path.{sym, ap, _∙_}
+use mathlib.Core.List.{List, _++_}
+use Prim.Native.Nat.{ℕ, _+_, _*_, _-_}
 use native.Mathlib.Omega.{arith}
-use lib.ListN.{length, getD, take, drop, set, length-set}
+use lib.ListN.{getD, take, drop}
 use borrow.Author.Needs.{needs}
-use Rattle.group.specs.Grouped.{tallied, none}
+use Rattle.group.specs.Grouped.{tallied}
 use Rattle.group.proofs.Headers.{tallied-length, vars-at, inside-at}
 use Rattle.group.proofs.RowVariables.{Written, written-none, written-fits, written-more, written-all, vars-long}
 use Rattle.group.proofs.place.write_variables.Statement.{statement}
 use Rattle.group.proofs.place.write_variables.Tie as tie
-use Rattle.group.proofs.place.write_variables.Reads as reads
-use Rattle.group.proofs.place.write_variables.Lts as lts
-use Rattle.group.proofs.place.write_row.Reads as write-row-reads
 
 abbrev Inv-loop : tie.InvT-loop
 Inv-loop headers n pool variables₀ at₀ i₀ variables at i = Written (tallied n headers pool) variables₀ variables at i
@@ -20,11 +16,9 @@ Inv-loop headers n pool variables₀ at₀ i₀ variables at i = Written (tallie
 abbrev μ-loop : tie.MeasureT-loop
 μ-loop headers n pool variables₀ at₀ i₀ variables at i = n - i
 
--- src/place.rt:172:5
 loop-holds : tie.Need-loop-holds Inv-loop μ-loop
 loop-holds c = written-none (tallied (c .before .before .before .args .n) (c .before .before .before .args .headers .now) (c .before .before .before .args .pool .now)) (c .before .before .before .args .variables .now)
 
--- src/place.rt:173:9
 write-row-requires : tie.Need-write-row-requires Inv-loop μ-loop
 write-row-requires c κs =
     let a = c .before .before .before .before .before .before .args in
@@ -40,15 +34,12 @@ write-row-requires c κs =
     let f = written-fits gs (a .variables .now) (b .variables) (b .at) (b .i) (b .inv) (omega arith) (p .1) in
     (omega arith, inside-at (a .n) (b .i) H P (p .0) t .0, omega arith)
 
--- src/place.rt:174:9
 add-i : tie.Need-add-i Inv-loop μ-loop
 add-i c = search needs
 
--- src/place.rt:172:5
 loop-less : tie.Need-loop-less Inv-loop μ-loop
 loop-less c = search needs
 
--- src/place.rt:172:5
 loop-again : tie.Need-loop-again Inv-loop μ-loop
 loop-again c =
     let a = c .before .before .before .before .before .before .before .before .before .args in
@@ -64,11 +55,9 @@ loop-again c =
     written-more gs (a .variables .now) (b .variables) (b .at) (b .i) (b .inv) (omega arith) (u .last .1 .1 .1 .0) (u .result) (getD H (4 * b .i + 2) 0) l (u .ensures .0) (u .kept .1 .1 .1 .0)
     (u .ensures .1 ∙ ap (λ (x : List ℕ). take (b .at) (b .variables) ++ (x ++ drop (b .at + getD H (4 * b .i + 2) 0) (b .variables))) (sym (vars-at (a .n) (b .i) H P t)))
 
--- src/place.rt:166:1
 same-length : tie.Need-same-length Inv-loop μ-loop
 same-length c = c .before .loop .inv .1
 
--- src/place.rt:166:1
 returns : tie.Need-returns Inv-loop μ-loop
 returns c =
     let a = c .before .before .before .before .before .args in

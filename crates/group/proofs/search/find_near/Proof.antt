@@ -3,39 +3,28 @@ use borrow.Author.Needs.{needs}
 use Rattle.group.proofs.Searching.{rows-all, row-asks, row-same, row-before, row-after}
 use Rattle.group.proofs.search.find_near.Statement.{statement}
 use Rattle.group.proofs.search.find_near.Tie as tie
-use Rattle.group.proofs.search.find_near.Reads as reads
-use Rattle.group.proofs.search.find_near.Lts as lts
-use Rattle.group.proofs.search.order_of_row.Reads as order-of-row-reads
-use Rattle.group.proofs.search.search_on.Reads as search-on-reads
-use Rattle.group.proofs.search.search_rows.Reads as search-rows-reads
 
--- src/search.rt:105:9
 search-rows-requires : tie.Need-search-rows-requires
 search-rows-requires c κs =
     let a = c .before .before .before .args in
     let p = c .before .before .before .pre in
     (p .0, p .1, rows-all (a .n) (a .at) (a .headers .now) (a .pool .now))
 
--- src/search.rt:105:9
 returns : tie.Need-returns
 returns c = search needs
 
--- src/search.rt:107:9
 order-of-row-requires : tie.Need-order-of-row-requires
 order-of-row-requires c κs =
     let a = c .before .before .before .args in
     let p = c .before .before .before .pre in
     row-asks (a .n) (a .at) (a .headers .now) (a .pool .now) (p .0) (a .near) (omega arith) (p .1)
 
--- src/search.rt:109:24
 enum-told : tie.Need-enum-told
 enum-told c = search needs
 
--- src/search.rt:110:26
 enum-told-2 : tie.Need-enum-told-2
 enum-told-2 c = search needs
 
--- src/search.rt:110:26
 search-rows-requires-2 : tie.Need-search-rows-requires-2
 search-rows-requires-2 c κs =
     let a = c .before .before .before .before .before .before .args in
@@ -45,15 +34,12 @@ search-rows-requires-2 c κs =
     let b = rows-all (a .n) (a .at) (a .headers .now) (a .pool .now) in
     (p .0, p .1, row-before (a .n) (a .at) (a .headers .now) (a .pool .now) (p .0) (a .near) 0 (a .n) (o .result) b (omega arith) (omega arith) (o .ensures) (c .enum-told2 .given .1))
 
--- src/search.rt:111:47
 enum-told-3 : tie.Need-enum-told-3
 enum-told-3 c = search needs
 
--- src/search.rt:111:47
 add-search-on : tie.Need-add-search-on
 add-search-on c = search needs
 
--- src/search.rt:111:25
 search-on-requires : tie.Need-search-on-requires
 search-on-requires c κs =
     let a = c .before .before .before .before .before .before .args in
@@ -63,7 +49,6 @@ search-on-requires c κs =
     let b = rows-all (a .n) (a .at) (a .headers .now) (a .pool .now) in
     (p .0, p .1, row-after (a .n) (a .at) (a .headers .now) (a .pool .now) (p .0) (a .near) 0 (a .n) (o .result) b (omega arith) (omega arith) (o .ensures) (c .enum-told3 .given .1))
 
--- src/search.rt:100:1
 returns-2 : tie.Need-returns-2
 returns-2 c =
     let a = c .before .before .before .before .before .before .args in
@@ -73,11 +58,9 @@ returns-2 c =
     let b = rows-all (a .n) (a .at) (a .headers .now) (a .pool .now) in
     row-same (a .n) (a .at) (a .headers .now) (a .pool .now) (p .0) (a .near) 0 (a .n) (o .result) b (omega arith) (omega arith) (o .ensures) (c .enum-told .given .1)
 
--- src/search.rt:100:1
 returns-3 : tie.Need-returns-3
 returns-3 c = search needs
 
--- src/search.rt:100:1
 returns-4 : tie.Need-returns-4
 returns-4 c = search needs
 

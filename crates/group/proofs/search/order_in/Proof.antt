@@ -2,13 +2,11 @@ use mathlib.Core.Path.{_≡_, refl}
 use Prim.Native.Nat.{_-_, _≤_}
 use native.Mathlib.Omega.{arith}
 use borrow.Author.Needs.{needs}
-use lib.ListN.{length, take, drop, length-drop}
+use lib.ListN.{take, drop, length-drop}
 use lib.Seq.{getD-drop}
 use Rattle.monomial.proofs.Orderings.{alike-more, at-shorter, at-longer, at-same, at-less, at-more}
 use Rattle.group.proofs.search.order_in.Statement.{statement}
 use Rattle.group.proofs.search.order_in.Tie as tie
-use Rattle.group.proofs.search.order_in.Reads as reads
-use Rattle.group.proofs.search.order_in.Lts as lts
 
 abbrev Inv-loop : tie.InvT-loop
 Inv-loop pool at n from m i₀ i = (i ≤ n) × (n ≡ m) × (take i (drop at pool) ≡ take i (drop from pool))
@@ -16,7 +14,6 @@ Inv-loop pool at n from m i₀ i = (i ≤ n) × (n ≡ m) × (take i (drop at po
 abbrev μ-loop : tie.MeasureT-loop
 μ-loop pool at n from m i₀ i = n - i
 
--- src/search.rt:23:9
 returns : tie.Need-returns Inv-loop μ-loop
 returns c =
     let a = c .before .args in
@@ -25,7 +22,6 @@ returns c =
     let e = length-drop (a .from) P in
     at-shorter (drop (a .at) P) (drop (a .from) P) (a .n) (a .m) (omega arith) (omega arith) (omega arith)
 
--- src/search.rt:26:9
 returns-2 : tie.Need-returns-2 Inv-loop μ-loop
 returns-2 c =
     let a = c .before .before .args in
@@ -34,35 +30,27 @@ returns-2 c =
     let e = length-drop (a .from) P in
     at-longer (drop (a .at) P) (drop (a .from) P) (a .n) (a .m) (omega arith) (omega arith) (omega arith)
 
--- src/search.rt:29:5
 loop-holds : tie.Need-loop-holds Inv-loop μ-loop
 loop-holds c = (search needs, omega arith, refl)
 
--- src/search.rt:30:22
 add-x : tie.Need-add-x Inv-loop μ-loop
 add-x c = search needs
 
--- src/search.rt:30:17
 mul-x : tie.Need-mul-x Inv-loop μ-loop
 mul-x c = search needs
 
--- src/search.rt:30:17
 shared-slice-read-x : tie.Need-shared-slice-read-x Inv-loop μ-loop
 shared-slice-read-x c = search needs
 
--- src/search.rt:31:22
 add-y : tie.Need-add-y Inv-loop μ-loop
 add-y c = search needs
 
--- src/search.rt:31:17
 mul-y : tie.Need-mul-y Inv-loop μ-loop
 mul-y c = search needs
 
--- src/search.rt:31:17
 shared-slice-read-y : tie.Need-shared-slice-read-y Inv-loop μ-loop
 shared-slice-read-y c = search needs
 
--- src/search.rt:33:13
 returns-3 : tie.Need-returns-3 Inv-loop μ-loop
 returns-3 c =
     let a = c .before .before .before .before .before .before .before .args in
@@ -75,7 +63,6 @@ returns-3 c =
     let y = getD-drop (a .from) P (b .i) 0 in
     at-less (drop (a .at) P) (drop (a .from) P) (a .n) (a .m) (omega arith) (omega arith) (h .1) (b .i) (omega arith) (h .2) (omega arith)
 
--- src/search.rt:36:13
 returns-4 : tie.Need-returns-4 Inv-loop μ-loop
 returns-4 c =
     let a = c .before .before .before .before .before .before .before .before .args in
@@ -88,15 +75,12 @@ returns-4 c =
     let y = getD-drop (a .from) P (b .i) 0 in
     at-more (drop (a .at) P) (drop (a .from) P) (a .n) (a .m) (omega arith) (omega arith) (h .1) (b .i) (omega arith) (h .2) (omega arith)
 
--- src/search.rt:38:9
 add-i : tie.Need-add-i Inv-loop μ-loop
 add-i c = search needs
 
--- src/search.rt:29:5
 loop-less : tie.Need-loop-less Inv-loop μ-loop
 loop-less c = search needs
 
--- src/search.rt:29:5
 loop-again : tie.Need-loop-again Inv-loop μ-loop
 loop-again c =
     let a = c .before .before .before .before .before .before .before .before .args in
@@ -109,7 +93,6 @@ loop-again c =
     let y = getD-drop (a .from) P (b .i) 0 in
     (omega arith, h .1, alike-more (drop (a .at) P) (drop (a .from) P) (b .i) (omega arith) (omega arith) (h .2) (omega arith))
 
--- src/search.rt:18:1
 returns-5 : tie.Need-returns-5 Inv-loop μ-loop
 returns-5 c =
     let a = c .before .before .before .before .args in

@@ -2,68 +2,49 @@ use borrow.Author.Needs.{needs}
 use Rattle.group.proofs.Searching.{order-read}
 use Rattle.group.proofs.search.order_of_row.Statement.{statement}
 use Rattle.group.proofs.search.order_of_row.Tie as tie
-use Rattle.group.proofs.search.order_of_row.Reads as reads
-use Rattle.group.proofs.search.order_of_row.Lts as lts
-use Rattle.group.proofs.search.order_in.Reads as order-in-reads
-use Rattle.group.proofs.search.wide.Reads as wide-reads
 
--- src/search.rt:48:15
 mul-row : tie.Need-mul-row
 mul-row c = search needs
 
--- src/search.rt:51:9
 add-order-in : tie.Need-add-order-in
 add-order-in c = search needs
 
--- src/search.rt:52:14
 mul-wide : tie.Need-mul-wide
 mul-wide c = search needs
 
--- src/search.rt:52:14
 shared-slice-read-wide : tie.Need-shared-slice-read-wide
 shared-slice-read-wide c = search needs
 
--- src/search.rt:52:9
 wide-requires : tie.Need-wide-requires
 wide-requires c κs = search needs
 
--- src/search.rt:53:14
 mul-wide-2 : tie.Need-mul-wide-2
 mul-wide-2 c = search needs
 
--- src/search.rt:53:14
 shared-slice-read-wide-2 : tie.Need-shared-slice-read-wide-2
 shared-slice-read-wide-2 c = search needs
 
--- src/search.rt:53:9
 wide-requires-2 : tie.Need-wide-requires-2
 wide-requires-2 c κs = search needs
 
--- src/search.rt:53:9
 add-order-in-2 : tie.Need-add-order-in-2
 add-order-in-2 c = search needs
 
--- src/search.rt:54:22
 add-wide : tie.Need-add-wide
 add-wide c = search needs
 
--- src/search.rt:54:14
 mul-wide-3 : tie.Need-mul-wide-3
 mul-wide-3 c = search needs
 
--- src/search.rt:54:14
 shared-slice-read-wide-3 : tie.Need-shared-slice-read-wide-3
 shared-slice-read-wide-3 c = search needs
 
--- src/search.rt:54:9
 wide-requires-3 : tie.Need-wide-requires-3
 wide-requires-3 c κs = search needs
 
--- src/search.rt:49:5
 order-in-requires : tie.Need-order-in-requires
 order-in-requires c κs = search needs
 
--- src/search.rt:44:1
 returns : tie.Need-returns
 returns c =
     let a = c .before .before .before .before .before .before .before .before .before .args in

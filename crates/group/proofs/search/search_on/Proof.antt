@@ -1,4 +1,4 @@
-use Prim.Native.Nat.{ℕ, _+_, _-_, _<_}
+use Prim.Native.Nat.{ℕ, _+_, _-_}
 use native.Mathlib.Omega.{arith}
 use borrow.Author.Needs.{needs}
 use Rattle.group.specs.Grouped.{tallied, Between}
@@ -6,10 +6,6 @@ use Rattle.group.specs.Waiting.{varsAt}
 use Rattle.group.proofs.Searching.{row-asks, row-same, row-before, row-after}
 use Rattle.group.proofs.search.search_on.Statement.{statement}
 use Rattle.group.proofs.search.search_on.Tie as tie
-use Rattle.group.proofs.search.search_on.Reads as reads
-use Rattle.group.proofs.search.search_on.Lts as lts
-use Rattle.group.proofs.search.order_of_row.Reads as order-of-row-reads
-use Rattle.group.proofs.search.search_rows.Reads as search-rows-reads
 
 abbrev Inv-loop : tie.InvT-loop
 Inv-loop headers n from pool at low₀ step₀ low step = Between (varsAt pool at) (tallied n headers pool) low n
@@ -17,21 +13,17 @@ Inv-loop headers n from pool at low₀ step₀ low step = Between (varsAt pool a
 abbrev μ-loop : tie.MeasureT-loop
 μ-loop headers n from pool at low₀ step₀ low step = n - low
 
--- src/search.rt:84:5
 loop-holds : tie.Need-loop-holds Inv-loop μ-loop
 loop-holds c = c .before .before .pre .2
 
--- src/search.rt:84:18
 sub-loop : tie.Need-sub-loop Inv-loop μ-loop
 sub-loop c = c .loop .inv .0
 
--- src/search.rt:85:17
 add-k : tie.Need-add-k Inv-loop μ-loop
 add-k c =
     let r = c .before .before .before .before .pre .0 .room in
     search needs
 
--- src/search.rt:86:13
 order-of-row-requires : tie.Need-order-of-row-requires Inv-loop μ-loop
 order-of-row-requires c κs =
     let a = c .before .before .before .before .args in
@@ -41,11 +33,9 @@ order-of-row-requires c κs =
     let t = c .loop-test .taken in
     row-asks (a .n) (a .at) (a .headers .now) (a .pool .now) (p .0) k (omega arith) (p .1)
 
--- src/search.rt:88:28
 enum-told : tie.Need-enum-told Inv-loop μ-loop
 enum-told c = search needs
 
--- src/search.rt:88:28
 returns : tie.Need-returns Inv-loop μ-loop
 returns c =
     let a = c .before .before .before .before .before .before .before .args in
@@ -56,11 +46,9 @@ returns c =
     let o = c .before .before .order-of-row in
     row-same (a .n) (a .at) (a .headers .now) (a .pool .now) (p .0) k (b .low) (a .n) (o .result) (b .inv) (omega arith) (omega arith) (o .ensures) (c .enum-told .given .1)
 
--- src/search.rt:89:30
 enum-told-2 : tie.Need-enum-told-2 Inv-loop μ-loop
 enum-told-2 c = search needs
 
--- src/search.rt:89:30
 search-rows-requires : tie.Need-search-rows-requires Inv-loop μ-loop
 search-rows-requires c κs =
     let a = c .before .before .before .before .before .before .before .args in
@@ -71,33 +59,27 @@ search-rows-requires c κs =
     let o = c .before .before .order-of-row in
     (p .0, p .1, row-before (a .n) (a .at) (a .headers .now) (a .pool .now) (p .0) k (b .low) (a .n) (o .result) (b .inv) (omega arith) (omega arith) (o .ensures) (c .enum-told2 .given .1))
 
--- src/search.rt:89:30
 returns-2 : tie.Need-returns-2 Inv-loop μ-loop
 returns-2 c = c .search-rows .ensures
 
--- src/search.rt:91:23
 enum-told-3 : tie.Need-enum-told-3 Inv-loop μ-loop
 enum-told-3 c = search needs
 
--- src/search.rt:91:23
 add-low : tie.Need-add-low Inv-loop μ-loop
 add-low c =
     let r = c .before .before .before .before .before .before .before .pre .0 .room in
     let t = c .before .before .before .loop-test .taken in
     search needs
 
--- src/search.rt:92:24
 mul-step : tie.Need-mul-step Inv-loop μ-loop
 mul-step c =
     let r = c .before .before .before .before .before .before .before .pre .0 .room in
     let t = c .before .before .before .loop-test .taken in
     search needs
 
--- src/search.rt:84:5
 loop-less : tie.Need-loop-less Inv-loop μ-loop
 loop-less c = omega (arith, c .before .before .before .loop-test .taken)
 
--- src/search.rt:84:5
 loop-again : tie.Need-loop-again Inv-loop μ-loop
 loop-again c =
     let a = c .before .before .before .before .before .before .before .args in
@@ -108,13 +90,11 @@ loop-again c =
     let o = c .before .before .order-of-row in
     row-after (a .n) (a .at) (a .headers .now) (a .pool .now) (p .0) k (b .low) (a .n) (o .result) (b .inv) (omega arith) (omega arith) (o .ensures) (c .enum-told3 .given .1)
 
--- src/search.rt:96:5
 search-rows-requires-2 : tie.Need-search-rows-requires-2 Inv-loop μ-loop
 search-rows-requires-2 c κs =
     let p = c .before .before .before .before .pre in
     (p .0, p .1, c .before .loop .inv)
 
--- src/search.rt:78:1
 returns-3 : tie.Need-returns-3 Inv-loop μ-loop
 returns-3 c = c .search-rows2 .ensures
 

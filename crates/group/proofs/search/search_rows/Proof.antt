@@ -8,9 +8,6 @@ use Rattle.group.specs.Waiting.{varsAt}
 use Rattle.group.proofs.Searching.{row-asks, row-same, row-before, row-after}
 use Rattle.group.proofs.search.search_rows.Statement.{statement}
 use Rattle.group.proofs.search.search_rows.Tie as tie
-use Rattle.group.proofs.search.search_rows.Reads as reads
-use Rattle.group.proofs.search.search_rows.Lts as lts
-use Rattle.group.proofs.search.order_of_row.Reads as order-of-row-reads
 
 abbrev Inv-loop : tie.InvT-loop
 Inv-loop headers n from to pool at low₀ high₀ low high = Between (varsAt pool at) (tallied n headers pool) low high
@@ -18,22 +15,18 @@ Inv-loop headers n from to pool at low₀ high₀ low high = Between (varsAt poo
 abbrev μ-loop : tie.MeasureT-loop
 μ-loop headers n from to pool at low₀ high₀ low high = high - low
 
--- src/search.rt:65:5
 loop-holds : tie.Need-loop-holds Inv-loop μ-loop
 loop-holds c = c .before .before .pre .2
 
--- src/search.rt:66:26
 sub-mid : tie.Need-sub-mid Inv-loop μ-loop
 sub-mid c = c .before .loop .inv .0
 
--- src/search.rt:66:19
 add-mid : tie.Need-add-mid Inv-loop μ-loop
 add-mid c =
     let a = c .before .before .before .before .args in
     let e = tallied-length (a .n) (a .headers .now) (a .pool .now) in
     search needs
 
--- src/search.rt:67:13
 order-of-row-requires : tie.Need-order-of-row-requires Inv-loop μ-loop
 order-of-row-requires c κs =
     let a = c .before .before .before .before .args in
@@ -44,11 +37,9 @@ order-of-row-requires c κs =
     let l : mid < a .n = omega (arith, b .inv .1, tallied-length (a .n) (a .headers .now) (a .pool .now)) in
     row-asks (a .n) (a .at) (a .headers .now) (a .pool .now) (p .0) mid l (p .1)
 
--- src/search.rt:69:28
 enum-told : tie.Need-enum-told Inv-loop μ-loop
 enum-told c = search needs
 
--- src/search.rt:69:28
 returns : tie.Need-returns Inv-loop μ-loop
 returns c =
     let a = c .before .before .before .before .before .before .before .args in
@@ -59,15 +50,12 @@ returns c =
     let o = c .before .before .order-of-row in
     row-same (a .n) (a .at) (a .headers .now) (a .pool .now) (p .0) mid (b .low) (b .high) (o .result) (b .inv) (omega arith) (omega arith) (o .ensures) (c .enum-told .given .1)
 
--- src/search.rt:70:30
 enum-told-2 : tie.Need-enum-told-2 Inv-loop μ-loop
 enum-told-2 c = search needs
 
--- src/search.rt:65:5
 loop-less : tie.Need-loop-less Inv-loop μ-loop
 loop-less c = omega (arith, c .before .before .before .loop-test .taken)
 
--- src/search.rt:65:5
 loop-again : tie.Need-loop-again Inv-loop μ-loop
 loop-again c =
     let a = c .before .before .before .before .before .before .before .args in
@@ -78,11 +66,9 @@ loop-again c =
     let o = c .before .before .order-of-row in
     row-before (a .n) (a .at) (a .headers .now) (a .pool .now) (p .0) mid (b .low) (b .high) (o .result) (b .inv) (omega arith) (omega arith) (o .ensures) (c .enum-told2 .given .1)
 
--- src/search.rt:71:35
 enum-told-3 : tie.Need-enum-told-3 Inv-loop μ-loop
 enum-told-3 c = search needs
 
--- src/search.rt:71:35
 add-low : tie.Need-add-low Inv-loop μ-loop
 add-low c =
     let a = c .before .before .before .before .before .before .before .args in
@@ -90,11 +76,9 @@ add-low c =
     let t = c .before .before .before .loop-test .taken in
     search needs
 
--- src/search.rt:65:5
 loop-less-2 : tie.Need-loop-less-2 Inv-loop μ-loop
 loop-less-2 c = omega (arith, c .before .before .before .loop-test .taken)
 
--- src/search.rt:65:5
 loop-again-2 : tie.Need-loop-again-2 Inv-loop μ-loop
 loop-again-2 c =
     let a = c .before .before .before .before .before .before .before .args in
@@ -105,7 +89,6 @@ loop-again-2 c =
     let o = c .before .before .order-of-row in
     row-after (a .n) (a .at) (a .headers .now) (a .pool .now) (p .0) mid (b .low) (b .high) (o .result) (b .inv) (omega arith) (omega arith) (o .ensures) (c .enum-told3 .given .1)
 
--- src/search.rt:59:1
 returns-2 : tie.Need-returns-2 Inv-loop μ-loop
 returns-2 c =
     let a = c .before .before .before .before .args in

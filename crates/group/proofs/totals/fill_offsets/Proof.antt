@@ -3,22 +3,16 @@ use Rattle.group.proofs.RowOffsets.{vars-total, terms-total, filled-row
 use borrow.Author.Needs.{needs}
 use Rattle.group.proofs.totals.fill_offsets.Statement.{statement}
 use Rattle.group.proofs.totals.fill_offsets.Tie as tie
-use Rattle.group.proofs.totals.fill_offsets.Reads as reads
-use Rattle.group.proofs.totals.fill_offsets.Lts as lts
-use Rattle.header_offsets.proofs.words.fill_words.Reads as fill-words-reads
 
--- src/totals.rt:66:5
 fill-words-requires : tie.Need-fill-words-requires
 fill-words-requires c κs =
     let a = c .before .before .args in
     let p = c .before .before .pre in
     (p .0, omega (arith, p .1, vars-total (a .n) (a .headers .now)), omega (arith, p .2, terms-total (a .n) (a .headers .now)))
 
--- src/totals.rt:62:1
 same-length : tie.Need-same-length
 same-length c = search needs
 
--- src/totals.rt:62:1
 returns : tie.Need-returns
 returns c =
     let u = c .before .before .fill-words in

@@ -4,8 +4,6 @@ use borrow.Author.Needs.{needs}
 use Rattle.group.proofs.RowTotals.{Running, running-start, running-small, running-step, running-done}
 use Rattle.group.proofs.totals.start_terms.Statement.{statement}
 use Rattle.group.proofs.totals.start_terms.Tie as tie
-use Rattle.group.proofs.totals.start_terms.Reads as reads
-use Rattle.group.proofs.totals.start_terms.Lts as lts
 
 abbrev Inv-loop : tie.InvT-loop
 Inv-loop headers₀ n total₀ i₀ headers total i = Running headers₀ n 1 3 headers total i
@@ -13,11 +11,9 @@ Inv-loop headers₀ n total₀ i₀ headers total i = Running headers₀ n 1 3 h
 abbrev μ-loop : tie.MeasureT-loop
 μ-loop headers₀ n total₀ i₀ headers total i = n - i
 
--- src/totals.rt:52:5
 loop-holds : tie.Need-loop-holds Inv-loop μ-loop
 loop-holds c = running-start (c .args .headers .now) (c .args .n) 1 3
 
--- src/totals.rt:53:19
 mul-row : tie.Need-mul-row Inv-loop μ-loop
 mul-row c =
     let p = c .before .before .pre in
@@ -26,7 +22,6 @@ mul-row c =
     let t = c .loop-test .taken in
     search needs
 
--- src/totals.rt:54:29
 add-terms : tie.Need-add-terms Inv-loop μ-loop
 add-terms c =
     let p = c .before .before .pre in
@@ -35,7 +30,6 @@ add-terms c =
     let t = c .loop-test .taken in
     search needs
 
--- src/totals.rt:54:21
 mul-terms : tie.Need-mul-terms Inv-loop μ-loop
 mul-terms c =
     let p = c .before .before .pre in
@@ -44,7 +38,6 @@ mul-terms c =
     let t = c .loop-test .taken in
     search needs
 
--- src/totals.rt:54:21
 slice-read-terms : tie.Need-slice-read-terms Inv-loop μ-loop
 slice-read-terms c =
     let p = c .before .before .before .pre in
@@ -53,7 +46,6 @@ slice-read-terms c =
     let t = c .before .loop-test .taken in
     omega arith
 
--- src/totals.rt:55:17
 add-headers : tie.Need-add-headers Inv-loop μ-loop
 add-headers c =
     let p = c .before .before .before .pre in
@@ -62,7 +54,6 @@ add-headers c =
     let t = c .before .loop-test .taken in
     search needs
 
--- src/totals.rt:55:9
 mul-headers : tie.Need-mul-headers Inv-loop μ-loop
 mul-headers c =
     let p = c .before .before .before .pre in
@@ -71,7 +62,6 @@ mul-headers c =
     let t = c .before .loop-test .taken in
     search needs
 
--- src/totals.rt:55:9
 slice-write-headers : tie.Need-slice-write-headers Inv-loop μ-loop
 slice-write-headers c =
     let p = c .before .before .before .pre in
@@ -80,7 +70,6 @@ slice-write-headers c =
     let t = c .before .loop-test .taken in
     omega arith
 
--- src/totals.rt:56:9
 add-total : tie.Need-add-total Inv-loop μ-loop
 add-total c =
     let a = c .before .before .before .args in
@@ -91,7 +80,6 @@ add-total c =
     let q = running-small (a .headers .now) (a .n) 1 3 (b .headers) (b .total) (b .i) (b .inv) t (omega arith) in
     search needs
 
--- src/totals.rt:57:9
 add-i : tie.Need-add-i Inv-loop μ-loop
 add-i c =
     let p = c .before .before .before .pre in
@@ -100,11 +88,9 @@ add-i c =
     let t = c .before .loop-test .taken in
     search needs
 
--- src/totals.rt:52:5
 loop-less : tie.Need-loop-less Inv-loop μ-loop
 loop-less c = search needs
 
--- src/totals.rt:52:5
 loop-again : tie.Need-loop-again Inv-loop μ-loop
 loop-again c =
     let a = c .before .before .before .args in
@@ -113,11 +99,9 @@ loop-again c =
     let t = c .before .loop-test .taken in
     running-step (a .headers .now) (a .n) 1 3 (b .headers) (b .total) (b .i) (b .inv) t (omega arith) (omega arith) (p .0)
 
--- src/totals.rt:46:1
 same-length : tie.Need-same-length Inv-loop μ-loop
 same-length c = c .before .loop .inv .long
 
--- src/totals.rt:46:1
 returns : tie.Need-returns Inv-loop μ-loop
 returns c =
     let a = c .before .before .args in

@@ -2,54 +2,40 @@ use borrow.Author.Needs.{needs}
 use Rattle.header_offsets.proofs.HeaderWords.{header-read}
 use Rattle.header_offsets.proofs.words.header_at.Statement.{statement}
 use Rattle.header_offsets.proofs.words.header_at.Tie as tie
-use Rattle.header_offsets.proofs.words.header_at.Reads as reads
-use Rattle.header_offsets.proofs.words.header_at.Lts as lts
 
--- src/words.rt:21:21
 mul-t3 : tie.Need-mul-t3
 mul-t3 c = search needs
 
--- src/words.rt:21:21
 shared-slice-read-t5 : tie.Need-shared-slice-read-t5
 shared-slice-read-t5 c = search needs
 
--- src/words.rt:22:28
 add-t6 : tie.Need-add-t6
 add-t6 c = search needs
 
--- src/words.rt:22:22
 mul-t7 : tie.Need-mul-t7
 mul-t7 c = search needs
 
--- src/words.rt:22:22
 shared-slice-read-t9 : tie.Need-shared-slice-read-t9
 shared-slice-read-t9 c = search needs
 
--- src/words.rt:23:25
 add-t10 : tie.Need-add-t10
 add-t10 c = search needs
 
--- src/words.rt:23:19
 mul-t11 : tie.Need-mul-t11
 mul-t11 c = search needs
 
--- src/words.rt:23:19
 shared-slice-read-t13 : tie.Need-shared-slice-read-t13
 shared-slice-read-t13 c = search needs
 
--- src/words.rt:24:26
 add-t14 : tie.Need-add-t14
 add-t14 c = search needs
 
--- src/words.rt:24:20
 mul-t15 : tie.Need-mul-t15
 mul-t15 c = search needs
 
--- src/words.rt:24:20
 shared-slice-read-t17 : tie.Need-shared-slice-read-t17
 shared-slice-read-t17 c = search needs
 
--- src/words.rt:16:1
 returns : tie.Need-returns
 returns c = let a = c .before .before .before .before .args in header-read (a .words .now) (a .at)
 

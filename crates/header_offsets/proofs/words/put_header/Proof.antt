@@ -4,58 +4,43 @@ use borrow.Author.Needs.{needs}
 use Rattle.header_offsets.proofs.HeaderWords.{header-stored}
 use Rattle.header_offsets.proofs.words.put_header.Statement.{statement}
 use Rattle.header_offsets.proofs.words.put_header.Tie as tie
-use Rattle.header_offsets.proofs.words.put_header.Reads as reads
-use Rattle.header_offsets.proofs.words.put_header.Lts as lts
 
--- src/words.rt:32:5
 mul-words : tie.Need-mul-words
 mul-words c = search needs
 
--- src/words.rt:32:5
 slice-write-words : tie.Need-slice-write-words
 slice-write-words c = search needs
 
--- src/words.rt:33:11
 add-words : tie.Need-add-words
 add-words c = search needs
 
--- src/words.rt:33:5
 mul-words-2 : tie.Need-mul-words-2
 mul-words-2 c = search needs
 
--- src/words.rt:33:5
 slice-write-words-2 : tie.Need-slice-write-words-2
 slice-write-words-2 c = simp length-set (omega arith)
 
--- src/words.rt:34:11
 add-words-2 : tie.Need-add-words-2
 add-words-2 c = search needs
 
--- src/words.rt:34:5
 mul-words-3 : tie.Need-mul-words-3
 mul-words-3 c = search needs
 
--- src/words.rt:34:5
 slice-write-words-3 : tie.Need-slice-write-words-3
 slice-write-words-3 c = simp length-set (omega arith)
 
--- src/words.rt:35:11
 add-words-3 : tie.Need-add-words-3
 add-words-3 c = search needs
 
--- src/words.rt:35:5
 mul-words-4 : tie.Need-mul-words-4
 mul-words-4 c = search needs
 
--- src/words.rt:35:5
 slice-write-words-4 : tie.Need-slice-write-words-4
 slice-write-words-4 c = simp length-set (omega arith)
 
--- src/words.rt:28:1
 same-length : tie.Need-same-length
 same-length c = search needs
 
--- src/words.rt:28:1
 returns : tie.Need-returns
 returns c = header-stored (c .args .words .now) (c .args .at) (c .args .header) (c .pre)
 

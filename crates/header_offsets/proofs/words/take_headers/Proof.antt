@@ -1,6 +1,6 @@
 use mathlib.Core.Path.{_≡_, sym, ap, _∙_}
 use mathlib.Core.List.{List, _++_}
-use Prim.Native.Nat.{ℕ, _+_, _*_, _-_, _≤_}
+use Prim.Native.Nat.{ℕ, _*_, _-_, _≤_}
 use native.Mathlib.Omega.{arith}
 use borrow.Author.Needs.{needs}
 use lib.ListN.{drop, set, replicate}
@@ -10,9 +10,6 @@ use Rattle.header_offsets.specs.Headers.{noHeader, headerIn, headersIn}
 use Rattle.header_offsets.proofs.HeaderWords.{Taken, taken-none, taken-length, taken-next}
 use Rattle.header_offsets.proofs.words.take_headers.Statement.{statement}
 use Rattle.header_offsets.proofs.words.take_headers.Tie as tie
-use Rattle.header_offsets.proofs.words.take_headers.Reads as reads
-use Rattle.header_offsets.proofs.words.take_headers.Lts as lts
-use Rattle.header_offsets.proofs.words.header_at.Reads as header-at-reads
 
 abbrev Inv-loop : tie.InvT-loop
 Inv-loop words at k headers₀ j₀ headers j = (j ≤ k) × Taken (drop at words) j headers
@@ -20,27 +17,21 @@ Inv-loop words at k headers₀ j₀ headers j = (j ≤ k) × Taken (drop at word
 abbrev μ-loop : tie.MeasureT-loop
 μ-loop words at k headers₀ j₀ headers j = k - j
 
--- src/words.rt:51:5
 loop-holds : tie.Need-loop-holds Inv-loop μ-loop
 loop-holds c = (omega arith, taken-none (drop (c .before .args .at) (c .before .args .words .now)))
 
--- src/words.rt:52:44
 mul-header-at : tie.Need-mul-header-at Inv-loop μ-loop
 mul-header-at c = search needs
 
--- src/words.rt:52:39
 add-header-at : tie.Need-add-header-at Inv-loop μ-loop
 add-header-at c = search needs
 
--- src/words.rt:52:22
 header-at-requires : tie.Need-header-at-requires Inv-loop μ-loop
 header-at-requires c κs = search needs
 
--- src/words.rt:52:9
 mul-headers : tie.Need-mul-headers Inv-loop μ-loop
 mul-headers c = search needs
 
--- src/words.rt:52:9
 array-set-from-headers : tie.Need-array-set-from-headers Inv-loop μ-loop
 array-set-from-headers c =
     let a = c .before .before .before .before .args in
@@ -49,15 +40,12 @@ array-set-from-headers c =
     let l = taken-length (drop (a .at) (a .words .now)) (b .j) (b .headers) (b .inv .1) (omega arith) in
     search needs
 
--- src/words.rt:53:9
 add-j : tie.Need-add-j Inv-loop μ-loop
 add-j c = search needs
 
--- src/words.rt:51:5
 loop-less : tie.Need-loop-less Inv-loop μ-loop
 loop-less c = search needs
 
--- src/words.rt:51:5
 loop-again : tie.Need-loop-again Inv-loop μ-loop
 loop-again c =
     let a = c .before .before .before .before .args in
@@ -68,7 +56,6 @@ loop-again c =
     let e = c .header-at .ensures ∙ ap headerIn (sym (drop-drop (4 * b .j) (a .at) (a .words .now))) in
     (omega arith, ap (λ (h : MonomialHeader). set (b .headers) (b .j) h) e ∙ taken-next ws (b .j) (b .headers) (b .inv .1) (omega arith))
 
--- src/words.rt:39:1
 returns : tie.Need-returns Inv-loop μ-loop
 returns c =
     let a = c .before .before .before .args in

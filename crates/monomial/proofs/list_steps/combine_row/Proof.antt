@@ -14,11 +14,6 @@ use Rattle.monomial.proofs.Summing.{Adding, adding-none, adding-more, a
 use Rattle.monomial.proofs.Products.{short-first, short-rest, short-all, first-short}
 use Rattle.monomial.proofs.list_steps.combine_row.Statement.{statement}
 use Rattle.monomial.proofs.list_steps.combine_row.Tie as tie
-use Rattle.monomial.proofs.list_steps.combine_row.Reads as reads
-use Rattle.monomial.proofs.list_steps.combine_row.Lts as lts
-use Rattle.monomial.proofs.lists.combine_like_terms.Reads as combine-like-terms-reads
-use Rattle.monomial.proofs.list_steps.monomial_in.Reads as monomial-in-reads
-use Rattle.monomial.proofs.multiply.Reads as multiply-reads
 
 abbrev Inv-loop : tie.InvT-loop
 Inv-loop work₀ count pool left at m total₀ from₀ i₀ work total from i = Adding (mulMonomial prime (monomialOf left)) pool at m count work₀ work total from i × (longestOf (listIn pool from (m - i)) ≤ longestOf (listIn pool at m))
@@ -26,13 +21,11 @@ Inv-loop work₀ count pool left at m total₀ from₀ i₀ work total from i = 
 abbrev μ-loop : tie.MeasureT-loop
 μ-loop work₀ count pool left at m total₀ from₀ i₀ work total from i = m - i
 
--- src/list_steps.rt:75:5
 loop-holds : tie.Need-loop-holds Inv-loop μ-loop
 loop-holds c =
     let a = c .before .before .args in
     (adding-none (mulMonomial prime (monomialOf (a .left))) (a .pool .now) (a .at) (a .m) (a .count) (a .work .now) (c .before .before .pre .1) (c .before .before .pre .2), short-all (a .pool .now) (a .at) (a .m))
 
--- src/list_steps.rt:76:13
 monomial-in-requires : tie.Need-monomial-in-requires Inv-loop μ-loop
 monomial-in-requires c κs =
     let a = c .before .before .before .before .args in
@@ -40,7 +33,6 @@ monomial-in-requires c κs =
     let f = left-front (a .pool .now) (b .from) (a .m) (b .i) (omega arith) (b .inv .0 .left) in
     (omega (arith, f .room), f .short)
 
--- src/list_steps.rt:78:49
 multiply-requires : tie.Need-multiply-requires Inv-loop μ-loop
 multiply-requires c κs =
     let a = c .before .before .before .before .before .before .args in
@@ -50,7 +42,6 @@ multiply-requires c κs =
     let k = short-first (a .pool .now) (b .from) (a .m) (b .i) (longestOf (listIn (a .pool .now) (a .at) (a .m))) (omega arith) (b .inv .1) in
     (omega (arith, k, r .ensures .1, c .before .before .before .before .before .before .pre .5), c .before .before .before .before .before .before .pre .4 .sorted, subst (λ (x : semantics.Monomial). Sorted above (x .vars)) (sym (r .ensures .0)) (f .one .sorted))
 
--- src/list_steps.rt:78:9
 combine-like-terms-requires : tie.Need-combine-like-terms-requires Inv-loop μ-loop
 combine-like-terms-requires c κs =
     let a = c .before .before .before .before .before .before .before .args in
@@ -63,7 +54,6 @@ combine-like-terms-requires c κs =
       subst Fits (sym (c .multiply .ensures .0)) (fits-product (monomialOf (a .left)) (monomialOf (r .result)) (omega (arith, k, r .ensures .1, c .before .before .before .before .before .before .before .pre .5, first-short (a .left .count) (nums (a .left .vars)), first-short (r .result .count) (nums (r .result .vars))))),
     )
 
--- src/list_steps.rt:79:16
 add-from : tie.Need-add-from Inv-loop μ-loop
 add-from c =
     let a = c .before .before .before .before .before .before .before .before .before .before .args in
@@ -72,7 +62,6 @@ add-from c =
     let h : b .from + 2 + c .before .before .before .before .before .monomial-in .result .count ≤ length (a .pool .now) = omega (arith, f .room, c .before .before .before .before .before .monomial-in .ensures .1) in
     search needs
 
--- src/list_steps.rt:79:16
 add-from-2 : tie.Need-add-from-2 Inv-loop μ-loop
 add-from-2 c =
     let a = c .before .before .before .before .before .before .before .before .before .before .args in
@@ -81,15 +70,12 @@ add-from-2 c =
     let h : b .from + 2 + c .before .before .before .before .before .monomial-in .result .count ≤ length (a .pool .now) = omega (arith, f .room, c .before .before .before .before .before .monomial-in .ensures .1) in
     search needs
 
--- src/list_steps.rt:80:9
 add-i : tie.Need-add-i Inv-loop μ-loop
 add-i c = search needs
 
--- src/list_steps.rt:75:5
 loop-less : tie.Need-loop-less Inv-loop μ-loop
 loop-less c = search needs
 
--- src/list_steps.rt:75:5
 loop-again : tie.Need-loop-again Inv-loop μ-loop
 loop-again c =
     let a = c .before .before .before .before .before .before .before .before .before .before .args in
@@ -105,11 +91,9 @@ loop-again c =
       short-rest (a .pool .now) (b .from) (a .m) (b .i) (longestOf (listIn (a .pool .now) (a .at) (a .m))) (omega arith) (b .inv .1) (r .result .count) (r .ensures .1),
     )
 
--- src/list_steps.rt:61:1
 same-length : tie.Need-same-length Inv-loop μ-loop
 same-length c = c .before .loop .inv .0 .length-is
 
--- src/list_steps.rt:61:1
 returns : tie.Need-returns Inv-loop μ-loop
 returns c =
     let a = c .before .before .before .before .args in

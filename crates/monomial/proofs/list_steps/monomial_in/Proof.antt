@@ -11,9 +11,6 @@ use Rattle.monomial.proofs.ListLaws.{vars-in-is}
 use Rattle.monomial.proofs.Readings.{map-put, alike-more, read-in}
 use Rattle.monomial.proofs.list_steps.monomial_in.Statement.{statement}
 use Rattle.monomial.proofs.list_steps.monomial_in.Tie as tie
-use Rattle.monomial.proofs.list_steps.monomial_in.Reads as reads
-use Rattle.monomial.proofs.list_steps.monomial_in.Lts as lts
-use Rattle.monomial.proofs.list_steps.vars_in.Reads as vars-in-reads
 
 abbrev Inv-loop : tie.InvT-loop
 Inv-loop words at vars₀ count i₀ vars i = (i ≤ count) × (count ≤ 14) × (at + 2 + count ≤ length words) × (length vars ≡ 14) × (take i (nums vars) ≡ take i (drop (at + 2) words))
@@ -21,49 +18,38 @@ Inv-loop words at vars₀ count i₀ vars i = (i ≤ count) × (count ≤ 14) ×
 abbrev μ-loop : tie.MeasureT-loop
 μ-loop words at vars₀ count i₀ vars i = count - i
 
--- src/list_steps.rt:55:9
 vars-in-requires : tie.Need-vars-in-requires Inv-loop μ-loop
 vars-in-requires c κs = c .before .pre .0
 
--- src/list_steps.rt:57:5
 loop-holds : tie.Need-loop-holds Inv-loop μ-loop
 loop-holds c =
     let a = c .before .before .args in
     (search needs, omega (arith, c .vars-in .ensures, c .before .before .pre .1), omega (arith, c .vars-in .ensures, c .before .before .pre .0, vars-in-is (a .words .now) (a .at)), search needs, refl)
 
--- src/list_steps.rt:58:35
 add-t8 : tie.Need-add-t8 Inv-loop μ-loop
 add-t8 c = search needs
 
--- src/list_steps.rt:58:35
 add-t9 : tie.Need-add-t9 Inv-loop μ-loop
 add-t9 c = search needs
 
--- src/list_steps.rt:58:29
 mul-t10 : tie.Need-mul-t10 Inv-loop μ-loop
 mul-t10 c = search needs
 
--- src/list_steps.rt:58:29
 shared-slice-read-t12 : tie.Need-shared-slice-read-t12 Inv-loop μ-loop
 shared-slice-read-t12 c = search needs
 
--- src/list_steps.rt:58:9
 mul-vars : tie.Need-mul-vars Inv-loop μ-loop
 mul-vars c = search needs
 
--- src/list_steps.rt:58:9
 array-set-from-vars : tie.Need-array-set-from-vars Inv-loop μ-loop
 array-set-from-vars c = search needs
 
--- src/list_steps.rt:59:9
 add-i : tie.Need-add-i Inv-loop μ-loop
 add-i c = search needs
 
--- src/list_steps.rt:57:5
 loop-less : tie.Need-loop-less Inv-loop μ-loop
 loop-less c = search needs
 
--- src/list_steps.rt:57:5
 loop-again : tie.Need-loop-again Inv-loop μ-loop
 loop-again c =
     let a = c .before .before .before .before .before .args in
@@ -80,19 +66,15 @@ loop-again c =
           ∙ alike-more (nums (b .vars)) (drop (a .at + 2) (a .words .now)) (b .i) (num x) (omega arith) (omega arith) (h .4) (sym (getD-drop (a .at + 2) (a .words .now) (b .i) 0)),
     )
 
--- src/list_steps.rt:64:21
 add-t18 : tie.Need-add-t18 Inv-loop μ-loop
 add-t18 c = search needs
 
--- src/list_steps.rt:64:15
 mul-t19 : tie.Need-mul-t19 Inv-loop μ-loop
 mul-t19 c = search needs
 
--- src/list_steps.rt:64:15
 shared-slice-read-t21 : tie.Need-shared-slice-read-t21 Inv-loop μ-loop
 shared-slice-read-t21 c = search needs
 
--- src/list_steps.rt:50:1
 returns : tie.Need-returns Inv-loop μ-loop
 returns c =
     let a = c .before .before .before .before .before .args in

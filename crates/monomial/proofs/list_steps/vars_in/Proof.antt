@@ -3,36 +3,25 @@ use borrow.Author.Needs.{needs}
 use Rattle.monomial.proofs.ListLaws.{vars-in-is}
 use Rattle.monomial.proofs.list_steps.vars_in.Statement.{statement}
 use Rattle.monomial.proofs.list_steps.vars_in.Tie as tie
-use Rattle.monomial.proofs.list_steps.vars_in.Reads as reads
-use Rattle.monomial.proofs.list_steps.vars_in.Lts as lts
-use Rattle.monomial.proofs.list_steps.smaller.Reads as smaller-reads
-use Rattle.monomial.proofs.list_steps.wide.Reads as wide-reads
 
--- src/list_steps.rt:46:18
 mul-wide : tie.Need-mul-wide
 mul-wide c = search needs
 
--- src/list_steps.rt:46:18
 shared-slice-read-wide : tie.Need-shared-slice-read-wide
 shared-slice-read-wide c = search needs
 
--- src/list_steps.rt:46:13
 wide-requires : tie.Need-wide-requires
 wide-requires c κs = search needs
 
--- src/list_steps.rt:46:45
 add-smaller : tie.Need-add-smaller
 add-smaller c = search needs
 
--- src/list_steps.rt:46:30
 sub-smaller : tie.Need-sub-smaller
 sub-smaller c = search needs
 
--- src/list_steps.rt:46:5
 smaller-requires : tie.Need-smaller-requires
 smaller-requires c κs = search needs
 
--- src/list_steps.rt:42:1
 returns : tie.Need-returns
 returns c = omega (arith, c .smaller .ensures, c .before .wide .ensures, vars-in-is (c .before .before .before .before .args .words .now) (c .before .before .before .before .args .at))
 

@@ -5,19 +5,13 @@ use Rattle.monomial.specs.Words.{monomialOf}
 use Rattle.monomial.proofs.Summing.{one-signed}
 use Rattle.monomial.proofs.list_steps.with_sign.Statement.{statement}
 use Rattle.monomial.proofs.list_steps.with_sign.Tie as tie
-use Rattle.monomial.proofs.list_steps.with_sign.Reads as reads
-use Rattle.monomial.proofs.list_steps.with_sign.Lts as lts
-use Rattle.monomial.proofs.negative.Reads as negative-reads
 
--- src/list_steps.rt:55:9
 negative-requires : tie.Need-negative-requires
 negative-requires c κs = search needs
 
--- src/list_steps.rt:55:9
 returns : tie.Need-returns
 returns c = (one-signed (c .before .before .args .negated) true (monomialOf (c .negative .result)) (monomialOf (c .before .before .args .m)) (c .before .if1 .taken) (c .negative .ensures .0), c .negative .ensures .1)
 
--- src/list_steps.rt:51:1
 returns-2 : tie.Need-returns-2
 returns-2 c = (one-signed (c .before .args .negated) false (monomialOf (c .before .args .m)) (monomialOf (c .before .args .m)) (c .if1 .left) refl, refl)
 

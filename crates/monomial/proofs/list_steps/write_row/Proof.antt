@@ -6,65 +6,48 @@ use lib.ListN.{getD, take, drop, set, length-set}
 use Rattle.monomial.proofs.RowWords.{head-copied}
 use Rattle.monomial.proofs.list_steps.write_row.Statement.{statement}
 use Rattle.monomial.proofs.list_steps.write_row.Tie as tie
-use Rattle.monomial.proofs.list_steps.write_row.Reads as reads
-use Rattle.monomial.proofs.list_steps.write_row.Lts as lts
-use Rattle.monomial.proofs.list_steps.copy_part.Reads as copy-part-reads
 
--- src/list_steps.rt:45:15
 cast-out : tie.Need-cast-out
 cast-out c = search needs
 
--- src/list_steps.rt:45:5
 mul-out : tie.Need-mul-out
 mul-out c = search needs
 
--- src/list_steps.rt:45:5
 slice-write-out : tie.Need-slice-write-out
 slice-write-out c = search needs
 
--- src/list_steps.rt:46:24
 add-out : tie.Need-add-out
 add-out c = search needs
 
--- src/list_steps.rt:46:19
 mul-out-2 : tie.Need-mul-out-2
 mul-out-2 c = search needs
 
--- src/list_steps.rt:46:19
 shared-slice-read-out : tie.Need-shared-slice-read-out
 shared-slice-read-out c = search needs
 
--- src/list_steps.rt:46:9
 add-out-2 : tie.Need-add-out-2
 add-out-2 c = search needs
 
--- src/list_steps.rt:46:5
 mul-out-3 : tie.Need-mul-out-3
 mul-out-3 c = search needs
 
--- src/list_steps.rt:46:5
 slice-write-out-2 : tie.Need-slice-write-out-2
 slice-write-out-2 c = omega (arith, length-set (c .before .before .before .args .out .now) (c .before .before .before .args .at) (c .before .before .before .args .n))
 
--- src/list_steps.rt:47:21
 add-copy-part : tie.Need-add-copy-part
 add-copy-part c = search needs
 
--- src/list_steps.rt:47:39
 add-copy-part-2 : tie.Need-add-copy-part-2
 add-copy-part-2 c = search needs
 
--- src/list_steps.rt:47:5
 copy-part-requires : tie.Need-copy-part-requires
 copy-part-requires c κs = search needs
 
--- src/list_steps.rt:41:1
 same-length : tie.Need-same-length
 same-length c =
     let a = c .before .before .before .before .before .before .before .args in
     c .before .before .copy-part .kept .1 .1 .1 .0 ∙ length-set (set (a .out .now) (a .at) (a .n)) (a .at + 1) _ ∙ length-set (a .out .now) (a .at) (a .n)
 
--- src/list_steps.rt:41:1
 returns : tie.Need-returns
 returns c =
     let a = c .before .before .before .before .before .before .before .args in

@@ -11,40 +11,31 @@ use Rattle.monomial.proofs.Rows.{held-count}
 use Rattle.monomial.proofs.Inserting.{insert-gap, insert-at}
 use Rattle.monomial.proofs.lists.combine_like_terms.Statement.{statement}
 use Rattle.monomial.proofs.lists.combine_like_terms.Tie as tie
-use Rattle.monomial.proofs.lists.combine_like_terms.Reads as reads
-use Rattle.monomial.proofs.lists.combine_like_terms.Lts as lts
 
--- src/lists.rt:28:9
 find-monomial-requires : tie.Need-find-monomial-requires
 find-monomial-requires c κs = search needs
 
--- src/lists.rt:30:19
 enum-known-found : tie.Need-enum-known-found
 enum-known-found c = search needs
 
--- src/lists.rt:30:25
 sum-at-requires : tie.Need-sum-at-requires
 sum-at-requires c κs =
     let a = c .before .before .before .before .before .before .before .args in
     let s = subst (Stands (monomialOf (a .m)) (held (a .count) (a .work .now))) (c .before .before .found .given .1) (c .before .before .before .before .find-monomial .ensures) in
     (omega (arith, s .0, held-count (a .count) (a .work .now)), omega arith, c .before .before .before .before .before .before .before .pre .1 .room)
 
--- src/lists.rt:31:20
 enum-known-found-2 : tie.Need-enum-known-found-2
 enum-known-found-2 c = search needs
 
--- src/lists.rt:31:26
 insert-at-requires : tie.Need-insert-at-requires
 insert-at-requires c κs =
     let a = c .before .before .before .before .before .before .before .args in
     let s = subst (Stands (monomialOf (a .m)) (held (a .count) (a .work .now))) (c .before .before .found2 .given .1) (c .before .before .before .before .find-monomial .ensures) in
     (omega (arith, s .0, held-count (a .count) (a .work .now)), omega arith, c .before .before .before .before .before .before .before .pre .1 .room, omega arith)
 
--- src/lists.rt:24:1
 same-length : tie.Need-same-length
 same-length c = search needs
 
--- src/lists.rt:24:1
 returns : tie.Need-returns
 returns c =
     let a = c .before .before .before .before .before .before .before .before .before .before .args in
@@ -54,11 +45,9 @@ returns c =
     let v = c .before .before .sum-at in
     (v .ensures .0 ∙ sym (insert-at prime (monomialOf (a .m)) l k (c .before .before .before .before .before .before .before .before .before .before .pre .1 .ascends) (s .0) (s .1)), omega (arith, v .ensures .1))
 
--- src/lists.rt:24:1
 same-length-2 : tie.Need-same-length-2
 same-length-2 c = search needs
 
--- src/lists.rt:24:1
 returns-2 : tie.Need-returns-2
 returns-2 c =
     let a = c .before .before .before .before .before .before .before .before .before .before .args in

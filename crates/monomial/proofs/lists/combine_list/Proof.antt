@@ -10,11 +10,6 @@ use Rattle.monomial.proofs.ListLaws.{left-front}
 use Rattle.monomial.proofs.Summing.{signOf, signed-map, signed-one, fits-sign, Adding, adding-none, adding-more, adding-done}
 use Rattle.monomial.proofs.lists.combine_list.Statement.{statement}
 use Rattle.monomial.proofs.lists.combine_list.Tie as tie
-use Rattle.monomial.proofs.lists.combine_list.Reads as reads
-use Rattle.monomial.proofs.lists.combine_list.Lts as lts
-use Rattle.monomial.proofs.lists.combine_like_terms.Reads as combine-like-terms-reads
-use Rattle.monomial.proofs.list_steps.monomial_in.Reads as monomial-in-reads
-use Rattle.monomial.proofs.list_steps.with_sign.Reads as with-sign-reads
 
 abbrev Inv-loop : tie.InvT-loop
 Inv-loop work₀ count pool at n negated total₀ from₀ i₀ work total from i = Adding (signOf negated) pool at n count work₀ work total from i
@@ -22,13 +17,11 @@ Inv-loop work₀ count pool at n negated total₀ from₀ i₀ work total from i
 abbrev μ-loop : tie.MeasureT-loop
 μ-loop work₀ count pool at n negated total₀ from₀ i₀ work total from i = n - i
 
--- src/lists.rt:44:5
 loop-holds : tie.Need-loop-holds Inv-loop μ-loop
 loop-holds c =
     let a = c .before .before .args in
     adding-none (signOf (a .negated)) (a .pool .now) (a .at) (a .n) (a .count) (a .work .now) (c .before .before .pre .1) (c .before .before .pre .2)
 
--- src/lists.rt:45:13
 monomial-in-requires : tie.Need-monomial-in-requires Inv-loop μ-loop
 monomial-in-requires c κs =
     let a = c .before .before .before .before .args in
@@ -36,11 +29,9 @@ monomial-in-requires c κs =
     let f = left-front (a .pool .now) (b .from) (a .n) (b .i) (omega arith) (b .inv .left) in
     (omega (arith, f .room), f .short)
 
--- src/lists.rt:47:49
 with-sign-requires : tie.Need-with-sign-requires Inv-loop μ-loop
 with-sign-requires c κs = search needs
 
--- src/lists.rt:47:9
 combine-like-terms-requires : tie.Need-combine-like-terms-requires Inv-loop μ-loop
 combine-like-terms-requires c κs =
     let a = c .before .before .before .before .before .before .before .args in
@@ -54,7 +45,6 @@ combine-like-terms-requires c κs =
       subst Fits (sym (s ∙ ap (signOf (a .negated)) (m .ensures .0))) (fits-sign (a .negated) _ (f .one)),
     )
 
--- src/lists.rt:48:16
 add-from : tie.Need-add-from Inv-loop μ-loop
 add-from c =
     let a = c .before .before .before .before .before .before .before .before .before .before .args in
@@ -63,7 +53,6 @@ add-from c =
     let h : b .from + 2 + c .before .before .before .before .before .monomial-in .result .count ≤ length (a .pool .now) = omega (arith, f .room, c .before .before .before .before .before .monomial-in .ensures .1) in
     search needs
 
--- src/lists.rt:48:16
 add-from-2 : tie.Need-add-from-2 Inv-loop μ-loop
 add-from-2 c =
     let a = c .before .before .before .before .before .before .before .before .before .before .args in
@@ -72,15 +61,12 @@ add-from-2 c =
     let h : b .from + 2 + c .before .before .before .before .before .monomial-in .result .count ≤ length (a .pool .now) = omega (arith, f .room, c .before .before .before .before .before .monomial-in .ensures .1) in
     search needs
 
--- src/lists.rt:49:9
 add-i : tie.Need-add-i Inv-loop μ-loop
 add-i c = search needs
 
--- src/lists.rt:44:5
 loop-less : tie.Need-loop-less Inv-loop μ-loop
 loop-less c = search needs
 
--- src/lists.rt:44:5
 loop-again : tie.Need-loop-again Inv-loop μ-loop
 loop-again c =
     let a = c .before .before .before .before .before .before .before .before .before .before .args in
@@ -94,11 +80,9 @@ loop-again c =
     (b .inv) (omega arith) (m .ensures .1) (p .kept .0) s
     (subst Fits (sym s) (fits-sign (a .negated) _ (f .one))) (p .ensures .0) (p .ensures .1)
 
--- src/lists.rt:30:1
 same-length : tie.Need-same-length Inv-loop μ-loop
 same-length c = c .before .loop .inv .length-is
 
--- src/lists.rt:30:1
 returns : tie.Need-returns Inv-loop μ-loop
 returns c =
     let a = c .before .before .before .before .args in

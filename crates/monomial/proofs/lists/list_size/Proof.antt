@@ -4,9 +4,6 @@ use borrow.Author.Needs.{needs}
 use Rattle.monomial.proofs.Sizes.{Sized, sized-none, sized-more, sized-done}
 use Rattle.monomial.proofs.lists.list_size.Statement.{statement}
 use Rattle.monomial.proofs.lists.list_size.Tie as tie
-use Rattle.monomial.proofs.lists.list_size.Reads as reads
-use Rattle.monomial.proofs.lists.list_size.Lts as lts
-use Rattle.monomial.proofs.list_steps.slot_count.Reads as slot-count-reads
 
 abbrev Inv-loop : tie.InvT-loop
 Inv-loop work count total₀ k₀ total k = Sized work count total k
@@ -14,38 +11,30 @@ Inv-loop work count total₀ k₀ total k = Sized work count total k
 abbrev μ-loop : tie.MeasureT-loop
 μ-loop work count total₀ k₀ total k = count - k
 
--- src/lists.rt:119:5
 loop-holds : tie.Need-loop-holds Inv-loop μ-loop
 loop-holds c = sized-none (c .before .args .work .now) (c .before .args .count)
 
--- src/lists.rt:120:13
 slot-count-requires : tie.Need-slot-count-requires Inv-loop μ-loop
 slot-count-requires c κs = omega (arith, c .before .before .before .pre .1)
 
--- src/lists.rt:121:17
 add-total : tie.Need-add-total Inv-loop μ-loop
 add-total c = omega (arith, c .before .before .loop .inv .total-le, c .before .before .before .before .pre .0)
 
--- src/lists.rt:121:17
 add-total-2 : tie.Need-add-total-2 Inv-loop μ-loop
 add-total-2 c = omega (arith, c .before .before .loop .inv .total-le, c .before .before .before .before .pre .0, c .slot-count .ensures)
 
--- src/lists.rt:122:9
 add-k : tie.Need-add-k Inv-loop μ-loop
 add-k c = search needs
 
--- src/lists.rt:119:5
 loop-less : tie.Need-loop-less Inv-loop μ-loop
 loop-less c = search needs
 
--- src/lists.rt:119:5
 loop-again : tie.Need-loop-again Inv-loop μ-loop
 loop-again c =
     let a = c .before .before .before .before .args in
     let b = c .before .before .loop in
     sized-more (a .work .now) (a .count) (b .total) (b .k) (c .slot-count .result) (b .inv) (omega arith) (c .before .before .before .before .pre .1) (c .slot-count .ensures)
 
--- src/lists.rt:113:1
 returns : tie.Need-returns Inv-loop μ-loop
 returns c =
     let a = c .before .before .before .args in

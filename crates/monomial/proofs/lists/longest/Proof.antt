@@ -6,10 +6,6 @@ use Rattle.monomial.proofs.ListLaws.{left-front}
 use Rattle.monomial.proofs.Sizes.{Longest, longest-none, longest-more, longest-done}
 use Rattle.monomial.proofs.lists.longest.Statement.{statement}
 use Rattle.monomial.proofs.lists.longest.Tie as tie
-use Rattle.monomial.proofs.lists.longest.Reads as reads
-use Rattle.monomial.proofs.lists.longest.Lts as lts
-use Rattle.monomial.proofs.list_steps.larger.Reads as larger-reads
-use Rattle.monomial.proofs.list_steps.vars_in.Reads as vars-in-reads
 
 abbrev Inv-loop : tie.InvT-loop
 Inv-loop pool at n most₀ from₀ i₀ most from i = Longest pool at n most from i
@@ -17,22 +13,18 @@ Inv-loop pool at n most₀ from₀ i₀ most from i = Longest pool at n most fro
 abbrev μ-loop : tie.MeasureT-loop
 μ-loop pool at n most₀ from₀ i₀ most from i = n - i
 
--- src/lists.rt:109:5
 loop-holds : tie.Need-loop-holds Inv-loop μ-loop
 loop-holds c = longest-none (c .before .args .pool .now) (c .before .args .at) (c .before .args .n) (c .before .pre)
 
--- src/lists.rt:110:13
 vars-in-requires : tie.Need-vars-in-requires Inv-loop μ-loop
 vars-in-requires c κs =
     let a = c .before .before .before .args in
     let b = c .before .loop in
     omega (arith, left-front (a .pool .now) (b .from) (a .n) (b .i) (omega arith) (b .inv .left) .room)
 
--- src/lists.rt:111:9
 larger-requires : tie.Need-larger-requires Inv-loop μ-loop
 larger-requires c κs = search needs
 
--- src/lists.rt:112:16
 add-from : tie.Need-add-from Inv-loop μ-loop
 add-from c =
     let a = c .before .before .before .before .before .args in
@@ -41,7 +33,6 @@ add-from c =
     let h : b .from + 2 + c .before .vars-in .result ≤ length (a .pool .now) = omega (arith, f .room, c .before .vars-in .ensures) in
     search needs
 
--- src/lists.rt:112:16
 add-from-2 : tie.Need-add-from-2 Inv-loop μ-loop
 add-from-2 c =
     let a = c .before .before .before .before .before .args in
@@ -50,22 +41,18 @@ add-from-2 c =
     let h : b .from + 2 + c .before .vars-in .result ≤ length (a .pool .now) = omega (arith, f .room, c .before .vars-in .ensures) in
     search needs
 
--- src/lists.rt:113:9
 add-i : tie.Need-add-i Inv-loop μ-loop
 add-i c = search needs
 
--- src/lists.rt:109:5
 loop-less : tie.Need-loop-less Inv-loop μ-loop
 loop-less c = search needs
 
--- src/lists.rt:109:5
 loop-again : tie.Need-loop-again Inv-loop μ-loop
 loop-again c =
     let a = c .before .before .before .before .before .args in
     let b = c .before .before .before .loop in
     longest-more (a .pool .now) (a .at) (a .n) (b .most) (b .from) (b .i) (c .before .vars-in .result) (c .larger .result) (b .inv) (omega arith) (c .before .vars-in .ensures) (c .larger .ensures)
 
--- src/lists.rt:102:1
 returns : tie.Need-returns Inv-loop μ-loop
 returns c =
     let a = c .before .before .before .args in

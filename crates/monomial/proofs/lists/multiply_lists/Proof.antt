@@ -8,10 +8,6 @@ use Rattle.monomial.proofs.ListLaws.{left-front}
 use Rattle.monomial.proofs.Products.{short-first, first-short, Multiplying, multiplying-none, row-room, multiplying-more, multiplying-done}
 use Rattle.monomial.proofs.lists.multiply_lists.Statement.{statement}
 use Rattle.monomial.proofs.lists.multiply_lists.Tie as tie
-use Rattle.monomial.proofs.lists.multiply_lists.Reads as reads
-use Rattle.monomial.proofs.lists.multiply_lists.Lts as lts
-use Rattle.monomial.proofs.list_steps.monomial_in.Reads as monomial-in-reads
-use Rattle.monomial.proofs.list_steps.combine_row.Reads as combine-row-reads
 
 abbrev Inv-loop : tie.InvT-loop
 Inv-loop work₀ pool left n right m total₀ from₀ i₀ work total from i = Multiplying pool left n right m work₀ work total from i
@@ -19,13 +15,11 @@ Inv-loop work₀ pool left n right m total₀ from₀ i₀ work total from i = M
 abbrev μ-loop : tie.MeasureT-loop
 μ-loop work₀ pool left n right m total₀ from₀ i₀ work total from i = n - i
 
--- src/lists.rt:85:5
 loop-holds : tie.Need-loop-holds Inv-loop μ-loop
 loop-holds c =
     let a = c .before .before .args in
     multiplying-none (a .pool .now) (a .left) (a .n) (a .right) (a .m) (a .work .now) (c .before .before .pre .1) (c .before .before .pre .2)
 
--- src/lists.rt:86:13
 monomial-in-requires : tie.Need-monomial-in-requires Inv-loop μ-loop
 monomial-in-requires c κs =
     let a = c .before .before .before .before .args in
@@ -33,7 +27,6 @@ monomial-in-requires c κs =
     let f = left-front (a .pool .now) (b .from) (a .n) (b .i) (omega arith) (b .inv .rest) in
     (omega (arith, f .room), f .short)
 
--- src/lists.rt:88:9
 combine-row-requires : tie.Need-combine-row-requires Inv-loop μ-loop
 combine-row-requires c κs =
     let a = c .before .before .before .before .before .before .args in
@@ -49,7 +42,6 @@ combine-row-requires c κs =
       omega (arith, r .ensures .1, k, c .before .before .before .before .before .before .pre .4),
     )
 
--- src/lists.rt:89:16
 add-from : tie.Need-add-from Inv-loop μ-loop
 add-from c =
     let a = c .before .before .before .before .before .before .before .before .before .args in
@@ -58,7 +50,6 @@ add-from c =
     let h : b .from + 2 + c .before .before .before .before .monomial-in .result .count ≤ length (a .pool .now) = omega (arith, f .room, c .before .before .before .before .monomial-in .ensures .1) in
     search needs
 
--- src/lists.rt:89:16
 add-from-2 : tie.Need-add-from-2 Inv-loop μ-loop
 add-from-2 c =
     let a = c .before .before .before .before .before .before .before .before .before .args in
@@ -67,15 +58,12 @@ add-from-2 c =
     let h : b .from + 2 + c .before .before .before .before .monomial-in .result .count ≤ length (a .pool .now) = omega (arith, f .room, c .before .before .before .before .monomial-in .ensures .1) in
     search needs
 
--- src/lists.rt:90:9
 add-i : tie.Need-add-i Inv-loop μ-loop
 add-i c = search needs
 
--- src/lists.rt:85:5
 loop-less : tie.Need-loop-less Inv-loop μ-loop
 loop-less c = search needs
 
--- src/lists.rt:85:5
 loop-again : tie.Need-loop-again Inv-loop μ-loop
 loop-again c =
     let a = c .before .before .before .before .before .before .before .before .before .args in
@@ -87,11 +75,9 @@ loop-again c =
     (b .inv) (omega arith) (r .ensures .1) (p .kept .0) (r .ensures .0)
     (omega (arith, r .ensures .1, k, c .before .before .before .before .before .before .before .before .before .pre .4, first-short (r .result .count) (nums (r .result .vars)))) (p .ensures .0) (p .ensures .1)
 
--- src/lists.rt:71:1
 same-length : tie.Need-same-length Inv-loop μ-loop
 same-length c = c .before .loop .inv .length-is
 
--- src/lists.rt:71:1
 returns : tie.Need-returns Inv-loop μ-loop
 returns c =
     let a = c .before .before .before .before .args in

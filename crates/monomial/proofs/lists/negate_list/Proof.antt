@@ -10,11 +10,6 @@ use Rattle.monomial.proofs.ListLaws.{left-front}
 use Rattle.monomial.proofs.Summing.{Negating, negating-none, negating-more, negating-done}
 use Rattle.monomial.proofs.lists.negate_list.Statement.{statement}
 use Rattle.monomial.proofs.lists.negate_list.Tie as tie
-use Rattle.monomial.proofs.lists.negate_list.Reads as reads
-use Rattle.monomial.proofs.lists.negate_list.Lts as lts
-use Rattle.monomial.proofs.lists.put_monomial.Reads as put-monomial-reads
-use Rattle.monomial.proofs.list_steps.monomial_in.Reads as monomial-in-reads
-use Rattle.monomial.proofs.negative.Reads as negative-reads
 
 abbrev Inv-loop : tie.InvT-loop
 Inv-loop work₀ pool at n from₀ k₀ work from k = Negating pool at n work₀ work from k
@@ -22,11 +17,9 @@ Inv-loop work₀ pool at n from₀ k₀ work from k = Negating pool at n work₀
 abbrev μ-loop : tie.MeasureT-loop
 μ-loop work₀ pool at n from₀ k₀ work from k = n - k
 
--- src/lists.rt:61:5
 loop-holds : tie.Need-loop-holds Inv-loop μ-loop
 loop-holds c = negating-none (c .before .before .args .pool .now) (c .before .before .args .at) (c .before .before .args .n) (c .before .before .args .work .now) (c .before .before .pre .2)
 
--- src/lists.rt:62:13
 monomial-in-requires : tie.Need-monomial-in-requires Inv-loop μ-loop
 monomial-in-requires c κs =
     let a = c .before .before .before .before .args in
@@ -34,11 +27,9 @@ monomial-in-requires c κs =
     let f = left-front (a .pool .now) (b .from) (a .n) (b .k) (omega arith) (b .inv .left) in
     (omega (arith, f .room), f .short)
 
--- src/lists.rt:64:31
 negative-requires : tie.Need-negative-requires Inv-loop μ-loop
 negative-requires c κs = search needs
 
--- src/lists.rt:64:9
 put-monomial-requires : tie.Need-put-monomial-requires Inv-loop μ-loop
 put-monomial-requires c κs =
     let a = c .before .before .before .before .before .before .before .args in
@@ -46,7 +37,6 @@ put-monomial-requires c κs =
     let f = left-front (a .pool .now) (b .from) (a .n) (b .k) (omega arith) (b .inv .left) in
     (omega (arith, c .negative .ensures .1, c .before .before .monomial-in .ensures .1, f .short), omega (arith, c .before .before .before .before .before .before .before .pre .0, c .before .before .before .before .before .before .before .pre .1, b .inv .length-is))
 
--- src/lists.rt:65:16
 add-from : tie.Need-add-from Inv-loop μ-loop
 add-from c =
     let a = c .before .before .before .before .before .before .before .before .before .before .args in
@@ -55,7 +45,6 @@ add-from c =
     let h : b .from + 2 + c .before .before .before .before .before .monomial-in .result .count ≤ length (a .pool .now) = omega (arith, f .room, c .before .before .before .before .before .monomial-in .ensures .1) in
     search needs
 
--- src/lists.rt:65:16
 add-from-2 : tie.Need-add-from-2 Inv-loop μ-loop
 add-from-2 c =
     let a = c .before .before .before .before .before .before .before .before .before .before .args in
@@ -64,15 +53,12 @@ add-from-2 c =
     let h : b .from + 2 + c .before .before .before .before .before .monomial-in .result .count ≤ length (a .pool .now) = omega (arith, f .room, c .before .before .before .before .before .monomial-in .ensures .1) in
     search needs
 
--- src/lists.rt:66:9
 add-k : tie.Need-add-k Inv-loop μ-loop
 add-k c = search needs
 
--- src/lists.rt:61:5
 loop-less : tie.Need-loop-less Inv-loop μ-loop
 loop-less c = search needs
 
--- src/lists.rt:61:5
 loop-again : tie.Need-loop-again Inv-loop μ-loop
 loop-again c =
     let a = c .before .before .before .before .before .before .before .before .before .before .args in
@@ -82,11 +68,9 @@ loop-again c =
     (b .inv) (omega arith) (c .before .before .before .before .before .monomial-in .ensures .1) (p .kept .0)
     (c .before .before .before .negative .ensures .0 ∙ ap (negMonomial prime) (c .before .before .before .before .before .monomial-in .ensures .0)) (p .ensures)
 
--- src/lists.rt:55:1
 same-length : tie.Need-same-length Inv-loop μ-loop
 same-length c = c .before .loop .inv .length-is
 
--- src/lists.rt:55:1
 returns : tie.Need-returns Inv-loop μ-loop
 returns c =
     let a = c .before .before .before .before .args in

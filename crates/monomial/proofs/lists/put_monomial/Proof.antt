@@ -7,18 +7,13 @@ use Rattle.monomial.specs.Words.{num, nums, held}
 use Rattle.monomial.proofs.Rows.{fourteen, held-more}
 use Rattle.monomial.proofs.lists.put_monomial.Statement.{statement}
 use Rattle.monomial.proofs.lists.put_monomial.Tie as tie
-use Rattle.monomial.proofs.lists.put_monomial.Reads as reads
-use Rattle.monomial.proofs.lists.put_monomial.Lts as lts
 
--- src/lists.rt:20:5
 put-slot-requires : tie.Need-put-slot-requires
 put-slot-requires c κs = search needs
 
--- src/lists.rt:16:1
 same-length : tie.Need-same-length
 same-length c = search needs
 
--- src/lists.rt:16:1
 returns : tie.Need-returns
 returns c =
     let a = c .before .before .before .before .before .args in

@@ -4,10 +4,6 @@ use borrow.Author.Needs.{needs}
 use Rattle.monomial.proofs.RowWords.{Written, written-none, written-room, written-more, written-done}
 use Rattle.monomial.proofs.lists.write_list.Statement.{statement}
 use Rattle.monomial.proofs.lists.write_list.Tie as tie
-use Rattle.monomial.proofs.lists.write_list.Reads as reads
-use Rattle.monomial.proofs.lists.write_list.Lts as lts
-use Rattle.monomial.proofs.list_steps.slot_count.Reads as slot-count-reads
-use Rattle.monomial.proofs.list_steps.write_row.Reads as write-row-reads
 
 abbrev Inv-loop : tie.InvT-loop
 Inv-loop work count out₀ at₀ k₀ out at k = Written work count out₀ out at k
@@ -15,19 +11,15 @@ Inv-loop work count out₀ at₀ k₀ out at k = Written work count out₀ out a
 abbrev μ-loop : tie.MeasureT-loop
 μ-loop work count out₀ at₀ k₀ out at k = count - k
 
--- src/lists.rt:134:5
 loop-holds : tie.Need-loop-holds Inv-loop μ-loop
 loop-holds c = written-none (c .before .before .args .work .now) (c .before .before .args .count) (c .before .before .args .out .now) (c .before .before .pre .1) (c .before .before .pre .3)
 
--- src/lists.rt:135:13
 slot-count-requires : tie.Need-slot-count-requires Inv-loop μ-loop
 slot-count-requires c κs = omega (arith, c .before .before .before .before .pre .1)
 
--- src/lists.rt:136:25
 mul-write-row : tie.Need-mul-write-row Inv-loop μ-loop
 mul-write-row c = omega (arith, c .before .before .before .before .before .pre .0)
 
--- src/lists.rt:136:9
 write-row-requires : tie.Need-write-row-requires Inv-loop μ-loop
 write-row-requires c κs =
     let a = c .before .before .before .before .before .before .args in
@@ -35,7 +27,6 @@ write-row-requires c κs =
     let r = written-room (a .work .now) (a .count) (a .out .now) (c .before .before .before .before .before .before .pre .1) (c .before .before .before .before .before .before .pre .3) (b .out) (b .at) (b .k) (c .before .slot-count .result) (b .inv) (omega arith) (c .before .slot-count .ensures) in
     (omega (arith, c .before .slot-count .ensures), omega (arith, c .before .slot-count .ensures, c .before .before .before .before .before .before .pre .1), omega (arith, r, b .inv .length-is))
 
--- src/lists.rt:137:14
 add-at : tie.Need-add-at Inv-loop μ-loop
 add-at c =
     let a = c .before .before .before .before .before .before .before .before .before .args in
@@ -43,7 +34,6 @@ add-at c =
     let r = written-room (a .work .now) (a .count) (a .out .now) (c .before .before .before .before .before .before .before .before .before .pre .1) (c .before .before .before .before .before .before .before .before .before .pre .3) (b .out) (b .at) (b .k) (c .before .before .before .before .slot-count .result) (b .inv) (omega arith) (c .before .before .before .before .slot-count .ensures) in
     search needs
 
--- src/lists.rt:137:14
 add-at-2 : tie.Need-add-at-2 Inv-loop μ-loop
 add-at-2 c =
     let a = c .before .before .before .before .before .before .before .before .before .args in
@@ -51,15 +41,12 @@ add-at-2 c =
     let r = written-room (a .work .now) (a .count) (a .out .now) (c .before .before .before .before .before .before .before .before .before .pre .1) (c .before .before .before .before .before .before .before .before .before .pre .3) (b .out) (b .at) (b .k) (c .before .before .before .before .slot-count .result) (b .inv) (omega arith) (c .before .before .before .before .slot-count .ensures) in
     search needs
 
--- src/lists.rt:138:9
 add-k : tie.Need-add-k Inv-loop μ-loop
 add-k c = search needs
 
--- src/lists.rt:134:5
 loop-less : tie.Need-loop-less Inv-loop μ-loop
 loop-less c = search needs
 
--- src/lists.rt:134:5
 loop-again : tie.Need-loop-again Inv-loop μ-loop
 loop-again c =
     let a = c .before .before .before .before .before .before .before .before .before .args in
@@ -67,11 +54,9 @@ loop-again c =
     written-more (a .work .now) (a .count) (a .out .now) (c .before .before .before .before .before .before .before .before .before .pre .1) (c .before .before .before .before .before .before .before .before .before .pre .3) (b .out) (b .at) (b .k) (c .before .before .before .before .slot-count .result) (b .inv) (omega arith) (c .before .before .before .before .slot-count .ensures)
     (c .before .before .write-row .last .1 .1 .1 .0) (c .before .before .write-row .kept .1 .1 .1 .0) (c .before .before .write-row .ensures)
 
--- src/lists.rt:128:1
 same-length : tie.Need-same-length Inv-loop μ-loop
 same-length c = c .before .loop .inv .length-is
 
--- src/lists.rt:128:1
 returns : tie.Need-returns Inv-loop μ-loop
 returns c =
     let a = c .before .before .before .before .args in

@@ -2,15 +2,12 @@ use Prim.Native.Nat.{_+_, _-_, _/_, _≤_}
 use native.Mathlib.Omega.{arith}
 use borrow.Author.Needs.{needs}
 use lib.ListN.{take}
-use Rattle.semantics.specs.Monomial as semantics
 use Rattle.monomial.specs.Words.{nums, monomialOf, held}
 use Rattle.monomial.specs.Places.{FirstBefore, RestAfter}
 use Rattle.monomial.proofs.Rows.{held-count}
 use Rattle.monomial.proofs.Searches.{found-same, found-after, found-before}
 use Rattle.monomial.proofs.slots.find_monomial.Statement.{statement}
 use Rattle.monomial.proofs.slots.find_monomial.Tie as tie
-use Rattle.monomial.proofs.slots.find_monomial.Reads as reads
-use Rattle.monomial.proofs.slots.find_monomial.Lts as lts
 
 abbrev Inv-loop : tie.InvT-loop
 Inv-loop work count vars n low₀ high₀ low high = (low ≤ high) × (high ≤ count) × FirstBefore (record { vars = take n (nums vars); coef = 0 }) (held count work) low × RestAfter (record { vars = take n (nums vars); coef = 0 }) (held count work) high
@@ -18,37 +15,29 @@ Inv-loop work count vars n low₀ high₀ low high = (low ≤ high) × (high ≤
 abbrev μ-loop : tie.MeasureT-loop
 μ-loop work count vars n low₀ high₀ low high = high - low
 
--- src/slots.rt:57:5
 loop-holds : tie.Need-loop-holds Inv-loop μ-loop
 loop-holds c =
     let a = c .before .before .args in
     (omega arith, omega arith, λ i h. absurd (omega arith), λ i h k. absurd (omega (arith, held-count (a .count) (a .work .now))))
 
--- src/slots.rt:58:18
 add-k : tie.Need-add-k Inv-loop μ-loop
 add-k c = search needs
 
--- src/slots.rt:59:42
 mul-order-at : tie.Need-mul-order-at Inv-loop μ-loop
 mul-order-at c = search needs
 
--- src/slots.rt:59:42
 add-order-at : tie.Need-add-order-at Inv-loop μ-loop
 add-order-at c = search needs
 
--- src/slots.rt:59:54
 slot-count-requires : tie.Need-slot-count-requires Inv-loop μ-loop
 slot-count-requires c κs = search needs
 
--- src/slots.rt:59:13
 order-at-requires : tie.Need-order-at-requires Inv-loop μ-loop
 order-at-requires c κs = search needs
 
--- src/slots.rt:62:17
 enum-told : tie.Need-enum-told Inv-loop μ-loop
 enum-told c = search needs
 
--- src/slots.rt:62:17
 returns : tie.Need-returns Inv-loop μ-loop
 returns c =
     let a = c .before .before .before .before .before .before .before .before .args in
@@ -59,19 +48,15 @@ returns c =
           (c .before .before .order-at .result) (c .before .before .order-at .ensures) (c .enum-told .given .1),
     )
 
--- src/slots.rt:65:23
 enum-told-2 : tie.Need-enum-told-2 Inv-loop μ-loop
 enum-told-2 c = search needs
 
--- src/slots.rt:65:23
 add-low : tie.Need-add-low Inv-loop μ-loop
 add-low c = search needs
 
--- src/slots.rt:57:5
 loop-less : tie.Need-loop-less Inv-loop μ-loop
 loop-less c = search needs
 
--- src/slots.rt:57:5
 loop-again : tie.Need-loop-again Inv-loop μ-loop
 loop-again c =
     let a = c .before .before .before .before .before .before .before .before .args in
@@ -84,15 +69,12 @@ loop-again c =
       h .3,
     )
 
--- src/slots.rt:69:17
 enum-told-3 : tie.Need-enum-told-3 Inv-loop μ-loop
 enum-told-3 c = search needs
 
--- src/slots.rt:57:5
 loop-less-2 : tie.Need-loop-less-2 Inv-loop μ-loop
 loop-less-2 c = search needs
 
--- src/slots.rt:57:5
 loop-again-2 : tie.Need-loop-again-2 Inv-loop μ-loop
 loop-again-2 c =
     let a = c .before .before .before .before .before .before .before .before .args in
@@ -105,7 +87,6 @@ loop-again-2 c =
           (c .before .before .order-at .result) (c .before .before .order-at .ensures) (c .before .before .before .before .before .before .before .before .pre .3) (c .enum-told3 .given .1),
     )
 
--- src/slots.rt:49:1
 returns-2 : tie.Need-returns-2 Inv-loop μ-loop
 returns-2 c =
     let a = c .before .before .before .before .args in

@@ -9,41 +9,31 @@ use Rattle.monomial.proofs.Rows.{fourteen}
 use Rattle.monomial.proofs.Inserting.{keep-zero, keep-other, held-put}
 use Rattle.monomial.proofs.slots.insert_at.Statement.{statement}
 use Rattle.monomial.proofs.slots.insert_at.Tie as tie
-use Rattle.monomial.proofs.slots.insert_at.Reads as reads
-use Rattle.monomial.proofs.slots.insert_at.Lts as lts
 
--- src/slots.rt:82:9
 returns : tie.Need-returns
 returns c =
     let a = c .before .before .before .args in
     let l : List semantics.Monomial = held (a .count) (a .work .now) in
     (sym (ap (λ (r : List semantics.Monomial). take (a .k) l ++ r) (keep-zero (monomialOf (a .m)) (drop (a .k) l) (c .if1 .taken)) ∙ take-append-drop (a .k) l), omega arith)
 
--- src/slots.rt:84:27
 mul-shift-up : tie.Need-mul-shift-up
 mul-shift-up c = search needs
 
--- src/slots.rt:84:35
 mul-shift-up-2 : tie.Need-mul-shift-up-2
 mul-shift-up-2 c = search needs
 
--- src/slots.rt:84:5
 shift-up-requires : tie.Need-shift-up-requires
 shift-up-requires c κs = search needs
 
--- src/slots.rt:85:5
 put-slot-requires : tie.Need-put-slot-requires
 put-slot-requires c κs = search needs
 
--- src/slots.rt:86:5
 add-result : tie.Need-add-result
 add-result c = search needs
 
--- src/slots.rt:77:1
 same-length : tie.Need-same-length
 same-length c = search needs
 
--- src/slots.rt:77:1
 returns-2 : tie.Need-returns-2
 returns-2 c =
     let a = c .before .before .before .before .before .before .before .before .before .before .before .args in

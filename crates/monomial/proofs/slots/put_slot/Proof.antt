@@ -9,8 +9,6 @@ use Rattle.monomial.specs.Words.{num, nums}
 use Rattle.monomial.proofs.Rows.{fourteen, stored, two-and-more}
 use Rattle.monomial.proofs.slots.put_slot.Statement.{statement}
 use Rattle.monomial.proofs.slots.put_slot.Tie as tie
-use Rattle.monomial.proofs.slots.put_slot.Reads as reads
-use Rattle.monomial.proofs.slots.put_slot.Lts as lts
 
 abbrev Inv-loop : tie.InvT-loop
 Inv-loop work₀ k at vars i₀ work i = (i ≤ 14) × (length vars ≡ 14) × (length work ≡ length work₀) × (work ≡ paste work₀ (at + 2) (nums vars) i)
@@ -18,61 +16,47 @@ Inv-loop work₀ k at vars i₀ work i = (i ≤ 14) × (length vars ≡ 14) × (
 abbrev μ-loop : tie.MeasureT-loop
 μ-loop work₀ k at vars i₀ work i = 14 - i
 
--- src/slots.rt:27:14
 mul-at : tie.Need-mul-at Inv-loop μ-loop
 mul-at c = search needs
 
--- src/slots.rt:29:16
 cast-work : tie.Need-cast-work Inv-loop μ-loop
 cast-work c = search needs
 
--- src/slots.rt:29:5
 mul-work : tie.Need-mul-work Inv-loop μ-loop
 mul-work c = search needs
 
--- src/slots.rt:29:5
 slice-write-work : tie.Need-slice-write-work Inv-loop μ-loop
 slice-write-work c = search needs
 
--- src/slots.rt:30:10
 add-work : tie.Need-add-work Inv-loop μ-loop
 add-work c = search needs
 
--- src/slots.rt:30:5
 mul-work-2 : tie.Need-mul-work-2 Inv-loop μ-loop
 mul-work-2 c = search needs
 
--- src/slots.rt:30:5
 slice-write-work-2 : tie.Need-slice-write-work-2 Inv-loop μ-loop
 slice-write-work-2 c = simp length-set (omega arith)
 
--- src/slots.rt:32:5
 loop-holds : tie.Need-loop-holds Inv-loop μ-loop
 loop-holds c =
     let a = c .before .before .args in
     (search needs, fourteen (a .m .vars) (c .before .before .good .1 .1 .0 .1 .1 .0 .1 .0 .1), refl, paste-zero _ (16 * a .k + 2) (nums (a .m .vars)))
 
--- src/slots.rt:33:17
 mul-v : tie.Need-mul-v Inv-loop μ-loop
 mul-v c = search needs
 
--- src/slots.rt:33:17
 array-copy-out-v : tie.Need-array-copy-out-v Inv-loop μ-loop
 array-copy-out-v c = search needs
 
--- src/slots.rt:34:14
 add-work-2 : tie.Need-add-work-2 Inv-loop μ-loop
 add-work-2 c = search needs
 
--- src/slots.rt:34:14
 add-work-3 : tie.Need-add-work-3 Inv-loop μ-loop
 add-work-3 c = search needs
 
--- src/slots.rt:34:9
 mul-work-3 : tie.Need-mul-work-3 Inv-loop μ-loop
 mul-work-3 c = search needs
 
--- src/slots.rt:34:9
 slice-write-work-3 : tie.Need-slice-write-work-3 Inv-loop μ-loop
 slice-write-work-3 c =
     let b = c .before .before .loop in
@@ -81,15 +65,12 @@ slice-write-work-3 c =
     let l2 = length-set (set (c .before .before .before .before .before .args .work .now) (16 * c .before .before .before .before .before .args .k) (c .before .before .before .before .before .args .m .count)) (16 * c .before .before .before .before .before .args .k + 1) (c .before .before .before .before .before .args .m .coef) in
     omega arith
 
--- src/slots.rt:35:9
 add-i : tie.Need-add-i Inv-loop μ-loop
 add-i c = search needs
 
--- src/slots.rt:32:5
 loop-less : tie.Need-loop-less Inv-loop μ-loop
 loop-less c = search needs
 
--- src/slots.rt:32:5
 loop-again : tie.Need-loop-again Inv-loop μ-loop
 loop-again c =
     let a = c .before .before .before .before .before .args in
@@ -100,14 +81,12 @@ loop-again c =
     let lv = length-map (a .m .vars) num in
     (omega arith, h .1, length-set (b .work) _ _ ∙ h .2, stored _ (nums (a .m .vars)) (b .work) (16 * a .k + 2) (b .i) _ (h .3) (sym (List·getD-map num (a .m .vars) (b .i) (record { 0 = 0 }))) (omega arith) (omega arith))
 
--- src/slots.rt:23:1
 same-length : tie.Need-same-length Inv-loop μ-loop
 same-length c =
     let b = c .before .loop in
     let a = c .before .before .before .before .args in
     b .inv .2 ∙ length-set (set (a .work .now) (16 * a .k) (a .m .count)) (16 * a .k + 1) (a .m .coef) ∙ length-set (a .work .now) (16 * a .k) (a .m .count)
 
--- src/slots.rt:23:1
 returns : tie.Need-returns Inv-loop μ-loop
 returns c =
     let b = c .before .loop in

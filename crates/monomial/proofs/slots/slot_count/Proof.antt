@@ -3,30 +3,22 @@ use borrow.Author.Needs.{needs}
 use Prim.Native.Nat.{_*_}
 use Rattle.monomial.proofs.slots.slot_count.Statement.{statement}
 use Rattle.monomial.proofs.slots.slot_count.Tie as tie
-use Rattle.monomial.proofs.slots.slot_count.Reads as reads
-use Rattle.monomial.proofs.slots.slot_count.Lts as lts
 
--- src/slots.rt:44:18
 mul-n : tie.Need-mul-n
 mul-n c = search needs
 
--- src/slots.rt:44:13
 mul-n-2 : tie.Need-mul-n-2
 mul-n-2 c = search needs
 
--- src/slots.rt:44:13
 shared-slice-read-n : tie.Need-shared-slice-read-n
 shared-slice-read-n c = search needs
 
--- src/slots.rt:44:13
 cast-n : tie.Need-cast-n
 cast-n c = omega (arith, c .shared-slice-known .given (16 * c .before .args .k))
 
--- src/slots.rt:40:1
 returns : tie.Need-returns
 returns c = search needs
 
--- src/slots.rt:40:1
 returns-2 : tie.Need-returns-2
 returns-2 c = search needs
 

@@ -10,8 +10,6 @@ use Rattle.monomial.proofs.Rows.{map-set}
 use Rattle.monomial.proofs.Merging.{Merging, merging-none, merging-more, merging-all}
 use Rattle.monomial.proofs.vars.merge_vars.Statement.{statement}
 use Rattle.monomial.proofs.vars.merge_vars.Tie as tie
-use Rattle.monomial.proofs.vars.merge_vars.Reads as reads
-use Rattle.monomial.proofs.vars.merge_vars.Lts as lts
 
 abbrev Inv-loop : tie.InvT-loop
 Inv-loop a n b m r₀ i₀ j₀ r i j = (i ≤ n) × (j ≤ m) × (length r ≡ 14) × Merging (nums r) (nums a) (nums b) i n j m
@@ -19,53 +17,41 @@ Inv-loop a n b m r₀ i₀ j₀ r i j = (i ≤ n) × (j ≤ m) × (length r ≡ 
 abbrev μ-loop : tie.MeasureT-loop
 μ-loop a n b m r₀ i₀ j₀ r i j = n + m - (i + j)
 
--- src/vars.rt:76:5
 loop-holds : tie.Need-loop-holds Inv-loop μ-loop
 loop-holds c =
     let a = c .args in
     (search needs, search needs, search needs, merging-none [] (nums (a .a)) (nums (a .b)) (a .n) (a .m))
 
--- src/vars.rt:76:11
 add-loop : tie.Need-add-loop Inv-loop μ-loop
 add-loop c = search needs
 
--- src/vars.rt:76:19
 add-loop-2 : tie.Need-add-loop-2 Inv-loop μ-loop
 add-loop-2 c = search needs
 
--- src/vars.rt:77:13
 next-var-requires : tie.Need-next-var-requires Inv-loop μ-loop
 next-var-requires c κs = search needs
 
--- src/vars.rt:79:11
 add-r : tie.Need-add-r Inv-loop μ-loop
 add-r c = search needs
 
--- src/vars.rt:79:9
 mul-r : tie.Need-mul-r Inv-loop μ-loop
 mul-r c = search needs
 
--- src/vars.rt:79:9
 array-set-from-r : tie.Need-array-set-from-r Inv-loop μ-loop
 array-set-from-r c = search needs
 
--- src/vars.rt:80:9
 add-i : tie.Need-add-i Inv-loop μ-loop
 add-i c = omega (arith, c .before .before .next-var .ensures)
 
--- src/vars.rt:81:14
 sub-j : tie.Need-sub-j Inv-loop μ-loop
 sub-j c = omega (arith, c .before .before .before .next-var .ensures)
 
--- src/vars.rt:81:9
 add-j : tie.Need-add-j Inv-loop μ-loop
 add-j c = omega (arith, c .before .before .before .next-var .ensures)
 
--- src/vars.rt:76:5
 loop-less : tie.Need-loop-less Inv-loop μ-loop
 loop-less c = omega (arith, c .before .before .before .next-var .ensures)
 
--- src/vars.rt:76:5
 loop-again : tie.Need-loop-again Inv-loop μ-loop
 loop-again c =
     let a = c .before .before .before .before .before .before .args in
@@ -81,7 +67,6 @@ loop-again c =
           (merging-more (nums (b .r)) (nums (a .a)) (nums (a .b)) (b .i) (a .n) (b .j) (a .m) (num x) (v .result .left) (omega arith) (v .ensures .0) (h .3) (v .ensures .3)),
     )
 
--- src/vars.rt:69:1
 returns : tie.Need-returns Inv-loop μ-loop
 returns c =
     let a = c .before .before .args in

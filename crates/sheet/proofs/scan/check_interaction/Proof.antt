@@ -1,109 +1,74 @@
-use mathlib.Core.Path.{_≡_, refl, sym, ap, subst, _∙_}
-use mathlib.Core.Bool.{Bool, true, false, cond}
-use mathlib.Core.List.{List, [], _∷_, _++_}
-use Prim.Native.Nat.{ℕ, zero, suc, _+_, _*_, _-_, _/_, _%_, _≤_, _<_}
+use mathlib.Core.Path.{ap, _∙_}
+use Prim.Native.Nat.{ℕ, _<_}
 use native.Mathlib.Omega.{arith}
 use borrow.Author.Needs.{needs}
-use lib.ListN.{length, getD, take, drop, replicate, set, length-set}
-use lib.Dec.{eqb, leb, ltb}
-use borrow.Author.Tests.{eq-eqb, ne-eqb, le-leb, lt-leb, lt-ltb, le-ltb, not-true, not-false}
-use mathlib.Core.List.{map}
-use mathlib.Core.Bool.{_&&_}
-use Rattle.semantics.specs.Arithmetic.{prime}
-use Rattle.semantics.specs.Sheet.{fits, row, table, recordTests, interactionTests, headTests, names}
-use Rattle.semantics.specs.Check.{Scan, reading, stopped, scanWords, scanPart, scanParts, scanSpare}
-use Rattle.sheet.specs.Scans.{scanOf, Ends, Reaches}
-use Rattle.sheet.proofs.Laws.{scan-cut, scan-fails, scan-passes, step-stops, step-goes, step-ends, step-at, words-stop, words-go, parts-stopped, parts-more, parts-done, interaction-tests, spare-full, spare-word, spare-zero, spare-end, stop-reaches}
+use lib.ListN.{length, getD, drop, replicate}
+use Rattle.semantics.specs.Sheet.{names}
+use Rattle.semantics.specs.Check.{reading, scanWords}
+use Rattle.sheet.proofs.Laws.{step-ends, step-at, words-stop, words-go, interaction-tests}
 use Rattle.sheet.proofs.scan.check_interaction.Statement.{statement}
 use Rattle.sheet.proofs.scan.check_interaction.Tie as tie
-use Rattle.sheet.proofs.scan.check_interaction.Reads as reads
-use Rattle.sheet.proofs.scan.check_interaction.Lts as lts
-use Rattle.sheet.proofs.scan.check_any.Reads as check-any-reads
-use Rattle.sheet.proofs.scan.check_limit.Reads as check-limit-reads
-use Rattle.sheet.proofs.scan.check_names.Reads as check-names-reads
-use Rattle.sheet.proofs.scan.wide.Reads as wide-reads
 
--- src/scan.rt:233:9
 check-limit-requires : tie.Need-check-limit-requires
 check-limit-requires c κs = search needs
 
--- src/scan.rt:234:23
 enum-known-bus : tie.Need-enum-known-bus
 enum-known-bus c = search needs
 
--- src/scan.rt:235:9
 enum-told : tie.Need-enum-told
 enum-told c = search needs
 
--- src/scan.rt:235:9
 returns : tie.Need-returns
 returns c = (words-stop 6 _ _ (c .before .before .before .before .args .s .now) (c .before .before .check-limit .result) _ _ (c .before .before .check-limit .ensures .0) (interaction-tests (c .before .before .before .before .args .records) (c .before .before .before .before .args .s .now) (c .before .before .before .before .args .at)) (c .enum-told .given .0 .0) (c .enum-told .given .1), c .before .before .check-limit .ensures .1)
 
--- src/scan.rt:237:9
 check-any-requires : tie.Need-check-any-requires
 check-any-requires c κs = step-ends (c .before .before .before .before .before .args .s .now) (c .before .before .before .check-limit .result) (c .before .bus .given .0 .0) (c .before .before .before .check-limit .ensures .1) (c .before .bus .given .1)
 
--- src/scan.rt:238:23
 enum-known-weight : tie.Need-enum-known-weight
 enum-known-weight c = search needs
 
--- src/scan.rt:239:9
 enum-told-2 : tie.Need-enum-told-2
 enum-told-2 c = search needs
 
--- src/scan.rt:239:9
 returns-2 : tie.Need-returns-2
 returns-2 c = (words-stop 6 _ _ (c .before .before .before .before .before .before .before .before .args .s .now) (c .before .before .check-any .result) _ _ (c .before .before .check-any .ensures .0) (words-go 6 _ _ (c .before .before .before .before .before .before .before .before .args .s .now) (c .before .before .before .before .before .before .check-limit .result) _ _ (c .before .before .before .before .before .before .check-limit .ensures .0) (interaction-tests (c .before .before .before .before .before .before .before .before .args .records) (c .before .before .before .before .before .before .before .before .args .s .now) (c .before .before .before .before .before .before .before .before .args .at)) (c .before .before .before .before .bus .given .0 .0) (c .before .before .before .before .bus .given .1)) (c .enum-told2 .given .0 .0) (c .enum-told2 .given .1), c .before .before .check-any .ensures .1)
 
--- src/scan.rt:241:9
 check-names-requires : tie.Need-check-names-requires
 check-names-requires c κs = step-ends (c .before .before .before .before .before .before .before .before .before .args .s .now) (c .before .before .before .check-any .result) (c .before .weight .given .0 .0) (c .before .before .before .check-any .ensures .1) (c .before .weight .given .1)
 
--- src/scan.rt:242:23
 enum-known-count : tie.Need-enum-known-count
 enum-known-count c = search needs
 
--- src/scan.rt:243:9
 enum-told-3 : tie.Need-enum-told-3
 enum-told-3 c = search needs
 
--- src/scan.rt:243:9
 returns-3 : tie.Need-returns-3
 returns-3 c = (words-stop 6 _ _ (c .before .before .before .before .before .before .before .before .before .before .before .before .args .s .now) (c .before .before .check-names .result) _ _ (c .before .before .check-names .ensures .0) (words-go 6 _ _ (c .before .before .before .before .before .before .before .before .before .before .before .before .args .s .now) (c .before .before .before .before .before .before .check-any .result) _ _ (c .before .before .before .before .before .before .check-any .ensures .0) (words-go 6 _ _ (c .before .before .before .before .before .before .before .before .before .before .before .before .args .s .now) (c .before .before .before .before .before .before .before .before .before .before .check-limit .result) _ _ (c .before .before .before .before .before .before .before .before .before .before .check-limit .ensures .0) (interaction-tests (c .before .before .before .before .before .before .before .before .before .before .before .before .args .records) (c .before .before .before .before .before .before .before .before .before .before .before .before .args .s .now) (c .before .before .before .before .before .before .before .before .before .before .before .before .args .at)) (c .before .before .before .before .before .before .before .before .bus .given .0 .0) (c .before .before .before .before .before .before .before .before .bus .given .1)) (c .before .before .before .before .weight .given .0 .0) (c .before .before .before .before .weight .given .1)) (c .enum-told3 .given .0 .0) (c .enum-told3 .given .1), c .before .before .check-names .ensures .1)
 
--- src/scan.rt:245:9
 check-limit-requires-2 : tie.Need-check-limit-requires-2
 check-limit-requires-2 c κs = step-ends (c .before .before .before .before .before .before .before .before .before .before .before .before .before .args .s .now) (c .before .before .before .check-names .result) (c .before .count .given .0 .0) (c .before .before .before .check-names .ensures .1) (c .before .count .given .1)
 
--- src/scan.rt:246:23
 enum-known-length : tie.Need-enum-known-length
 enum-known-length c = search needs
 
--- src/scan.rt:247:9
 enum-told-4 : tie.Need-enum-told-4
 enum-told-4 c = search needs
 
--- src/scan.rt:247:9
 returns-4 : tie.Need-returns-4
 returns-4 c = (words-stop 6 _ _ (c .before .before .before .before .before .before .before .before .before .before .before .before .before .before .before .before .args .s .now) (c .before .before .check-limit2 .result) _ _ (c .before .before .check-limit2 .ensures .0) (words-go 6 _ _ (c .before .before .before .before .before .before .before .before .before .before .before .before .before .before .before .before .args .s .now) (c .before .before .before .before .before .before .check-names .result) _ _ (c .before .before .before .before .before .before .check-names .ensures .0) (words-go 6 _ _ (c .before .before .before .before .before .before .before .before .before .before .before .before .before .before .before .before .args .s .now) (c .before .before .before .before .before .before .before .before .before .before .check-any .result) _ _ (c .before .before .before .before .before .before .before .before .before .before .check-any .ensures .0) (words-go 6 _ _ (c .before .before .before .before .before .before .before .before .before .before .before .before .before .before .before .before .args .s .now) (c .before .before .before .before .before .before .before .before .before .before .before .before .before .before .check-limit .result) _ _ (c .before .before .before .before .before .before .before .before .before .before .before .before .before .before .check-limit .ensures .0) (interaction-tests (c .before .before .before .before .before .before .before .before .before .before .before .before .before .before .before .before .args .records) (c .before .before .before .before .before .before .before .before .before .before .before .before .before .before .before .before .args .s .now) (c .before .before .before .before .before .before .before .before .before .before .before .before .before .before .before .before .args .at)) (c .before .before .before .before .before .before .before .before .before .before .before .before .bus .given .0 .0) (c .before .before .before .before .before .before .before .before .before .before .before .before .bus .given .1)) (c .before .before .before .before .before .before .before .before .weight .given .0 .0) (c .before .before .before .before .before .before .before .before .weight .given .1)) (c .before .before .before .before .count .given .0 .0) (c .before .before .before .before .count .given .1)) (c .enum-told4 .given .0 .0) (c .enum-told4 .given .1), c .before .before .check-limit2 .ensures .1)
 
--- src/scan.rt:249:31
 mul-wide : tie.Need-mul-wide
 mul-wide c = let h : c .before .before .before .before .before .count .given .0 .0 < length (c .before .before .before .before .before .before .before .before .before .before .before .before .before .before .before .before .before .args .s .now) = omega (arith, step-ends (c .before .before .before .before .before .before .before .before .before .before .before .before .before .before .before .before .before .args .s .now) (c .before .before .before .check-limit2 .result) (c .before .length .given .0 .0) (c .before .before .before .check-limit2 .ensures .1) (c .before .length .given .1), step-at _ (c .before .before .before .check-limit2 .result) (c .before .length .given .0 .0) (c .before .before .before .check-limit2 .ensures .2) (c .before .length .given .1)) in search needs
 
--- src/scan.rt:249:31
 shared-slice-read-wide : tie.Need-shared-slice-read-wide
 shared-slice-read-wide c = omega (arith, step-ends (c .before .before .before .before .before .before .before .before .before .before .before .before .before .before .before .before .before .before .args .s .now) (c .before .before .before .before .check-limit2 .result) (c .before .before .length .given .0 .0) (c .before .before .before .before .check-limit2 .ensures .1) (c .before .before .length .given .1), step-at _ (c .before .before .before .before .check-limit2 .result) (c .before .before .length .given .0 .0) (c .before .before .before .before .check-limit2 .ensures .2) (c .before .before .length .given .1))
 
--- src/scan.rt:249:26
 wide-requires : tie.Need-wide-requires
 wide-requires c κs = search needs
 
--- src/scan.rt:249:5
 check-names-requires-2 : tie.Need-check-names-requires-2
 check-names-requires-2 c κs = step-ends (c .before .before .before .before .before .before .before .before .before .before .before .before .before .before .before .before .before .before .before .args .s .now) (c .before .before .before .before .before .check-limit2 .result) (c .before .before .before .length .given .0 .0) (c .before .before .before .before .before .check-limit2 .ensures .1) (c .before .before .before .length .given .1)
 
--- src/scan.rt:229:1
 returns-5 : tie.Need-returns-5
 returns-5 c = (c .check-names2 .ensures .0 ∙ ap (λ (m : ℕ). scanWords 6 (replicate m (names (c .before .before .before .before .before .before .before .before .before .before .before .before .before .before .before .before .before .before .before .before .args .records))) (reading (c .before .before .before .before .length .given .0 .0) (drop (c .before .before .before .before .length .given .0 .0) (c .before .before .before .before .before .before .before .before .before .before .before .before .before .before .before .before .before .before .before .before .args .s .now)))) (c .before .wide .ensures ∙ ap (λ (m : ℕ). getD (c .before .before .before .before .before .before .before .before .before .before .before .before .before .before .before .before .before .before .before .before .args .s .now) m 0) (omega (arith, step-at _ (c .before .before .before .before .before .before .before .before .before .before .before .before .before .before .before .before .before .before .check-limit .result) (c .before .before .before .before .before .before .before .before .before .before .before .before .before .before .before .before .bus .given .0 .0) (c .before .before .before .before .before .before .before .before .before .before .before .before .before .before .before .before .before .before .check-limit .ensures .2) (c .before .before .before .before .before .before .before .before .before .before .before .before .before .before .before .before .bus .given .1), step-at _ (c .before .before .before .before .before .before .before .before .before .before .before .before .before .before .check-any .result) (c .before .before .before .before .before .before .before .before .before .before .before .before .weight .given .0 .0) (c .before .before .before .before .before .before .before .before .before .before .before .before .before .before .check-any .ensures .2) (c .before .before .before .before .before .before .before .before .before .before .before .before .weight .given .1), step-at _ (c .before .before .before .before .before .before .before .before .before .before .check-names .result) (c .before .before .before .before .before .before .before .before .count .given .0 .0) (c .before .before .before .before .before .before .before .before .before .before .check-names .ensures .2) (c .before .before .before .before .before .before .before .before .count .given .1), step-at _ (c .before .before .before .before .before .before .check-limit2 .result) (c .before .before .before .before .length .given .0 .0) (c .before .before .before .before .before .before .check-limit2 .ensures .2) (c .before .before .before .before .length .given .1)))) ∙ (words-go 6 _ _ (c .before .before .before .before .before .before .before .before .before .before .before .before .before .before .before .before .before .before .before .before .args .s .now) (c .before .before .before .before .before .before .check-limit2 .result) _ _ (c .before .before .before .before .before .before .check-limit2 .ensures .0) (words-go 6 _ _ (c .before .before .before .before .before .before .before .before .before .before .before .before .before .before .before .before .before .before .before .before .args .s .now) (c .before .before .before .before .before .before .before .before .before .before .check-names .result) _ _ (c .before .before .before .before .before .before .before .before .before .before .check-names .ensures .0) (words-go 6 _ _ (c .before .before .before .before .before .before .before .before .before .before .before .before .before .before .before .before .before .before .before .before .args .s .now) (c .before .before .before .before .before .before .before .before .before .before .before .before .before .before .check-any .result) _ _ (c .before .before .before .before .before .before .before .before .before .before .before .before .before .before .check-any .ensures .0) (words-go 6 _ _ (c .before .before .before .before .before .before .before .before .before .before .before .before .before .before .before .before .before .before .before .before .args .s .now) (c .before .before .before .before .before .before .before .before .before .before .before .before .before .before .before .before .before .before .check-limit .result) _ _ (c .before .before .before .before .before .before .before .before .before .before .before .before .before .before .before .before .before .before .check-limit .ensures .0) (interaction-tests (c .before .before .before .before .before .before .before .before .before .before .before .before .before .before .before .before .before .before .before .before .args .records) (c .before .before .before .before .before .before .before .before .before .before .before .before .before .before .before .before .before .before .before .before .args .s .now) (c .before .before .before .before .before .before .before .before .before .before .before .before .before .before .before .before .before .before .before .before .args .at)) (c .before .before .before .before .before .before .before .before .before .before .before .before .before .before .before .before .bus .given .0 .0) (c .before .before .before .before .before .before .before .before .before .before .before .before .before .before .before .before .bus .given .1)) (c .before .before .before .before .before .before .before .before .before .before .before .before .weight .given .0 .0) (c .before .before .before .before .before .before .before .before .before .before .before .before .weight .given .1)) (c .before .before .before .before .before .before .before .before .count .given .0 .0) (c .before .before .before .before .before .before .before .before .count .given .1)) (c .before .before .before .before .length .given .0 .0) (c .before .before .before .before .length .given .1)), c .check-names2 .ensures .1)
 

@@ -1,23 +1,12 @@
-use mathlib.Core.Path.{_≡_, refl, sym, ap, subst, _∙_}
-use mathlib.Core.Bool.{Bool, true, false, cond}
-use mathlib.Core.List.{List, [], _∷_, _++_}
-use Prim.Native.Nat.{ℕ, zero, suc, _+_, _*_, _-_, _/_, _%_, _≤_, _<_}
+use mathlib.Core.Path.{_≡_, refl, subst}
+use Prim.Native.Nat.{ℕ, _+_, _-_, _≤_}
 use native.Mathlib.Omega.{arith}
 use borrow.Author.Needs.{needs}
-use lib.ListN.{length, getD, take, drop, replicate, set, length-set}
-use lib.Dec.{eqb, leb, ltb}
-use borrow.Author.Tests.{eq-eqb, ne-eqb, le-leb, lt-leb, lt-ltb, le-ltb, not-true, not-false}
-use mathlib.Core.List.{map}
-use mathlib.Core.Bool.{_&&_}
-use Rattle.semantics.specs.Arithmetic.{prime}
-use Rattle.semantics.specs.Sheet.{fits, row, table, recordTests, interactionTests, headTests, names}
-use Rattle.semantics.specs.Check.{Scan, reading, stopped, scanWords, scanPart, scanParts, scanSpare}
-use Rattle.sheet.specs.Scans.{scanOf, Ends, Reaches}
-use Rattle.sheet.proofs.Laws.{scan-cut, scan-fails, scan-passes, step-stops, step-goes, step-ends, step-at, words-stop, words-go, parts-stopped, parts-more, parts-done, interaction-tests, spare-full, spare-word, spare-zero, spare-end}
+use lib.ListN.{length, drop}
+use Rattle.semantics.specs.Check.{reading, scanSpare}
+use Rattle.sheet.proofs.Laws.{spare-full, spare-word, spare-zero, spare-end}
 use Rattle.sheet.proofs.scan.check_spare.Statement.{statement}
 use Rattle.sheet.proofs.scan.check_spare.Tie as tie
-use Rattle.sheet.proofs.scan.check_spare.Reads as reads
-use Rattle.sheet.proofs.scan.check_spare.Lts as lts
 
 spare-left : (k : ℕ) → 125 - k ≡ 126 - (k + 1)
 spare-left k = omega arith
@@ -28,43 +17,33 @@ Inv-loop s at i₀ k₀ i k = (k ≤ 126) × (i ≤ length s) × (scanSpare (126
 abbrev μ-loop : tie.MeasureT-loop
 μ-loop s at i₀ k₀ i k = length s - i
 
--- src/scan.rt:277:5
 loop-holds : tie.Need-loop-holds Inv-loop μ-loop
 loop-holds c = (omega arith, c .pre, refl)
 
--- src/scan.rt:279:13
 returns : tie.Need-returns Inv-loop μ-loop
 returns c = spare-full (c .before .before .before .args .s .now) (c .before .before .loop .i) (126 - c .before .before .loop .k) _ (c .before .before .loop .inv .2) (omega arith) (omega arith)
 
--- src/scan.rt:284:12
 mul-if2 : tie.Need-mul-if2 Inv-loop μ-loop
 mul-if2 c = search needs
 
--- src/scan.rt:284:12
 shared-slice-read-if2 : tie.Need-shared-slice-read-if2 Inv-loop μ-loop
 shared-slice-read-if2 c = search needs
 
--- src/scan.rt:285:13
 returns-2 : tie.Need-returns-2 Inv-loop μ-loop
 returns-2 c = spare-word (c .before .before .before .before .before .args .s .now) (c .before .before .before .before .loop .i) (126 - c .before .before .before .before .loop .k) _ (c .before .before .before .before .loop .inv .2) (125 - c .before .before .before .before .loop .k) (omega arith) (omega arith) (c .if2 .taken)
 
--- src/scan.rt:290:9
 add-i : tie.Need-add-i Inv-loop μ-loop
 add-i c = search needs
 
--- src/scan.rt:291:9
 add-k : tie.Need-add-k Inv-loop μ-loop
 add-k c = search needs
 
--- src/scan.rt:277:5
 loop-less : tie.Need-loop-less Inv-loop μ-loop
 loop-less c = search needs
 
--- src/scan.rt:277:5
 loop-again : tie.Need-loop-again Inv-loop μ-loop
 loop-again c = (omega arith, omega arith, subst (λ (m : ℕ). scanSpare m (reading (c .before .before .before .before .loop .i + 1) (drop (c .before .before .before .before .loop .i + 1) (c .before .before .before .before .before .args .s .now))) ≡ scanSpare 126 (reading (c .before .before .before .before .before .args .at) (drop (c .before .before .before .before .before .args .at) (c .before .before .before .before .before .args .s .now)))) (spare-left (c .before .before .before .before .loop .k)) (spare-zero (c .before .before .before .before .before .args .s .now) (c .before .before .before .before .loop .i) (126 - c .before .before .before .before .loop .k) _ (c .before .before .before .before .loop .inv .2) (125 - c .before .before .before .before .loop .k) (omega arith) (omega arith) (c .if2 .left)))
 
--- src/scan.rt:271:1
 returns-3 : tie.Need-returns-3 Inv-loop μ-loop
 returns-3 c = spare-end (c .before .before .args .s .now) (c .before .loop .i) (126 - c .before .loop .k) _ (c .before .loop .inv .2) (c .loop-test .left)
 

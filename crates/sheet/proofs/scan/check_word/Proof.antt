@@ -1,47 +1,33 @@
-use mathlib.Core.Path.{_≡_, refl, sym, ap, subst, _∙_}
-use mathlib.Core.Bool.{Bool, true, false, cond}
-use mathlib.Core.List.{List, [], _∷_, _++_}
-use Prim.Native.Nat.{ℕ, zero, suc, _+_, _*_, _-_, _/_, _%_, _≤_, _<_}
+use mathlib.Core.Path.{sym, _∙_}
+use mathlib.Core.List.{[]}
 use native.Mathlib.Omega.{arith}
 use borrow.Author.Needs.{needs}
-use lib.ListN.{length, getD, take, drop, replicate, set, length-set}
 use Rattle.semantics.specs.Arithmetic.{prime}
 use Rattle.semantics.specs.Sheet.{fits}
-use Rattle.semantics.specs.Check.{Scan, reading, stopped, scanWords}
-use Rattle.sheet.specs.Scans.{scanOf, Ends}
+use Rattle.semantics.specs.Check.{scanWords}
 use Rattle.sheet.proofs.Laws.{scan-cut, scan-passes, scan-fails}
 use Rattle.sheet.proofs.scan.check_word.Statement.{statement}
 use Rattle.sheet.proofs.scan.check_word.Tie as tie
-use Rattle.sheet.proofs.scan.check_word.Reads as reads
-use Rattle.sheet.proofs.scan.check_word.Lts as lts
-use Rattle.sheet.proofs.scan.word_fits.Reads as word-fits-reads
 
--- src/scan.rt:89:9
 returns : tie.Need-returns
 returns c = (scan-cut 5 (fits prime (c .before .before .args .own) (c .before .before .args .a) (c .before .before .args .how)) [] (c .before .before .args .s .now) (c .before .before .args .at) (c .before .before .pre) (c .if1 .taken), tt)
 
--- src/scan.rt:94:31
 mul-word-fits : tie.Need-mul-word-fits
 mul-word-fits c = search needs
 
--- src/scan.rt:94:31
 shared-slice-read-word-fits : tie.Need-shared-slice-read-word-fits
 shared-slice-read-word-fits c = search needs
 
--- src/scan.rt:94:8
 word-fits-requires : tie.Need-word-fits-requires
 word-fits-requires c κs = search needs
 
--- src/scan.rt:95:30
 add-t12 : tie.Need-add-t12
 add-t12 c = search needs
 
--- src/scan.rt:95:9
 returns-2 : tie.Need-returns-2
 unfolding scanWords
 returns-2 c = (scan-passes 5 (fits prime (c .before .before .before .before .before .args .own) (c .before .before .before .before .before .args .a) (c .before .before .before .before .before .args .how)) [] (c .before .before .before .before .before .args .s .now) (c .before .before .before .before .before .args .at) (omega arith) (sym (c .before .word-fits .ensures) ∙ c .if2 .taken), omega arith)
 
--- src/scan.rt:84:1
 returns-3 : tie.Need-returns-3
 returns-3 c = (scan-fails 5 (fits prime (c .before .before .before .before .before .args .own) (c .before .before .before .before .before .args .a) (c .before .before .before .before .before .args .how)) [] (c .before .before .before .before .before .args .s .now) (c .before .before .before .before .before .args .at) (omega arith) (sym (c .before .word-fits .ensures) ∙ c .if2 .left), tt)
 

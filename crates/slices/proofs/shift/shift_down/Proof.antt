@@ -6,8 +6,6 @@ use lib.ListN.{length, length-set}
 use Rattle.slices.proofs.Shifts.{Lowered, lowered-none, lowered-more, lowered-all}
 use Rattle.slices.proofs.shift.shift_down.Statement.{statement}
 use Rattle.slices.proofs.shift.shift_down.Tie as tie
-use Rattle.slices.proofs.shift.shift_down.Reads as reads
-use Rattle.slices.proofs.shift.shift_down.Lts as lts
 
 abbrev Inv-loop : tie.InvT-loop
 Inv-loop s₀ at end by i₀ s i = (at ≤ i) × (i + by ≤ end) × (length s ≡ length s₀) × Lowered s s₀ at i by
@@ -15,56 +13,44 @@ Inv-loop s₀ at end by i₀ s i = (at ≤ i) × (i + by ≤ end) × (length s �
 abbrev μ-loop : tie.MeasureT-loop
 μ-loop s₀ at end by i₀ s i = end - i
 
--- src/shift.rt:25:5
 loop-holds : tie.Need-loop-holds Inv-loop μ-loop
 loop-holds c =
     let a = c .args in
     (search needs, search needs, refl, lowered-none (a .s .now) (a .at) (a .by))
 
--- src/shift.rt:25:15
 sub-loop : tie.Need-sub-loop Inv-loop μ-loop
 sub-loop c = search needs
 
--- src/shift.rt:26:18
 add-s : tie.Need-add-s Inv-loop μ-loop
 add-s c = search needs
 
--- src/shift.rt:26:16
 mul-s : tie.Need-mul-s Inv-loop μ-loop
 mul-s c = search needs
 
--- src/shift.rt:26:16
 slice-read-s : tie.Need-slice-read-s Inv-loop μ-loop
 slice-read-s c = search needs
 
--- src/shift.rt:26:9
 mul-s-2 : tie.Need-mul-s-2 Inv-loop μ-loop
 mul-s-2 c = search needs
 
--- src/shift.rt:26:9
 slice-write-s : tie.Need-slice-write-s Inv-loop μ-loop
 slice-write-s c = search needs
 
--- src/shift.rt:27:9
 add-i : tie.Need-add-i Inv-loop μ-loop
 add-i c = search needs
 
--- src/shift.rt:25:5
 loop-less : tie.Need-loop-less Inv-loop μ-loop
 loop-less c = search needs
 
--- src/shift.rt:25:5
 loop-again : tie.Need-loop-again Inv-loop μ-loop
 loop-again c =
     let a = c .before .before .before .args in
     let b = c .before .before .loop in
     (omega arith, omega arith, length-set (b .s) _ _ ∙ b .inv .2, lowered-more (b .s) (a .s .now) (a .at) (b .i) (a .by) (omega arith) (omega arith) (b .inv .3) (omega arith))
 
--- src/shift.rt:20:1
 same-length : tie.Need-same-length Inv-loop μ-loop
 same-length c = search needs
 
--- src/shift.rt:20:1
 returns : tie.Need-returns Inv-loop μ-loop
 returns c =
     let a = c .before .before .args in

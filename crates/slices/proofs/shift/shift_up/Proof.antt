@@ -7,8 +7,6 @@ use lib.ListN.{length, take, drop, length-set}
 use Rattle.slices.proofs.Shifts.{Raised, raised-none, raised-more}
 use Rattle.slices.proofs.shift.shift_up.Statement.{statement}
 use Rattle.slices.proofs.shift.shift_up.Tie as tie
-use Rattle.slices.proofs.shift.shift_up.Reads as reads
-use Rattle.slices.proofs.shift.shift_up.Lts as lts
 
 abbrev Inv-loop : tie.InvT-loop
 Inv-loop s₀ at end by i₀ s i = (at ≤ i) × (i ≤ end) × (length s ≡ length s₀) × Raised s s₀ i end by
@@ -16,52 +14,41 @@ Inv-loop s₀ at end by i₀ s i = (at ≤ i) × (i ≤ end) × (length s ≡ le
 abbrev μ-loop : tie.MeasureT-loop
 μ-loop s₀ at end by i₀ s i = i - at
 
--- src/shift.rt:13:5
 loop-holds : tie.Need-loop-holds Inv-loop μ-loop
 loop-holds c =
     let a = c .args in
     (search needs, search needs, refl, raised-none (a .s .now) (a .end) (a .by))
 
--- src/shift.rt:14:9
 sub-i : tie.Need-sub-i Inv-loop μ-loop
 sub-i c = search needs
 
--- src/shift.rt:15:21
 mul-s : tie.Need-mul-s Inv-loop μ-loop
 mul-s c = search needs
 
--- src/shift.rt:15:21
 slice-read-s : tie.Need-slice-read-s Inv-loop μ-loop
 slice-read-s c = search needs
 
--- src/shift.rt:15:11
 add-s : tie.Need-add-s Inv-loop μ-loop
 add-s c = search needs
 
--- src/shift.rt:15:9
 mul-s-2 : tie.Need-mul-s-2 Inv-loop μ-loop
 mul-s-2 c = search needs
 
--- src/shift.rt:15:9
 slice-write-s : tie.Need-slice-write-s Inv-loop μ-loop
 slice-write-s c = search needs
 
--- src/shift.rt:13:5
 loop-less : tie.Need-loop-less Inv-loop μ-loop
 loop-less c = search needs
 
--- src/shift.rt:13:5
 loop-again : tie.Need-loop-again Inv-loop μ-loop
 loop-again c =
     let a = c .before .before .before .args in
     let b = c .before .before .loop in
     (omega arith, omega arith, length-set (b .s) _ _ ∙ b .inv .2, raised-more (b .s) (a .s .now) (b .i) (b .i - 1) (a .end) (a .by) (omega arith) (omega arith) (omega arith) (b .inv .3))
 
--- src/shift.rt:8:1
 same-length : tie.Need-same-length Inv-loop μ-loop
 same-length c = search needs
 
--- src/shift.rt:8:1
 returns : tie.Need-returns Inv-loop μ-loop
 returns c =
     let a = c .before .before .args in
