@@ -128,7 +128,7 @@ extern "C" {
  */
 typedef struct {
     uint32_t number; /* 0, 5, 8, 9, 10 or 11 */
-    uint32_t place;
+    uint64_t place;
     uint32_t packed;
 } SuhkelvaPacked;
 
@@ -143,7 +143,7 @@ SuhkelvaPacked suhkelva_pack(uint32_t kind, uint32_t a, uint32_t b, uint32_t c, 
 /* The five words of a record. */
 typedef struct {
     uint32_t number; /* 0 or 5 */
-    uint32_t place;
+    uint64_t place;
     uint32_t kind;
     uint32_t a;
     uint32_t b;
@@ -161,7 +161,7 @@ SuhkelvaRecord suhkelva_unpack(uint32_t packed);
 
 typedef struct {
     uint32_t number; /* 0 or 1 */
-    uint32_t place;
+    uint64_t place;
     uint32_t good; /* 1 yes, 0 no */
 } SuhkelvaBlock;
 

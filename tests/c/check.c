@@ -24,7 +24,7 @@ typedef struct {
     const char *what;
     uint32_t words[5];
     uint32_t number;
-    uint32_t place;
+    uint64_t place;
     uint32_t packed;
 } Packing;
 

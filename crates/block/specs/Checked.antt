@@ -1,6 +1,7 @@
 -- What the answers of this crate stand for (01, "What each call hands back").
 use mathlib.Core.List.{[], _∷_}
-use Rattle.semantics.specs.Call.{Reply, Outcome, acceptedWith, refusedWith}
+use Rattle.answers.specs.Replies.{refusedReply}
+use Rattle.semantics.specs.Call.{Reply, Outcome, acceptedWith}
 use Rattle.block.specs.declared.BlockChecked.{BlockChecked}
 use Rattle.block.specs.declared.BlockChecked.the-variants.{Yes, No, Refused}
 
@@ -8,7 +9,7 @@ use Rattle.block.specs.declared.BlockChecked.the-variants.{Yes, No, Refu
 abbrev pub blockReply : BlockChecked → Reply
 blockReply Yes = acceptedWith [] (1 ∷ [])
 blockReply No = acceptedWith [] (0 ∷ [])
-blockReply (Refused r) = refusedWith (r .number) (r .place)
+blockReply (Refused r) = refusedReply r
 
 abbrev pub blockOutcome : BlockChecked → Outcome
 blockOutcome r = record { reply = blockReply r; slices = [] }

@@ -3,12 +3,9 @@ ghost use mathlib.Core.Path.{_≡_};
 ghost use Rattle.semantics.specs.Call.{blockCheckCall};
 ghost use Rattle.block.specs.Checked.{blockOutcome};
 
-pub mod words;
+use answers::Refusal;
 
-pub struct Refusal {
-    pub number: u32,
-    pub place: u32,
-}
+pub mod words;
 
 pub enum BlockChecked {
     Yes,

@@ -14,13 +14,13 @@ use Rattle.semantics.specs.Answer.{Answer, good, refused, andThen}
 use Rattle.semantics.specs.Block.{wordAt, wordsOf, blockGood, badLength, readBlocks}
 use Rattle.semantics.specs.Call.{Result, Outcome, outcome, result, readerCall}
 use Rattle.semantics.proofs.Basics.{cond-true, cond-false}
-use Rattle.semantics.proofs.Calls.{needs-met}
-use Rattle.sheet.specs.declared.Written.{Written}
-use Rattle.sheet.specs.declared.Written.the-variants.{Words, Refused}
-use Rattle.sheet.specs.Replies.{finished}
+use Rattle.semantics.proofs.Calls.{needs-met, needs-short}
+use Rattle.answers.specs.declared.Written.{Written}
+use Rattle.answers.specs.declared.Written.the-variants.{Words, Refused}
+use Rattle.answers.specs.Replies.{finished}
 use Rattle.block_reader.specs.Replies.{wordsOutcome}
 use Rattle.slices.proofs.Laws.{put-next}
-use Rattle.sheet.proofs.Outcomes.{refused-outcome, words-outcome, needs-short}
+use Rattle.answers.proofs.Outcomes.{refused-outcome, words-outcome}
 
 words-snoc : (n : ℕ) (bs : List ℕ) → wordsOf (n + 1) bs ≡ wordsOf n bs ++ (wordAt (drop (4 * n) bs) ∷ [])
 unfolding wordsOf

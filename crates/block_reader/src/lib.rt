@@ -5,11 +5,11 @@ ghost use Prim.Native.Nat.{_+_, _*_, _≤_};
 ghost use lib.ListN.{length, take, drop};
 ghost use Rattle.semantics.specs.Block.{wordsOf, badLength, readBlocks};
 ghost use Rattle.semantics.specs.Call.{readerCall};
-ghost use Rattle.sheet.specs.Replies.{writtenOutcome, finished};
+ghost use Rattle.answers.specs.Replies.{writtenOutcome, finished};
 ghost use Rattle.block_reader.specs.Replies.{wordsOutcome};
 use block::words;
-use sheet::Refusal;
-use sheet::Written;
+use answers::Refusal;
+use answers::Written;
 
 fn bad_length(n: usize) -> bool
     ensures { λ r. ⌜ r ≡ badLength n ⌝ }
@@ -81,6 +81,6 @@ pub fn read_blocks(bytes: &[u8], out: &mut [u32]) -> Written
     ensures { λ r. ⌜ writtenOutcome r (now (out .exit)) ≡ readerCall (now (bytes .entry)) (length (now (out .entry))) ⌝ }
 {
     let read = read_all(bytes, out);
-    slices::zero_from(out, sheet::count_of(read));
+    slices::zero_from(out, answers::count_of(read));
     read
 }

@@ -6,11 +6,11 @@ ghost use lib.ListN.{length, getD, take, drop};
 ghost use Rattle.semantics.specs.Arithmetic.{prime};
 ghost use Rattle.semantics.specs.Block.{wordsOf, wordBytes, firstWords, blockBytes, writeBlocks};
 ghost use Rattle.semantics.specs.Call.{writerCall};
-ghost use Rattle.sheet.specs.Replies.{writtenOutcome, finished};
+ghost use Rattle.answers.specs.Replies.{writtenOutcome, finished};
 use block::words;
 use sheet::Checked;
-use sheet::Refusal;
-use sheet::Written;
+use answers::Refusal;
+use answers::Written;
 
 // The word at i, 0 past the end.
 fn word_or_zero(s: &[u32], i: usize) -> u32
@@ -94,6 +94,6 @@ pub fn write_blocks(s: &[u32], out: &mut [u8]) -> Written
     ensures { λ r. ⌜ writtenOutcome r (now (out .exit)) ≡ writerCall prime (now (s .entry)) (length (now (out .entry))) ⌝ }
 {
     let written = write_all(s, out);
-    slices::zero_bytes_from(out, sheet::count_of(written));
+    slices::zero_bytes_from(out, answers::count_of(written));
     written
 }

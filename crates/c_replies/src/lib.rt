@@ -3,27 +3,28 @@ ghost use mathlib.Core.Path.{_≡_};
 ghost use Rattle.packed_var.specs.Packed.{packedReply};
 ghost use Rattle.packing.specs.Leaves.{unpackedReply};
 ghost use Rattle.block.specs.Checked.{blockReply};
-ghost use Rattle.sheet.specs.Replies.{checkedReply, writtenReply};
-ghost use Rattle.sheet_calls.specs.Replies.{countedReply};
+ghost use Rattle.answers.specs.Replies.{writtenReply};
+ghost use Rattle.sheet.specs.Replies.{checkedReply};
+ghost use Rattle.answers.specs.Replies.{countedReply};
 ghost use Rattle.c_replies.specs.Fields.{packedFields, recordFields, blockFields, sheetFields, numberFields, writtenFields};
 use block::BlockChecked;
 use packed_var::Packed;
 use packing::Unpacked;
 use sheet::Checked;
-use sheet::Written;
-use sheet_calls::Counted;
+use answers::Written;
+use answers::Counted;
 
 #[repr(C)]
 pub struct SuhkelvaPacked {
     pub number: u32,
-    pub place: u32,
+    pub place: u64,
     pub packed: u32,
 }
 
 #[repr(C)]
 pub struct SuhkelvaRecord {
     pub number: u32,
-    pub place: u32,
+    pub place: u64,
     pub kind: u32,
     pub a: u32,
     pub b: u32,
@@ -34,7 +35,7 @@ pub struct SuhkelvaRecord {
 #[repr(C)]
 pub struct SuhkelvaBlock {
     pub number: u32,
-    pub place: u32,
+    pub place: u64,
     pub good: u32,
 }
 
@@ -74,7 +75,7 @@ pub fn packed_fields(packed: Packed) -> SuhkelvaPacked
         },
         Packed::Refused(r) => SuhkelvaPacked {
             number: r.number,
-            place: r.place,
+            place: r.place as u64,
             packed: 0,
         },
     }
@@ -95,7 +96,7 @@ pub fn record_fields(unpacked: Unpacked) -> SuhkelvaRecord
         },
         Unpacked::Refused(r) => SuhkelvaRecord {
             number: r.number,
-            place: r.place,
+            place: r.place as u64,
             kind: 0,
             a: 0,
             b: 0,
@@ -121,7 +122,7 @@ pub fn block_fields(checked: BlockChecked) -> SuhkelvaBlock
         },
         BlockChecked::Refused(r) => SuhkelvaBlock {
             number: r.number,
-            place: r.place,
+            place: r.place as u64,
             good: 0,
         },
     }

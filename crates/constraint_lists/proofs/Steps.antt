@@ -5,7 +5,7 @@ use Prim.Native.Nat.{ℕ, suc, _+_, _*_, _≤_, _<_}
 use native.Mathlib.Omega.{arith}
 use lib.Dec.{eqb, leb}
 use lib.ListN.{length, take}
-use borrow.Author.Tests.{lt-leb, eq-eqb, ne-eqb}
+use borrow.Author.Tests.{eq-eqb, ne-eqb}
 use Rattle.semantics.specs.Arithmetic.{prime}
 use Rattle.semantics.specs.Answer.{Answer, good, refused, andThen}
 use Rattle.semantics.specs.Sheet.{Sheet}
@@ -15,10 +15,10 @@ use Rattle.semantics.specs.Expand.{expandAll}
 use Rattle.semantics.specs.Group.{Root, Item, Group, constraintRoots, constraintTerm, headers, variables, terms, layout}
 use Rattle.semantics.specs.Call.{Result, needs, result, fitted, firstShort, family, constraintOutputs}
 use Rattle.semantics.proofs.Basics.{cond-true, cond-false, by-test}
-use Rattle.semantics.proofs.Calls.{needs-met}
+use Rattle.semantics.proofs.Calls.{needs-met, needs-short}
 use Rattle.semantics.proofs.Demands.{constraint-nodes}
 use Rattle.records.specs.Access.{recordsOf}
-use Rattle.sheet.specs.declared.Refusal.{Refusal}
+use Rattle.answers.specs.declared.Refusal.{Refusal}
 use Rattle.expand.specs.declared.Expanded.{Expanded}
 use Rattle.expand.specs.declared.Expanded.the-variants as expanded
 use Rattle.expand.specs.Walking.{Holds, Expands}
@@ -43,10 +43,6 @@ unfolding layout
 short-few term gs h v t (grouped.Written c) l = tt
 short-few term gs h v t (grouped.Short k) l =
     omega (arith, first-bound 0 (layout term gs) (length h ∷ length v ∷ length t ∷ []), l .0)
-
-needs-short : {X : Type 0} (number needed lent : ℕ) (rest : Answer X) → lent < needed → refused number needed ≡ needs number needed lent rest
-unfolding needs
-needs-short number needed lent rest h = sym (cond-false (leb needed lent) rest (refused number needed) (lt-leb needed lent h))
 
 module _ (work pool : ℕ) (lent : List ℕ) (roots : Sheet → List Root) (outputs : Sheet → List (List ℕ)) (numbers : Sheet → List ℕ) (s : Sheet) where
   abbrev whole : Answer Result

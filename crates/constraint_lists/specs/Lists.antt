@@ -11,7 +11,7 @@ use Rattle.semantics.specs.Walk.{order}
 use Rattle.semantics.specs.Expand.{expandAll}
 use Rattle.semantics.specs.Group.{Root, constraintRoots}
 use Rattle.semantics.specs.Call.{Result, needs, fitted, constraintOutputs}
-use Rattle.sheet.specs.declared.Refusal.{Refusal}
+use Rattle.answers.specs.declared.Refusal.{Refusal}
 use Rattle.grouping.specs.declared.Lengths.{Lengths}
 use Rattle.grouping.specs.declared.Grouped.{Grouped}
 use Rattle.grouping.specs.declared.Grouped.the-variants as grouped

@@ -10,7 +10,7 @@ ghost use Rattle.constraint_lists.specs.Lists.{refusalOf, shortOf, Short
 use expand::Expanded;
 use grouping::Grouped;
 use grouping::Lengths;
-use sheet::Refusal;
+use answers::Refusal;
 
 pub enum ConstraintLists {
     Written(Lengths),

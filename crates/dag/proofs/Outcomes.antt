@@ -14,10 +14,10 @@ use Rattle.semantics.specs.Check.{readSheet, check}
 use Rattle.semantics.specs.Graph.{graphOf}
 use Rattle.semantics.specs.Call.{Result, outcome, needs, result, builderCall, checkCall, zeros, paddedAll}
 use Rattle.semantics.proofs.Basics.{cond-true, cond-false}
-use Rattle.sheet.specs.declared.Refusal.{Refusal}
+use Rattle.answers.specs.declared.Refusal.{Refusal}
 use Rattle.sheet.specs.declared.Checked.{Checked}
 use Rattle.sheet.specs.declared.Checked.the-variants as checked
-use Rattle.sheet.specs.declared.Written.the-variants.{Words, Refused}
+use Rattle.answers.specs.declared.Written.the-variants.{Words, Refused}
 use Rattle.sheet.specs.Replies.{checkedOutcome, refusalOf}
 use Rattle.sheet.proofs.Answers.{on-found, on-refused}
 use Rattle.records.proofs.Reading.{read-found}

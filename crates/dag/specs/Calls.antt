@@ -8,8 +8,8 @@ use Rattle.semantics.specs.Answer.{good}
 use Rattle.semantics.specs.Sheet.{lengthOf}
 use Rattle.semantics.specs.Check.{readSheet, check}
 use Rattle.semantics.specs.Call.{Outcome, zeros}
-use Rattle.sheet.specs.declared.Written.{Written}
-use Rattle.sheet.specs.Replies.{writtenReply}
+use Rattle.answers.specs.declared.Written.{Written}
+use Rattle.answers.specs.Replies.{writtenReply}
 
 -- The reply, scratch and the output.
 abbrev pub builtOutcome : Written → (scratch out : List ℕ) → Outcome

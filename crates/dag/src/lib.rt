@@ -8,8 +8,8 @@ ghost use Rattle.dag.specs.Calls.{builtOutcome, Clear};
 mod graph;
 
 use sheet::Checked;
-use sheet::Refusal;
-use sheet::Written;
+use answers::Refusal;
+use answers::Written;
 
 // The graph of a checked sheet, where scratch and output are long enough.
 fn build_checked(

@@ -7,9 +7,9 @@ use Rattle.semantics.specs.Arithmetic.{prime}
 use Rattle.semantics.specs.Call.{Outcome, Accepted, handedBack, builderCall, constraintCall, interactionCall}
 use Rattle.semantics.specs.Demand.{GraphRule, ConstraintRule, InteractionRule, GraphConstraintRule, GraphInteractionRule}
 use Rattle.semantics.proofs.Demands.{demand-prime}
-use Rattle.sheet.specs.declared.Written.{Written}
-use Rattle.sheet.specs.declared.Written.the-variants.{Words, Refused}
-use Rattle.sheet.specs.Replies.{countOf}
+use Rattle.answers.specs.declared.Written.{Written}
+use Rattle.answers.specs.declared.Written.the-variants.{Words, Refused}
+use Rattle.answers.specs.Replies.{countOf}
 use Rattle.dag.specs.Calls.{builtOutcome}
 use Rattle.demands.specs.Demand.{Built, ConstraintsExpanded, InteractionsExpanded, Demand}
 

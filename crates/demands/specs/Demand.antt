@@ -10,8 +10,8 @@ use Rattle.semantics.specs.Sheet.{Sheet}
 use Rattle.semantics.specs.Check.{check}
 use Rattle.semantics.specs.Call.{Outcome, Accepted, handedBack, builderCall, constraintCall, interactionCall}
 use Rattle.semantics.specs.Demand.{GraphRule, ConstraintRule, InteractionRule, GraphConstraintRule, GraphInteractionRule}
-use Rattle.sheet.specs.declared.Written.{Written}
-use Rattle.sheet.specs.Replies.{writtenReply, countOf}
+use Rattle.answers.specs.declared.Written.{Written}
+use Rattle.answers.specs.Replies.{writtenReply, countOf}
 use Rattle.dag.specs.Calls.{builtOutcome}
 use Rattle.constraint_lists.specs.declared.ConstraintLists.{ConstraintLists}
 use Rattle.interaction_lists.specs.declared.InteractionLists.{InteractionLists}

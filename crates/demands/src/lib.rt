@@ -3,7 +3,7 @@ ghost use Rattle.expansion.specs.Answers.{constraintOutcome, interactionOutcome
 ghost use Rattle.demands.specs.Demand.{Built, ConstraintsExpanded, InteractionsExpanded};
 use constraint_lists::ConstraintLists;
 use interaction_lists::InteractionLists;
-use sheet::Written;
+use answers::Written;
 
 pub fn build(s: &[u32], scratch: &mut [u32], out: &mut [u32]) -> Written
     ensures { λ r. ⌜ Built (now (s .entry)) r (now (out .exit)) ⌝ }

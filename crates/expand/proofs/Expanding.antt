@@ -14,7 +14,7 @@ use Rattle.semantics.specs.Walk.{childrenAt, member, foldLeft, visit}
 use Rattle.semantics.specs.Expand.{expandAll}
 use Rattle.semantics.proofs.Members.{Mem}
 use Rattle.semantics.proofs.Walks.{by-seen, fold-keeps}
-use Rattle.sheet.specs.declared.Refusal.{Refusal}
+use Rattle.answers.specs.declared.Refusal.{Refusal}
 use Rattle.records.specs.declared.Record as declared
 use Rattle.records.specs.Access.{nodeIn, recordsOf}
 use Rattle.records.specs.Orders.{Order, There}

@@ -22,7 +22,7 @@ use Rattle.semantics.proofs.Records.{fitsRow, isKind, kind-good, words-fit}
 use Rattle.packed_var.specs.declared.Packed.{Packed}
 use Rattle.packed_var.specs.declared.Packed.the-variants.{Var, Refused}
 use Rattle.packed_var.specs.declared.PackedVar.{PackedVar}
-use Rattle.symbolic_variable.specs.declared.Refusal.{Refusal}
+use Rattle.answers.specs.declared.Refusal.{Refusal}
 use Rattle.packed_var.specs.Packed.{packedOutcome}
 use Rattle.packed_var.proofs.Answers.{packedAnswer, answer-is}
 use Rattle.monomial.specs.Words.{held, Fits}

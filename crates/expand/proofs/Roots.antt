@@ -11,7 +11,7 @@ use Rattle.semantics.specs.Check.{readSheet, check}
 use Rattle.semantics.specs.Walk.{childrenAt, foldLeft, visit, order}
 use Rattle.semantics.specs.Expand.{expandAll}
 use Rattle.semantics.proofs.Members.{not-in, Below, cons-below, append-below}
-use Rattle.sheet.specs.declared.Refusal.{Refusal}
+use Rattle.answers.specs.declared.Refusal.{Refusal}
 use Rattle.records.specs.declared.Interaction.{Interaction}
 use Rattle.records.specs.Access.{recordsOf, part, messageLength, interactionFrom, eachWords, NamesInside, RootsInside, AllRootsInside}
 use Rattle.records.specs.Orders.{Visiting}

@@ -35,8 +35,8 @@ pub fn list_of(pool: &[u32], c: usize) -> PoolList
     ensures { λ x. ⌜ (x .at ≡ getD (now (pool .entry)) (2 * c) 0) × (x .count ≡ getD (now (pool .entry)) (2 * c + 1) 0) ⌝ }
 {
     PoolList {
-        at: records::wide(pool[2 * c]),
-        count: records::wide(pool[2 * c + 1]),
+        at: answers::wide(pool[2 * c]),
+        count: answers::wide(pool[2 * c + 1]),
     }
 }
 

@@ -18,7 +18,7 @@ mod kinds;
 
 use crate::kinds::Made;
 use monomial::lists;
-use sheet::Refusal;
+use answers::Refusal;
 
 // How many words of the pool are taken then, or a refusal.
 pub enum Expanded {
@@ -35,11 +35,11 @@ fn make_list(sheet: &[u32], work: &mut [u32], pool: &[u32], r: usize) -> Made
     if q.kind < 6 {
         return kinds::expand_leaf(work, q);
     }
-    let left = kinds::list_of(pool, records::wide(q.a));
+    let left = kinds::list_of(pool, answers::wide(q.a));
     if q.kind == 8 {
         return kinds::expand_neg(work, pool, left);
     }
-    let right = kinds::list_of(pool, records::wide(q.b));
+    let right = kinds::list_of(pool, answers::wide(q.b));
     if q.kind == 9 {
         return kinds::expand_product(work, pool, left, right);
     }
@@ -140,7 +140,7 @@ pub fn expand_names(
     let mut taken = used;
     let mut j: usize = 0;
     while j < count {
-        let r = records::wide(sheet[at + j]);
+        let r = answers::wide(sheet[at + j]);
         let answer = expand_node(sheet, work, pool, r, taken);
         let Expanded::Used(next) = answer else {
             return answer;

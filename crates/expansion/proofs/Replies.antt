@@ -11,7 +11,7 @@ use Rattle.semantics.specs.Sheet.{Sheet}
 use Rattle.semantics.specs.Check.{readSheet, check}
 use Rattle.semantics.specs.Call.{Result, zeros, padded, paddedAll, outcome, onSheet, checkCall, expansion, constraintCall, interactionCall}
 use Rattle.records.proofs.Reading.{read-found}
-use Rattle.sheet.specs.declared.Refusal.{Refusal}
+use Rattle.answers.specs.declared.Refusal.{Refusal}
 use Rattle.sheet.specs.declared.Head.{Head}
 use Rattle.sheet.specs.declared.Checked.{Checked}
 use Rattle.sheet.specs.declared.Checked.the-variants as checked

@@ -3,7 +3,7 @@ use mathlib.Core.List.{List, [], _∷_, _++_}
 use Prim.Native.Nat.{ℕ, _-_}
 use lib.ListN.{length, take, replicate}
 use Rattle.semantics.specs.Call.{Reply, Outcome, acceptedWith}
-use Rattle.sheet.specs.Replies.{refusedReply}
+use Rattle.answers.specs.Replies.{refusedReply}
 use Rattle.grouping.specs.declared.Lengths.{Lengths}
 use Rattle.constraint_lists.specs.declared.ConstraintLists.{ConstraintLists}
 use Rattle.constraint_lists.specs.declared.ConstraintLists.the-variants.{Written, Refused}

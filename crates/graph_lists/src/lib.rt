@@ -17,7 +17,7 @@ fn node_number(scratch: &[u32], r: usize) -> usize
     requires { ⌜ (r < length (now scratch)) × (0 < getD (now scratch) r 0 % 65536) ⌝ }
     ensures { λ n. ⌜ n ≡ pred (getD (now (scratch .entry)) r 0 % 65536) ⌝ }
 {
-    records::wide(scratch[r] % FLAG - 1)
+    answers::wide(scratch[r] % FLAG - 1)
 }
 
 // Flags a node that has no flag.
@@ -39,7 +39,7 @@ fn flag_nodes(sheet: &[u32], at: usize, count: usize, scratch: &mut [u32])
 {
     let mut j = 0;
     while j < count {
-        let node = node_number(scratch, records::wide(sheet[at + j]));
+        let node = node_number(scratch, answers::wide(sheet[at + j]));
         flag_node(scratch, node);
         j += 1;
     }
@@ -93,7 +93,7 @@ fn write_names(sheet: &[u32], at: usize, count: usize, scratch: &[u32], out: &mu
 {
     let mut j = 0;
     while j < count {
-        let node = node_number(scratch, records::wide(sheet[at + j]));
+        let node = node_number(scratch, answers::wide(sheet[at + j]));
         out[to + j] = node as u32;
         j += 1;
     }

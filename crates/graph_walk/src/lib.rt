@@ -47,14 +47,14 @@ fn pick_node(sheet: &[u32], scratch: &[u32], out: &[u32], r: usize) -> Pick
     if q.kind < 6 {
         return Pick::Make(q);
     }
-    let l = built_child(scratch, out, records::wide(q.a));
+    let l = built_child(scratch, out, answers::wide(q.a));
     if q.kind == 8 {
         return rules::neg_rule(l, q.c);
     }
     two_rule(
         q.kind,
         l,
-        built_child(scratch, out, records::wide(q.b)),
+        built_child(scratch, out, answers::wide(q.b)),
         q.c,
     )
 }
@@ -129,7 +129,7 @@ pub fn add_names(
     let mut used = n;
     let mut j: usize = 0;
     while j < count {
-        let r = records::wide(sheet[at + j]);
+        let r = answers::wide(sheet[at + j]);
         used = add_expr(sheet, scratch, out, r, used);
         j += 1;
     }

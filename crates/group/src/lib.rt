@@ -1,5 +1,4 @@
 // Grouping the monomials of roots by their variables: each variable list is counted, then the terms are placed.
-ghost use mathlib.Core.Path.{_≡_};
 ghost use Prim.Native.Nat.{_+_, _≤_};
 ghost use lib.ListN.{length};
 ghost use Rattle.monomial.specs.Words.{listIn};
@@ -20,12 +19,6 @@ pub enum Found {
 pub enum Tallied {
     Headers(usize),
     Full,
-}
-
-fn wide(w: u32) -> usize
-    ensures { λ r. ⌜ r ≡ w ⌝ }
-{
-    w as usize
 }
 
 // Counts the monomials of a list that stands at `at`: in runs, each of which has the monomials without a row put in at its end.
@@ -64,7 +57,7 @@ pub fn tally_root(headers: &mut [u32], n: usize, pool: &[u32], node: usize) -> T
     requires { ⌜ Rows n (now headers) (now pool) × InPool (now pool) node × (total (tallied n (now headers) (now pool)) + length (listOf (now pool) node) ≤ 4294967295) ⌝ }
     ensures { λ r. ⌜ Counted (now (headers .exit)) (now (pool .entry)) (tallyAll (nonZero (listOf (now (pool .entry)) node)) (tallied n (now (headers .entry)) (now (pool .entry)))) r ⌝ }
 {
-    let at = wide(pool[2 * node]);
-    let count = wide(pool[2 * node + 1]);
+    let at = answers::wide(pool[2 * node]);
+    let count = answers::wide(pool[2 * node + 1]);
     tally_list(headers, n, pool, at, count)
 }

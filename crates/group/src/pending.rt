@@ -27,12 +27,6 @@ pub struct Run {
     pub pending: usize,
 }
 
-fn wide(w: u32) -> usize
-    ensures { λ r. ⌜ r ≡ w ⌝ }
-{
-    w as usize
-}
-
 // The four words of a row.
 fn put_row(headers: &mut [u32], at: usize, place: u32, count: u32)
     requires { ⌜ at + 4 ≤ length (now headers) ⌝ }
@@ -56,7 +50,7 @@ fn may_follow(places: &[usize], b: usize, pool: &[u32], at: usize) -> bool
         return false;
     }
     let last = places[b - 1];
-    let order = search::order_in(pool, at + 2, wide(pool[at]), last + 2, wide(pool[last]));
+    let order = search::order_in(pool, at + 2, answers::wide(pool[at]), last + 2, answers::wide(pool[last]));
     match order {
         Order::After => true,
         Order::Same => false,
@@ -149,7 +143,7 @@ pub fn tally_run(
         };
         b = c;
         near = k;
-        place = place + 2 + wide(pool[place]);
+        place = place + 2 + answers::wide(pool[place]);
         i += 1;
     }
     Run {

@@ -9,12 +9,6 @@ ghost use Rattle.monomial.specs.Words.{readMonomial, listIn};
 ghost use Rattle.group.specs.Grouped.{Rows, tallied, Standing, listOf, InPool, termOf, widthOf, itemAt, itemsAt, ToPlace, Places, varsIn};
 use crate::Found;
 
-fn wide(w: u32) -> usize
-    ensures { λ r. ⌜ r ≡ w ⌝ }
-{
-    w as usize
-}
-
 // A term of a constraint, two words; `at` counts terms.
 fn put_constraint_term(terms: &mut [u32], at: usize, index: u32, coef: u32)
     requires { ⌜ 2 * at + 2 ≤ length (now terms) ⌝ }
@@ -70,7 +64,7 @@ pub fn place_monomial(
     };
     let row = 4 * k;
     let cursor = headers[row + 1];
-    put_term(terms, wide(cursor), interaction, index, field, coef);
+    put_term(terms, answers::wide(cursor), interaction, index, field, coef);
     headers[row + 1] = cursor + 1;
     k
 }
@@ -126,7 +120,7 @@ pub fn place_list(
             terms,
             near,
         );
-        place = place + 2 + wide(pool[place]);
+        place = place + 2 + answers::wide(pool[place]);
         i += 1;
     }
 }
@@ -145,8 +139,8 @@ pub fn place_root(
     requires { ⌜ ToPlace interaction n (now headers) (now pool) (now terms) (itemsAt index field (listOf (now pool) node)) × InPool (now pool) node ⌝ }
     ensures { λ _. ⌜ Places interaction n (now (pool .entry)) (now (headers .entry)) (now (terms .entry)) (now (headers .exit)) (now (terms .exit)) (itemsAt index field (listOf (now (pool .entry)) node)) ⌝ }
 {
-    let at = wide(pool[2 * node]);
-    let count = wide(pool[2 * node + 1]);
+    let at = answers::wide(pool[2 * node]);
+    let count = answers::wide(pool[2 * node + 1]);
     place_list(
         headers,
         n,
@@ -166,8 +160,8 @@ fn write_row(headers: &[u32], i: usize, pool: &[u32], variables: &mut [u32], at:
     ensures { λ r. ⌜ (r ≡ at + getD (now (headers .entry)) (4 * i + 2) 0) × (now (variables .exit) ≡ take at (now (variables .entry)) ++ (take (getD (now (headers .entry)) (4 * i + 2) 0) (drop (getD (now (headers .entry)) (4 * i) 0 + 2) (now (pool .entry))) ++ drop (at + getD (now (headers .entry)) (4 * i + 2) 0) (now (variables .entry)))) ⌝ }
 {
     let row = 4 * i;
-    let from = wide(headers[row]) + 2;
-    let count = wide(headers[row + 2]);
+    let from = answers::wide(headers[row]) + 2;
+    let count = answers::wide(headers[row + 2]);
     let end = from + count;
     slices::copy_words(&pool[from..end], &mut variables[at..]);
     at + count

@@ -8,12 +8,6 @@ ghost use Rattle.group.specs.Grouped.{Rows, tallied, Spot, Between};
 use crate::Found;
 use monomial::vars::Order;
 
-fn wide(w: u32) -> usize
-    ensures { λ r. ⌜ r ≡ w ⌝ }
-{
-    w as usize
-}
-
 // Where the n variables that stand at `at` are in the order, seen from the m variables that stand at `from`.
 pub fn order_in(pool: &[u32], at: usize, n: usize, from: usize, m: usize) -> Order
     requires { ⌜ (at + n ≤ length (now pool)) × (from + m ≤ length (now pool)) ⌝ }
@@ -49,9 +43,9 @@ fn order_of_row(headers: &[u32], i: usize, pool: &[u32], at: usize) -> Order
     order_in(
         pool,
         at + 2,
-        wide(pool[at]),
-        wide(headers[row]) + 2,
-        wide(headers[row + 2]),
+        answers::wide(pool[at]),
+        answers::wide(headers[row]) + 2,
+        answers::wide(headers[row + 2]),
     )
 }
 

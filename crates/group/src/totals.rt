@@ -6,12 +6,6 @@ ghost use lib.ListN.{length, drop};
 ghost use Rattle.semantics.specs.Group.{rows};
 ghost use Rattle.group.specs.Grouped.{column, sum, totalled};
 
-fn wide(w: u32) -> usize
-    ensures { λ r. ⌜ (r ≡ w) × (r ≤ 4294967295) ⌝ }
-{
-    w as usize
-}
-
 // The total of one word over the n rows.
 fn column_total(headers: &[u32], n: usize, word: usize) -> usize
     requires { ⌜ (word < 4) × (4 * n ≤ length (now headers)) × (n ≤ 4294967295) ⌝ }
@@ -20,7 +14,7 @@ fn column_total(headers: &[u32], n: usize, word: usize) -> usize
     let mut total: usize = 0;
     let mut i: usize = 0;
     while i < n {
-        total += wide(headers[4 * i + word]);
+        total += answers::wide(headers[4 * i + word]);
         i += 1;
     }
     total

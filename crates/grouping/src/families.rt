@@ -48,7 +48,7 @@ fn tally_names(
     let mut rows = n;
     let mut j: usize = 0;
     while j < count {
-        let r = records::wide(sheet[at + j]);
+        let r = answers::wide(sheet[at + j]);
         let answer = group::tally_root(headers, rows, pool, r);
         let Tallied::Headers(next) = answer else {
             return Tallied::Full;
@@ -130,7 +130,7 @@ fn place_constraints(
 {
     let mut j: usize = 0;
     while j < count {
-        let r = records::wide(sheet[at + j]);
+        let r = answers::wide(sheet[at + j]);
         place::place_root(headers, n, pool, r, false, j as u32, 0, terms);
         j += 1;
     }
@@ -152,7 +152,7 @@ fn place_names(
 {
     let mut j: usize = 0;
     while j < count {
-        let r = records::wide(sheet[at + j]);
+        let r = answers::wide(sheet[at + j]);
         place::place_root(headers, n, pool, r, true, index, j as u32, terms);
         j += 1;
     }

@@ -15,7 +15,7 @@ use Rattle.semantics.specs.Call.{Result, fitted, firstShort, family, interactio
 use Rattle.semantics.proofs.Demands.{count-nodes, field-nodes}
 use Rattle.records.specs.Access.{recordsOf}
 use Rattle.records.proofs.Reading.{counts, fields}
-use Rattle.sheet.specs.declared.Refusal.{Refusal}
+use Rattle.answers.specs.declared.Refusal.{Refusal}
 use Rattle.expand.specs.declared.Expanded.{Expanded}
 use Rattle.expand.specs.declared.Expanded.the-variants as expanded
 use Rattle.expand.specs.Walking.{Holds, Expands}

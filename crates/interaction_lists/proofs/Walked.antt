@@ -19,7 +19,7 @@ use Rattle.records.proofs.Rooting.{visiting-both}
 use Rattle.records.proofs.Steps.{inside}
 use Rattle.expand.specs.declared.Expanded.{Expanded}
 use Rattle.expand.specs.declared.Expanded.the-variants.{Used, Refused}
-use Rattle.sheet.specs.declared.Refusal.{Refusal}
+use Rattle.answers.specs.declared.Refusal.{Refusal}
 use Rattle.expand.specs.Walking.{Holds, Expands, Walking}
 use Rattle.expand.proofs.Roots.{far-none, far-refused, far-more, far-walking}
 use Rattle.grouping.specs.Families.{Grouping}

@@ -1,7 +1,7 @@
 // The lists of a checked sheet's interactions, and the two numbers.
 ghost use mathlib.Core.Path.{_≡_};
 ghost use mathlib.Core.List.{[], _∷_, _++_};
-ghost use Prim.Native.Nat.{ℕ, _*_, _≤_, max};
+ghost use Prim.Native.Nat.{ℕ, _*_, _≤_};
 ghost use lib.ListN.{length};
 ghost use Rattle.semantics.specs.Arithmetic.{prime};
 ghost use Rattle.semantics.specs.Check.{readSheet};
@@ -17,7 +17,7 @@ ghost use Rattle.interaction_lists.specs.Lists.{longestFrom, interaction
 use expand::Expanded;
 use grouping::Grouped;
 use grouping::Lengths;
-use sheet::Refusal;
+use answers::Refusal;
 
 // How many words each list of the interactions takes, and the two numbers.
 pub struct InteractionLengths {
@@ -53,16 +53,6 @@ fn walk_interactions(
     expand::expand_fields(s, at, interactions, work, pool, used)
 }
 
-// The larger of two message lengths.
-fn larger(a: usize, b: usize) -> usize
-    ensures { λ r. ⌜ r ≡ max a b ⌝ }
-{
-    if a < b {
-        return b;
-    }
-    a
-}
-
 // The largest message length of the interactions from `at` on.
 fn max_fields_len(s: &[u32], at: usize, interactions: usize) -> usize
     requires { ⌜ AllRootsInside (length (recordsOf (now s))) (now s) at interactions ⌝ }
@@ -73,7 +63,7 @@ fn max_fields_len(s: &[u32], at: usize, interactions: usize) -> usize
     let mut i: usize = 0;
     while i < interactions {
         let x = records::interaction_at(s, from);
-        most = larger(most, x.message);
+        most = answers::larger(most, x.message);
         from = x.next;
         i += 1;
     }

@@ -8,7 +8,6 @@ ghost use Rattle.listing.specs.Putting.{Room, Puts};
 ghost use Rattle.listing.specs.Families.{letterOf, widthOf, lineOf, spaced, headerLine, headerText, familyLines, HeaderInside, HeadersInside};
 use crate::numbers::put_byte;
 use crate::numbers::put_hex;
-use crate::numbers::wide;
 use crate::terms::put_t_line;
 use crate::terms::put_u_line;
 use crate::terms::put_w_line;
@@ -127,10 +126,10 @@ fn put_header(
     requires { ⌜ (h + 4 ≤ length (now headers)) × HeaderInside (widthOf family) (take 4 (drop h (now headers))) (now variables) (now terms) × Room (now out) at (headerText family (listedAt (widthOf family) (now variables) (now terms) (take 4 (drop h (now headers))))) ⌝ }
     ensures { λ r. ⌜ Puts (now (out .entry)) at (headerText family (listedAt (widthOf family) (now (variables .entry)) (now (terms .entry)) (take 4 (drop h (now (headers .entry)))))) (now (out .exit)) r ⌝ }
 {
-    let vars = wide(headers[h]);
-    let first = width(family) * wide(headers[h + 1]);
-    let num_vars = wide(headers[h + 2]);
-    let num_terms = wide(headers[h + 3]);
+    let vars = answers::wide(headers[h]);
+    let first = width(family) * answers::wide(headers[h + 1]);
+    let num_vars = answers::wide(headers[h + 2]);
+    let num_terms = answers::wide(headers[h + 3]);
     let next = put_header_line(out, at, letter(family), variables, vars, num_vars);
     put_terms(out, next, family, terms, first, num_terms)
 }

@@ -5,7 +5,6 @@ ghost use Rattle.listing.specs.Putting.{Room, Puts};
 use crate::numbers::put_byte;
 use crate::numbers::put_number;
 use crate::numbers::put_text;
-use crate::numbers::wide;
 
 // The graph's numbers of nodes and constraints, and its largest offset.
 pub fn put_dag_line(
@@ -19,8 +18,8 @@ pub fn put_dag_line(
     ensures { λ r. ⌜ Puts (now (out .entry)) at (line (dagText ∷ decimal nodes ∷ decimal constraints ∷ decimal rotation ∷ [])) (now (out .exit)) r ⌝ }
 {
     let a = put_text(out, at, b"dag");
-    let b = put_number(out, a, wide(nodes));
-    let c = put_number(out, b, wide(constraints));
+    let b = put_number(out, a, answers::wide(nodes));
+    let c = put_number(out, b, answers::wide(constraints));
     let d = put_number(out, c, rotation);
     put_byte(out, d, b'\n')
 }
@@ -32,7 +31,7 @@ pub fn put_refused(out: &mut [u8], at: usize, step: &[u8], number: u32, place: u
 {
     let a = put_text(out, at, b"refused ");
     let b = put_text(out, a, step);
-    let c = put_number(out, b, wide(number));
+    let c = put_number(out, b, answers::wide(number));
     let d = put_number(out, c, place);
     put_byte(out, d, b'\n')
 }

@@ -7,12 +7,6 @@ ghost use Rattle.semantics.specs.Sheetlist.{digits, decimal, hexDigit, hexDigit
 ghost use Rattle.listing.specs.Putting.{Room, Puts};
 use packed_var::PackedVar;
 
-pub fn wide(w: u32) -> usize
-    ensures { λ r. ⌜ r ≡ w ⌝ }
-{
-    w as usize
-}
-
 pub fn put_byte(out: &mut [u8], at: usize, byte: u8) -> usize
     requires { ⌜ Room (now out) at (byte ∷ []) ⌝ }
     ensures { λ r. ⌜ Puts (now (out .entry)) at (byte ∷ []) (now (out .exit)) r ⌝ }

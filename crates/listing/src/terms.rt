@@ -8,7 +8,6 @@ ghost use Rattle.listing.specs.Putting.{Room, Puts};
 use crate::numbers::put_byte;
 use crate::numbers::put_number;
 use crate::numbers::put_signed;
-use crate::numbers::wide;
 
 // A space, a coefficient and the end of the line.
 fn put_last(out: &mut [u8], at: usize, c: u32) -> usize
@@ -26,7 +25,7 @@ pub fn put_t_line(out: &mut [u8], at: usize, terms: &[u32], k: usize) -> usize
     ensures { λ r. ⌜ Puts (now (out .entry)) at (tLine prime (take 2 (drop k (now (terms .entry))))) (now (out .exit)) r ⌝ }
 {
     let a = put_byte(out, at, b't');
-    let b = put_number(out, a, wide(terms[k]));
+    let b = put_number(out, a, answers::wide(terms[k]));
     put_last(out, b, terms[k + 1])
 }
 
@@ -36,7 +35,7 @@ pub fn put_u_line(out: &mut [u8], at: usize, terms: &[u32], k: usize) -> usize
     ensures { λ r. ⌜ Puts (now (out .entry)) at (uLine prime (take 3 (drop k (now (terms .entry))))) (now (out .exit)) r ⌝ }
 {
     let a = put_byte(out, at, b'u');
-    let b = put_number(out, a, wide(terms[k + 1]));
+    let b = put_number(out, a, answers::wide(terms[k + 1]));
     put_last(out, b, terms[k])
 }
 
@@ -46,7 +45,7 @@ pub fn put_w_line(out: &mut [u8], at: usize, terms: &[u32], k: usize) -> usize
     ensures { λ r. ⌜ Puts (now (out .entry)) at (wLine prime (take 3 (drop k (now (terms .entry))))) (now (out .exit)) r ⌝ }
 {
     let a = put_byte(out, at, b'w');
-    let b = put_number(out, a, wide(terms[k + 1]));
-    let c = put_number(out, b, wide(terms[k + 2]));
+    let b = put_number(out, a, answers::wide(terms[k + 1]));
+    let c = put_number(out, b, answers::wide(terms[k + 2]));
     put_last(out, c, terms[k])
 }

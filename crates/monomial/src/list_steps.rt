@@ -1,7 +1,7 @@
 // Single steps on lists of monomials.
 ghost use mathlib.Core.Path.{_≡_};
 ghost use mathlib.Core.List.{[], _∷_, _++_, map};
-ghost use Prim.Native.Nat.{_+_, _*_, _-_, _≤_, min, max};
+ghost use Prim.Native.Nat.{_+_, _*_, _-_, _≤_, min};
 ghost use lib.ListN.{length, getD, take, drop};
 ghost use Rattle.semantics.specs.Arithmetic.{prime};
 ghost use Rattle.semantics.specs.Monomial.{mulMonomial};
@@ -12,30 +12,12 @@ use crate::multiply;
 use crate::negative;
 use packed_var::PackedVar;
 
-fn smaller(a: usize, b: usize) -> usize
-    ensures { λ r. ⌜ r ≡ min a b ⌝ }
-{
-    if a < b { a } else { b }
-}
-
-pub fn larger(a: usize, b: usize) -> usize
-    ensures { λ r. ⌜ r ≡ max a b ⌝ }
-{
-    if a < b { b } else { a }
-}
-
-fn wide(w: u32) -> usize
-    ensures { λ r. ⌜ r ≡ w ⌝ }
-{
-    w as usize
-}
-
 // How many variables slot k of the work list has: no more than its fourteen places.
 pub fn slot_count(work: &[u32], k: usize) -> usize
     requires { ⌜ 16 * k + 16 ≤ length (now work) ⌝ }
     ensures { λ r. ⌜ r ≡ min (getD (now (work .entry)) (16 * k) 0) 14 ⌝ }
 {
-    smaller(wide(work[16 * k]), 14)
+    answers::smaller(answers::wide(work[16 * k]), 14)
 }
 
 // How many variables of the monomial that stands at `at` are inside the words.
@@ -43,7 +25,7 @@ pub fn vars_in(words: &[u32], at: usize) -> usize
     requires { ⌜ at + 2 ≤ length (now words) ⌝ }
     ensures { λ r. ⌜ r ≡ length (readMonomial (drop at (now (words .entry))) .vars) ⌝ }
 {
-    smaller(wide(words[at]), words.len() - (at + 2))
+    answers::smaller(answers::wide(words[at]), words.len() - (at + 2))
 }
 
 // The monomial that stands at `at`; the words may end within its variables.

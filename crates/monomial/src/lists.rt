@@ -10,7 +10,6 @@ ghost use Rattle.semantics.proofs.Sorting.{All};
 ghost use Rattle.monomial.specs.Words.{monomialOf, held, listIn, listWords, longestOf, insertAll, signed, Fits, ListFits, Summed};
 use crate::Monomial;
 use crate::list_steps::combine_row;
-use crate::list_steps::larger;
 use crate::list_steps::monomial_in;
 use crate::list_steps::slot_count;
 use crate::list_steps::vars_in;
@@ -116,7 +115,7 @@ pub fn longest(pool: &[u32], at: usize, n: usize) -> usize
     let mut i: usize = 0;
     while i < n {
         let size = vars_in(pool, from);
-        most = larger(most, size);
+        most = answers::larger(most, size);
         from = from + 2 + size;
         i += 1;
     }

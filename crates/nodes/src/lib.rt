@@ -27,7 +27,7 @@ pub fn child(out: &[u32], number: u32) -> Child
     requires { ⌜ 4 + 5 * number + 5 ≤ length (now out) ⌝ }
     ensures { λ x. ⌜ (x .number ≡ number) × (x .kind ≡ nodeIn (now (out .entry)) number .kind) × (x .a ≡ nodeIn (now (out .entry)) number .a) ⌝ }
 {
-    let m = records::record_at(out, records::wide(number));
+    let m = records::record_at(out, answers::wide(number));
     Child {
         number: number,
         kind: m.kind,
@@ -46,12 +46,12 @@ pub fn search_from(r: Record) -> usize
         return 0;
     }
     if r.kind == 8 {
-        return records::wide(r.a) + 1;
+        return answers::wide(r.a) + 1;
     }
     if r.a < r.b {
-        return records::wide(r.b) + 1;
+        return answers::wide(r.b) + 1;
     }
-    records::wide(r.a) + 1
+    answers::wide(r.a) + 1
 }
 
 // The first node from `from` on that is equal, or the number of nodes.

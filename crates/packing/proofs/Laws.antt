@@ -13,7 +13,7 @@ use Rattle.semantics.specs.Packing.{leafTests, packed, packFault, packRecord, p
 use Rattle.semantics.specs.Call.{Outcome, outcome, paddedAll, result, packCall, variableCall, unpackCall}
 use Rattle.symbolic_variable.specs.declared.Entry.{Entry}
 use Rattle.symbolic_variable.specs.declared.Entry.the-variants.{Preprocessed, Main, Public, Challenge}
-use Rattle.symbolic_variable.specs.declared.Refusal.{Refusal}
+use Rattle.answers.specs.declared.Refusal.{Refusal}
 use Rattle.packed_var.specs.declared.Packed.{Packed}
 use Rattle.packed_var.specs.declared.Packed.the-variants as packed′
 use Rattle.packed_var.specs.declared.PackedVar.{PackedVar}

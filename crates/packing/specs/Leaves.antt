@@ -9,7 +9,7 @@ use Rattle.semantics.specs.Packing.{leafTests}
 use Rattle.semantics.specs.Call.{Reply, Outcome, acceptedWith, refusedWith}
 use Rattle.symbolic_variable.specs.declared.Entry.{Entry}
 use Rattle.symbolic_variable.specs.Variable.{variableOf}
-use Rattle.symbolic_variable.specs.declared.Refusal.{Refusal}
+use Rattle.answers.specs.declared.Refusal.{Refusal}
 use Rattle.packed_var.specs.Packed.{variableRecord}
 use Rattle.packing.specs.declared.leaf.Leaf.{Leaf}
 use Rattle.packing.specs.declared.leaf.Leaf.the-variants.{Variable, IsFirstRow, IsLastRow, IsTransition}

@@ -1,6 +1,6 @@
 // The leaf that a record's five words encode: a variable or a row mark.
 use symbolic_variable::Entry;
-use symbolic_variable::Refusal;
+use answers::Refusal;
 use symbolic_variable::SymbolicVariable;
 ghost use mathlib.Core.Path.{_≡_};
 ghost use Prim.Native.Nat.{_≤_};
@@ -20,7 +20,7 @@ pub enum LeafRead {
 }
 
 // The word at a place is wrong.
-fn wrong(place: u32) -> LeafRead
+fn wrong(place: usize) -> LeafRead
     ensures { λ r. ⌜ r ≡ wrongAt place ⌝ }
 {
     LeafRead::Refused(Refusal { number: 5, place })

@@ -3,7 +3,7 @@ use leaf::Leaf;
 use leaf::LeafRead;
 use packed_var::Packed;
 use packed_var::PackedVar;
-use symbolic_variable::Refusal;
+use answers::Refusal;
 ghost use mathlib.Core.Path.{_≡_};
 ghost use Rattle.semantics.specs.Sheet.{recordOf};
 ghost use Rattle.semantics.specs.Packing.{unpacked};

@@ -20,12 +20,6 @@ pub struct Record {
     pub d: u32,
 }
 
-pub fn wide(w: u32) -> usize
-    ensures { λ r. ⌜ r ≡ w ⌝ }
-{
-    w as usize
-}
-
 // Where the first n records end, and record n starts.
 pub fn records_end(n: usize) -> usize
     requires { ⌜ 4 + 5 * n < 2 ^ 63 ⌝ }
@@ -62,7 +56,7 @@ pub fn left_at(sheet: &[u32], r: usize) -> usize
     requires { ⌜ 4 + 5 * r + 5 ≤ length (now sheet) ⌝ }
     ensures { λ x. ⌜ x ≡ nodeIn (now (sheet .entry)) r .a ⌝ }
 {
-    wide(sheet[4 + 5 * r + 1])
+    answers::wide(sheet[4 + 5 * r + 1])
 }
 
 // Its right child.
@@ -70,7 +64,7 @@ pub fn right_at(sheet: &[u32], r: usize) -> usize
     requires { ⌜ 4 + 5 * r + 5 ≤ length (now sheet) ⌝ }
     ensures { λ x. ⌜ x ≡ nodeIn (now (sheet .entry)) r .b ⌝ }
 {
-    wide(sheet[4 + 5 * r + 2])
+    answers::wide(sheet[4 + 5 * r + 2])
 }
 
 // Whether record r is equal to q in all five words.
@@ -123,7 +117,7 @@ pub fn num_constraints(sheet: &[u32]) -> usize
     requires { ⌜ check prime (now sheet) ≡ good (readSheet (now sheet)) ⌝ }
     ensures { λ r. ⌜ r ≡ length (readSheet (now (sheet .entry)) .constraints) ⌝ }
 {
-    wide(sheet[2])
+    answers::wide(sheet[2])
 }
 
 // How many interactions it has.
@@ -131,7 +125,7 @@ pub fn num_interactions(sheet: &[u32]) -> usize
     requires { ⌜ check prime (now sheet) ≡ good (readSheet (now sheet)) ⌝ }
     ensures { λ r. ⌜ r ≡ length (readSheet (now (sheet .entry)) .interactions) ⌝ }
 {
-    wide(sheet[3])
+    answers::wide(sheet[3])
 }
 
 // Where the constraints of a checked sheet start.
@@ -139,7 +133,7 @@ pub fn constraints_at(sheet: &[u32]) -> usize
     requires { ⌜ check prime (now sheet) ≡ good (readSheet (now sheet)) ⌝ }
     ensures { λ r. ⌜ r ≡ constraintsAt (now (sheet .entry)) ⌝ }
 {
-    records_end(wide(sheet[1]))
+    records_end(answers::wide(sheet[1]))
 }
 
 // Where its interactions start.
@@ -178,7 +172,7 @@ pub fn interaction_at(sheet: &[u32], at: usize) -> Interaction
     requires { ⌜ at + (4 + messageLength (now sheet) at) ≤ length (now sheet) ⌝ }
     ensures { λ x. ⌜ x ≡ interactionFrom at (messageLength (now (sheet .entry)) at) ⌝ }
 {
-    interaction_from(at, wide(sheet[at + 3]))
+    interaction_from(at, answers::wide(sheet[at + 3]))
 }
 
 // Copies the bus and the weight of the interaction that starts at `at` to the one that starts at `to`.

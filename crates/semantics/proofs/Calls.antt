@@ -1,20 +1,25 @@
 -- What an accepted call hands back.
 use mathlib.Core.Path.{_≡_, refl, sym, _∙_, ap}
 use mathlib.Core.List.{List, [], _∷_, _++_, map, map-append}
-use Prim.Native.Nat.{ℕ, zero, suc, _+_, _-_, _≤_}
+use Prim.Native.Nat.{ℕ, zero, suc, _+_, _-_, _≤_, _<_}
 use native.Mathlib.Omega.{arith}
 use lib.Dec.{leb}
 use lib.ListN.{length, getD, take, replicate, length-append, length-map, length-replicate, List·getD-map}
 use lib.Seq.{take-append-seam, getD-append-add}
-use borrow.Author.Tests.{le-leb}
+use borrow.Author.Tests.{le-leb, lt-leb}
 use Rattle.semantics.specs.Answer.{Answer, good, refused}
 use Rattle.semantics.specs.Call.{Result, Accepted, zeros, padded, paddedAll, outcome, handedBack, needs}
-use Rattle.semantics.proofs.Basics.{cond-true}
+use Rattle.semantics.proofs.Basics.{cond-true, cond-false}
 
 -- A slice long enough is no reason to refuse.
 pub needs-met : {X : Type 0} (number needed lent : ℕ) (rest : Answer X) → needed ≤ lent → needs number needed lent rest ≡ rest
 unfolding needs
 needs-met number needed lent rest h = cond-true (leb needed lent) rest (refused number needed) (le-leb needed lent h)
+
+-- Too short a slice is one.
+pub needs-short : {X : Type 0} (number needed lent : ℕ) (rest : Answer X) → lent < needed → refused number needed ≡ needs number needed lent rest
+unfolding needs
+needs-short number needed lent rest h = sym (cond-false (leb needed lent) rest (refused number needed) (lt-leb needed lent h))
 
 padded-at : (ws : List (List ℕ)) (lent : List ℕ) (k : ℕ) → length ws ≤ length lent
     → take (length (getD ws k [])) (getD (paddedAll ws lent) k []) ≡ getD ws k []

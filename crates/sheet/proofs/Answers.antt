@@ -10,7 +10,7 @@ use Rattle.semantics.specs.Sheet as semantics
 use Rattle.semantics.specs.Check.{check}
 use Rattle.semantics.specs.Call.{Result, Outcome, outcome, paddedAll, result, onSheet, checkCall}
 use Rattle.semantics.proofs.Encoding.{check-sound, check-inside, length-limit}
-use Rattle.sheet.specs.declared.Refusal.{Refusal}
+use Rattle.answers.specs.declared.Refusal.{Refusal}
 use Rattle.sheet.specs.declared.Head.{Head}
 use Rattle.sheet.specs.declared.Checked.{Checked}
 use Rattle.sheet.specs.declared.Checked.the-variants.{Sheet, Refused}

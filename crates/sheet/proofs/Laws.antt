@@ -18,7 +18,7 @@ use Rattle.semantics.specs.Call.{checkCall}
 use Rattle.semantics.proofs.Basics.{and-true}
 use Rattle.semantics.proofs.Lists.{one-by-one}
 use Rattle.semantics.proofs.Encoding.{row-length, check-sound, scan-to-interactions, scan-to-end}
-use Rattle.sheet.specs.declared.Refusal.{Refusal}
+use Rattle.answers.specs.declared.Refusal.{Refusal}
 use Rattle.sheet.specs.declared.Head.{Head}
 use Rattle.sheet.specs.declared.Checked.{Checked}
 use Rattle.sheet.specs.declared.Checked.the-variants.{Sheet}

@@ -1,18 +1,13 @@
-// Sheets: the check, and the answers that every call on a sheet shares.
+// Sheets: the check, with which every call on a sheet begins.
 ghost use mathlib.Core.Path.{_≡_};
 ghost use Rattle.semantics.specs.Arithmetic.{prime};
 ghost use Rattle.semantics.specs.Call.{checkCall};
-ghost use Rattle.sheet.specs.Replies.{checkedOutcome, refusalOf, countOf};
+ghost use Rattle.sheet.specs.Replies.{checkedOutcome, refusalOf};
 
 mod scan;
 
+use answers::Refusal;
 use scan::Scanned;
-
-// A refusal by its number, with its place.
-pub struct Refusal {
-    pub number: u32,
-    pub place: usize,
-}
 
 // What the check hands on of a sheet: the counts, where the interactions start, and the words without spare ones.
 pub struct Head {
@@ -28,12 +23,6 @@ pub enum Checked {
     Refused(Refusal),
 }
 
-// How many words a call wrote; the block writer counts bytes.
-pub enum Written {
-    Words(usize),
-    Refused(Refusal),
-}
-
 // The sheet check: words are read from the front and the first that fails decides.
 pub fn check_sheet(s: &[u32]) -> Checked
     ensures { λ r. ⌜ checkedOutcome r ≡ checkCall prime (now (s .entry)) ⌝ }
@@ -42,9 +31,9 @@ pub fn check_sheet(s: &[u32]) -> Checked
     let Scanned::Next(first) = head else {
         return scan::refused(head);
     };
-    let records = scan::wide(s[1]);
-    let constraints = scan::wide(s[2]);
-    let interactions = scan::wide(s[3]);
+    let records = answers::wide(s[1]);
+    let constraints = answers::wide(s[2]);
+    let interactions = answers::wide(s[3]);
     let all_records = scan::check_records(s, first, records);
     let Scanned::Next(names) = all_records else {
         return scan::refused(all_records);
@@ -80,15 +69,5 @@ pub fn refusal_of(checked: Checked) -> Refusal
             number: 0,
             place: 0,
         },
-    }
-}
-
-// How much was written: nothing after a refusal.
-pub fn count_of(written: Written) -> usize
-    ensures { λ r. ⌜ r ≡ countOf written ⌝ }
-{
-    match written {
-        Written::Words(n) => n,
-        Written::Refused(_) => 0,
     }
 }

@@ -10,7 +10,7 @@ ghost use Rattle.semantics.specs.Sheet.{fits, row, recordTests, interactionTest
 ghost use Rattle.semantics.specs.Check.{reading, scanWords, scanPart, scanParts, scanSpare};
 ghost use Rattle.sheet.specs.Scans.{scanOf, Ends, Reaches, refusedOf};
 use crate::Checked;
-use crate::Refusal;
+use answers::Refusal;
 
 const PRIME: u32 = 2013265921;
 
@@ -33,12 +33,6 @@ pub enum Scanned {
     Stop(Refusal),
 }
 
-pub fn wide(w: u32) -> usize
-    ensures { λ r. ⌜ r ≡ w ⌝ }
-{
-    w as usize
-}
-
 // A word of record `own`, whose word a is given, used as `how` says.
 fn word_fits(how: u8, own: usize, a: u32, w: u32) -> bool
     ensures { λ r. ⌜ r ≡ fits prime own a how w ⌝ }
@@ -59,7 +53,7 @@ fn word_fits(how: u8, own: usize, a: u32, w: u32) -> bool
         return w < PRIME;
     }
     if how == 6 {
-        return wide(w) < own;
+        return answers::wide(w) < own;
     }
     true
 }
@@ -130,7 +124,7 @@ fn check_record(s: &[u32], at: usize, own: usize) -> Scanned
             place: at,
         });
     }
-    let kind = wide(s[at]);
+    let kind = answers::wide(s[at]);
     if !is_kind(kind) {
         return Scanned::Stop(Refusal {
             number: 5,
@@ -180,7 +174,7 @@ pub fn check_names(s: &[u32], at: usize, count: usize, records: usize) -> Scanne
                 place: i,
             });
         }
-        if records <= wide(s[i]) {
+        if records <= answers::wide(s[i]) {
             return Scanned::Stop(Refusal {
                 number: 6,
                 place: i,
@@ -247,7 +241,7 @@ fn check_interaction(s: &[u32], at: usize, records: usize) -> Scanned
     let Scanned::Next(four) = length else {
         return length;
     };
-    check_names(s, four, wide(s[three]), records)
+    check_names(s, four, answers::wide(s[three]), records)
 }
 
 // The interactions, from the front.

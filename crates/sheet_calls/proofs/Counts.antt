@@ -6,13 +6,13 @@ use Rattle.semantics.specs.Answer.{Answer, good}
 use Rattle.semantics.specs.Sheet.{Sheet}
 use Rattle.semantics.specs.Check.{check}
 use Rattle.semantics.specs.Call.{Result, outcome, paddedAll, result, onSheet, checkCall}
-use Rattle.sheet.specs.declared.Refusal.{Refusal}
+use Rattle.answers.specs.declared.Refusal.{Refusal}
 use Rattle.sheet.specs.declared.Checked.{Checked}
 use Rattle.sheet.specs.declared.Checked.the-variants.{Refused}
 use Rattle.sheet.specs.Replies.{checkedOutcome, refusalOf}
 use Rattle.sheet.proofs.Answers.{on-found, on-refused}
-use Rattle.sheet_calls.specs.declared.Counted.the-variants as counted
-use Rattle.sheet_calls.specs.Replies.{countedOutcome}
+use Rattle.answers.specs.declared.Counted.the-variants as counted
+use Rattle.answers.specs.Replies.{countedOutcome}
 
 module _ (p : ℕ) (ws : List ℕ) (number : Sheet → ℕ) where
   abbrev handsBack : Sheet → Answer Result

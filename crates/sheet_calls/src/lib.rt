@@ -3,19 +3,14 @@ ghost use mathlib.Core.Path.{_≡_};
 ghost use lib.ListN.{length};
 ghost use Rattle.semantics.specs.Arithmetic.{prime};
 ghost use Rattle.semantics.specs.Call.{maxRotationCall, numConstraintsCall, conversionCall};
-ghost use Rattle.sheet.specs.Replies.{writtenOutcome, finished};
-ghost use Rattle.sheet_calls.specs.Replies.{countedOutcome};
+ghost use Rattle.answers.specs.Replies.{writtenOutcome, finished};
+ghost use Rattle.answers.specs.Replies.{countedOutcome};
 use sheet::Checked;
-use sheet::Refusal;
-use sheet::Written;
+use answers::Counted;
+use answers::Refusal;
+use answers::Written;
 
 mod rotation;
-
-// The number that a call hands back.
-pub enum Counted {
-    Number(usize),
-    Refused(Refusal),
-}
 
 // The largest offset over all variables, used or unused.
 pub fn max_rotation(s: &[u32]) -> Counted
@@ -63,6 +58,6 @@ pub fn convert(s: &[u32], out: &mut [u32]) -> Written
     ensures { λ r. ⌜ writtenOutcome r (now (out .exit)) ≡ conversionCall prime (now (s .entry)) (length (now (out .entry))) ⌝ }
 {
     let copied = copy_sheet(s, out);
-    slices::zero_from(out, sheet::count_of(copied));
+    slices::zero_from(out, answers::count_of(copied));
     copied
 }

@@ -1,7 +1,7 @@
 // The largest offset.
 ghost use mathlib.Core.Path.{_≡_};
 ghost use mathlib.Core.Bool.{cond};
-ghost use Prim.Native.Nat.{_+_, _*_, _≤_, max};
+ghost use Prim.Native.Nat.{_+_, _*_, _≤_};
 ghost use lib.Dec.{eqb};
 ghost use lib.ListN.{length, drop};
 ghost use Rattle.semantics.specs.Check.{readRecords};
@@ -12,18 +12,9 @@ fn offset_of(kind: u32, c: u32) -> usize
     ensures { λ r. ⌜ r ≡ cond (eqb kind 1) c 0 ⌝ }
 {
     if kind == 1 {
-        return records::wide(c);
+        return answers::wide(c);
     }
     0
-}
-
-fn larger(x: usize, y: usize) -> usize
-    ensures { λ r. ⌜ r ≡ max x y ⌝ }
-{
-    if x < y {
-        return y;
-    }
-    x
 }
 
 // The largest offset of the records behind the head.
@@ -35,7 +26,7 @@ pub fn largest_offset(s: &[u32], records: usize) -> usize
     let mut i = 0;
     while i < records {
         let q = records::record_at(s, i);
-        most = larger(most, offset_of(q.kind, q.c));
+        most = answers::larger(most, offset_of(q.kind, q.c));
         i += 1;
     }
     most

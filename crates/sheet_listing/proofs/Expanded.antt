@@ -7,7 +7,7 @@ use lib.ListN.{length, getD, take}
 use Rattle.semantics.specs.Arithmetic.{prime}
 use Rattle.semantics.specs.Call.{Outcome, Accepted, handedBack}
 use Rattle.semantics.specs.Sheetlist.{decimal, line, refusedText, consText, interText, endText, step, constraintLines, interactionLines}
-use Rattle.sheet.specs.declared.Refusal.{Refusal}
+use Rattle.answers.specs.declared.Refusal.{Refusal}
 use Rattle.listing.specs.declared.headers.Family.{Family}
 use Rattle.listing.specs.declared.headers.Family.the-variants.{Constraints, Numerators, Denominators}
 use Rattle.listing.specs.Families.{widthOf, familyLines, HeadersInside}

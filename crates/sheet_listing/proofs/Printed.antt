@@ -12,13 +12,13 @@ use Rattle.semantics.specs.Graph.{graphOf}
 use Rattle.semantics.specs.Call.{Outcome, handedBack, readerCall}
 use Rattle.semantics.specs.Sheetlist.{decimal, line, refusedText, readText, dagText, step, mostTaken, graphLines, sheetLines, sheetlist}
 use Rattle.semantics.proofs.Basics.{cond-true}
-use Rattle.sheet.specs.declared.Refusal.{Refusal}
-use Rattle.sheet.specs.declared.Written.{Written}
-use Rattle.sheet.specs.declared.Written.the-variants.{Words, Refused}
-use Rattle.sheet.specs.Replies.{writtenOutcome}
-use Rattle.sheet_calls.specs.declared.Counted.{Counted}
-use Rattle.sheet_calls.specs.declared.Counted.the-variants as counted
-use Rattle.sheet_calls.specs.Replies.{countedOutcome}
+use Rattle.answers.specs.declared.Refusal.{Refusal}
+use Rattle.answers.specs.declared.Written.{Written}
+use Rattle.answers.specs.declared.Written.the-variants.{Words, Refused}
+use Rattle.answers.specs.Replies.{writtenOutcome}
+use Rattle.answers.specs.declared.Counted.{Counted}
+use Rattle.answers.specs.declared.Counted.the-variants as counted
+use Rattle.answers.specs.Replies.{countedOutcome}
 use Rattle.dag.specs.Calls.{builtOutcome}
 use Rattle.demands.proofs.Demands.{build-demand}
 use Rattle.listing.proofs.Steps.{builds, rotates, step-on, dagLine, afterGraph, graph-prints, sheet-prints}

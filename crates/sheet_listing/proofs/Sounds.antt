@@ -18,8 +18,8 @@ use Rattle.semantics.proofs.Basics.{not-both}
 use Rattle.semantics.proofs.Members.{Mem}
 use Rattle.semantics.proofs.Acceptance.{Within}
 use Rattle.semantics.proofs.Refusals.{check-within, reader-within, builder-within, expansion-within}
-use Rattle.sheet.specs.declared.Refusal.{Refusal}
-use Rattle.sheet.specs.Replies.{refusedReply}
+use Rattle.answers.specs.declared.Refusal.{Refusal}
+use Rattle.answers.specs.Replies.{refusedReply}
 use Rattle.listing.proofs.Steps.{step-refused}
 
 pub record Sound (scratch : ℕ) (o : Outcome) : Type 0 where

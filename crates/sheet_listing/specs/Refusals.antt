@@ -1,9 +1,9 @@
 -- The refusal in the answer of a call that refused.
-use Rattle.sheet.specs.declared.Refusal.{Refusal}
-use Rattle.sheet.specs.declared.Written.{Written}
-use Rattle.sheet.specs.declared.Written.the-variants as written
-use Rattle.sheet_calls.specs.declared.Counted.{Counted}
-use Rattle.sheet_calls.specs.declared.Counted.the-variants as counted
+use Rattle.answers.specs.declared.Refusal.{Refusal}
+use Rattle.answers.specs.declared.Written.{Written}
+use Rattle.answers.specs.declared.Written.the-variants as written
+use Rattle.answers.specs.declared.Counted.{Counted}
+use Rattle.answers.specs.declared.Counted.the-variants as counted
 use Rattle.constraint_lists.specs.declared.ConstraintLists.{ConstraintLists}
 use Rattle.constraint_lists.specs.declared.ConstraintLists.the-variants as constraint
 use Rattle.interaction_lists.specs.declared.InteractionLists.{InteractionLists}

@@ -22,8 +22,8 @@ use libc::STDOUT_FILENO;
 use listing::headers;
 use listing::headers::Family;
 use listing::lines;
-use sheet::Written;
-use sheet_calls::Counted;
+use answers::Written;
+use answers::Counted;
 
 // The headers of a family, from the front of three slices.
 fn put_lists(

@@ -3,9 +3,9 @@ ghost use mathlib.Core.Path.{_≡_};
 ghost use Rattle.sheet_listing.specs.Refusals.{ofWritten, ofCounted, ofConstraints, ofInteractions};
 use constraint_lists::ConstraintLists;
 use interaction_lists::InteractionLists;
-use sheet::Refusal;
-use sheet::Written;
-use sheet_calls::Counted;
+use answers::Refusal;
+use answers::Written;
+use answers::Counted;
 
 // Of the reader and the builder.
 pub fn of_written(written: Written) -> Refusal

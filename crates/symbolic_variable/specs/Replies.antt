@@ -2,9 +2,10 @@
 use mathlib.Core.List.{[], _∷_}
 use Prim.Native.Nat.{ℕ}
 use Rattle.semantics.specs.Answer.{Answer, good, refused, andThen}
-use Rattle.semantics.specs.Call.{Reply, Outcome, acceptedWith, refusedWith, outcome, result}
+use Rattle.answers.specs.Replies.{refusedReply}
+use Rattle.semantics.specs.Call.{Reply, Outcome, acceptedWith, outcome, result}
 use Rattle.semantics.specs.Refusals.{Sends}
-use Rattle.symbolic_variable.specs.declared.Refusal.{Refusal}
+use Rattle.answers.specs.declared.Refusal.{Refusal}
 use Rattle.symbolic_variable.specs.declared.Entry.{Entry}
 use Rattle.symbolic_variable.specs.declared.EntryOffset.{EntryOffset}
 use Rattle.symbolic_variable.specs.declared.EntryOffset.the-variants.{At, Nowhere}
@@ -36,7 +37,7 @@ sumAnswer TooLarge = refused 11 0
 -- An entry that was rotated: its three words.
 abbrev pub rotatedReply : Rotated → Reply
 rotatedReply (entry.To e) = acceptedWith [] (entryWords e)
-rotatedReply (entry.Refused r) = refusedWith (r .number) (r .place)
+rotatedReply (entry.Refused r) = refusedReply r
 
 abbrev pub rotatedOutcome : Rotated → Outcome
 rotatedOutcome r = record { reply = rotatedReply r; slices = [] }
@@ -52,7 +53,7 @@ refusalOf (entry.Refused r) = r
 -- A variable that was rotated: its entry's three words, then its column.
 abbrev pub rotatedVariableReply : RotatedVariable → Reply
 rotatedVariableReply (variable.To v) = acceptedWith [] (variableWords v)
-rotatedVariableReply (variable.Refused r) = refusedWith (r .number) (r .place)
+rotatedVariableReply (variable.Refused r) = refusedReply r
 
 abbrev pub rotatedVariableOutcome : RotatedVariable → Outcome
 rotatedVariableOutcome r = record { reply = rotatedVariableReply r; slices = [] }

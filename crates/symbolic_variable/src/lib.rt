@@ -3,11 +3,7 @@ ghost use mathlib.Core.Path.{_≡_};
 ghost use Rattle.symbolic_variable.specs.Variable.{offsetMoved, variableOf, degreeMultiple};
 ghost use Rattle.symbolic_variable.specs.Replies.{offsetOutcome, offsetCall, sumAnswer, rotatedOutcome, rotateCall, refusalOf, rotatedVariableOutcome, rotateVariableCall};
 
-// A refusal is a number and a place.
-pub struct Refusal {
-    pub number: u32,
-    pub place: u32,
-}
+use answers::Refusal;
 
 pub enum Entry {
     Preprocessed { offset: usize },

@@ -5,7 +5,7 @@ use packed_var::Packed;
 use packed_var::PackedVar;
 use symbolic_variable::Entry;
 use symbolic_variable::EntryOffset;
-use symbolic_variable::Refusal;
+use answers::Refusal;
 use symbolic_variable::Rotated;
 use symbolic_variable::RotatedVariable;
 use symbolic_variable::SymbolicVariable;
@@ -86,7 +86,7 @@ fn print_refusal(refusal: Refusal) {
     print(b"refused ");
     print_number(refusal.number as usize);
     print(b" ");
-    print_number(refusal.place as usize);
+    print_number(refusal.place);
 }
 
 fn print_offset(offset: EntryOffset) {

@@ -7,8 +7,8 @@ use interaction_lists::InteractionLengths;
 use interaction_lists::InteractionLists;
 use libc::STDIN_FILENO;
 use libc::STDOUT_FILENO;
-use sheet::Refusal;
-use sheet::Written;
+use answers::Refusal;
+use answers::Written;
 
 // The next byte, 0 at the end of the input.
 fn next_byte() -> u8 {
@@ -41,7 +41,7 @@ fn next_number() -> u32 {
 fn next_length(most: usize) -> usize
     ensures { λ r. ⌜ r ≤ most ⌝ }
 {
-    let n = records::wide(next_number());
+    let n = answers::wide(next_number());
     if most < n {
         return most;
     }
@@ -63,7 +63,7 @@ fn read_sheet(sheet: &mut [u32]) -> usize
 
 // Whether the next number is this one; where it is not, or `before` was not so, the answer is no.
 fn same_number(before: bool, n: usize) -> bool {
-    let next = records::wide(next_number());
+    let next = answers::wide(next_number());
     if next == n {
         return before;
     }
@@ -78,7 +78,7 @@ fn same_words(before: bool, words: &[u32], n: usize) -> bool {
         if words.len() <= i {
             return false;
         }
-        same = same_number(same, records::wide(words[i]));
+        same = same_number(same, answers::wide(words[i]));
         i += 1;
     }
     same
@@ -92,7 +92,7 @@ fn same_list(before: bool, words: &[u32], n: usize) -> bool {
 
 // The same for a refusal.
 fn same_refusal(r: Refusal) -> bool {
-    let number = same_number(true, records::wide(r.number));
+    let number = same_number(true, answers::wide(r.number));
     same_number(number, r.place)
 }
 

@@ -1,8 +1,8 @@
 use mathlib.Core.Path.{sym, ap}
 use borrow.Author.Needs.{needs}
-use Rattle.sheet_calls.specs.Replies.{countedReply}
+use Rattle.answers.specs.Replies.{countedReply}
 use Rattle.c_replies.specs.Fields.{numberFields}
-use Rattle.sheet_calls.specs.declared.Counted.{Counted}
+use Rattle.answers.specs.declared.Counted.{Counted}
 use Rattle.c_replies.proofs.number_fields.Statement.{statement}
 use Rattle.c_replies.proofs.number_fields.Tie as tie
 

@@ -1,8 +1,8 @@
 use mathlib.Core.Path.{sym, ap}
 use borrow.Author.Needs.{needs}
-use Rattle.sheet.specs.Replies.{writtenReply}
+use Rattle.answers.specs.Replies.{writtenReply}
 use Rattle.c_replies.specs.Fields.{writtenFields}
-use Rattle.sheet.specs.declared.Written.{Written}
+use Rattle.answers.specs.declared.Written.{Written}
 use Rattle.c_replies.proofs.written_fields.Statement.{statement}
 use Rattle.c_replies.proofs.written_fields.Tie as tie
 

@@ -4,7 +4,7 @@ use borrow.Author.Needs.{needs}
 use lib.ListN.{length}
 use lib.ListN.{length-take}
 use Rattle.semantics.specs.Call.{zeros}
-use Rattle.sheet.specs.declared.Written.the-variants.{Refused}
+use Rattle.answers.specs.declared.Written.the-variants.{Refused}
 use Rattle.dag.specs.Calls.{builtOutcome}
 use Rattle.dag.proofs.Outcomes.{scratch-short, out-short, graph-built, starting}
 use Rattle.dag.proofs.build_checked.Statement.{statement}

@@ -5,7 +5,7 @@ use lib.ListN.{length}
 use Rattle.semantics.specs.Arithmetic.{prime}
 use Rattle.semantics.specs.Call.{zeros}
 use Rattle.sheet.specs.declared.Head.{Head}
-use Rattle.sheet.specs.declared.Written.the-variants.{Refused}
+use Rattle.answers.specs.declared.Written.the-variants.{Refused}
 use Rattle.sheet.proofs.Answers.{found}
 use Rattle.dag.specs.Calls.{builtOutcome}
 use Rattle.dag.proofs.Outcomes.{clear-found, call-refused}

@@ -1,7 +1,7 @@
 -- The answer is that of the entry, with the column behind it.
 use borrow.Author.Needs.{needs}
 use mathlib.Core.Path.{ap, _∙_}
-use Rattle.symbolic_variable.specs.declared.Refusal.{Refusal}
+use Rattle.answers.specs.declared.Refusal.{Refusal}
 use Rattle.symbolic_variable.specs.declared.RotatedVariable.the-variants.{Refused}
 use Rattle.symbolic_variable.specs.Replies.{refusalOf, rotatedVariableOutcome}
 use Rattle.symbolic_variable.proofs.Laws.{variable-turned}
