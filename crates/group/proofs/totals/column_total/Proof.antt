@@ -1,4 +1,5 @@
-use Prim.Native.Nat.{_-_}
+use Prim.Native.Nat.{_+_, _*_, _-_, _≤_}
+use native.Mathlib.Omega.{arith}
 use borrow.Author.Needs.{needs}
 use Rattle.group.proofs.RowTotals.{Summing, summing-start, summing-step, summing-done}
 use Rattle.group.proofs.totals.column_total.Statement.{statement}
@@ -28,8 +29,21 @@ shared-slice-read-wide c = search needs
 wide-requires : tie.Need-wide-requires Inv-loop μ-loop
 wide-requires c κs = search needs
 
+-- The word that is added fits 32 bits.
+word-small : (c : tie.After-wide Inv-loop μ-loop) → c .wide .result ≤ 4294967295
+word-small c =
+    let b = c .before .before .before .loop in
+    let word = c .before .before .before .before .before .args .word in
+    omega (arith, c .wide .ensures, c .before .shared-slice-known2 .given (4 * b .i + word))
+
 add-total : tie.Need-add-total Inv-loop μ-loop
-add-total c = let h = c .before .before .before .loop .inv in let t = c .before .before .loop-test .taken in let p = c .before .before .before .before .before .pre in let w = c .wide .ensures in search needs
+add-total c =
+    let at-loop = c .before .before .before in
+    let h = at-loop .loop .inv in
+    let t = c .before .before .loop-test .taken in
+    let p = at-loop .before .before .pre in
+    let w = word-small c in
+    search needs
 
 add-i : tie.Need-add-i Inv-loop μ-loop
 add-i c = search needs
@@ -39,9 +53,12 @@ loop-less c = search needs
 
 loop-again : tie.Need-loop-again Inv-loop μ-loop
 loop-again c =
-    let a = c .before .before .before .before .before .args in
-    let b = c .before .before .before .loop in
-    summing-step (a .word) (a .n) (a .headers .now) (b .total) (b .i) (c .wide .result) (c .before .before .before .before .before .pre .0) (c .before .before .loop-test .taken) (c .wide .ensures .0) (c .wide .ensures .1) (b .inv)
+    let at-loop = c .before .before .before in
+    let start = at-loop .before .before in
+    let a = start .args in
+    let b = at-loop .loop in
+    summing-step (a .word) (a .n) (a .headers .now) (b .total) (b .i) (c .wide .result) (start .pre .0)
+    (c .before .before .loop-test .taken) (c .wide .ensures) (word-small c) (b .inv)
 
 returns : tie.Need-returns Inv-loop μ-loop
 returns c =
