@@ -3,7 +3,7 @@ ghost use mathlib.Core.Path.{_≡_};
 ghost use mathlib.Core.List.{_++_, flatMap};
 ghost use Prim.Native.Nat.{_+_, _*_, _≤_, _<_};
 ghost use lib.ListN.{length, getD, take, drop};
-ghost use Rattle.semantics.specs.Arithmetic.{prime};
+ghost use Rattle.semantics.specs.Check.{primeOf};
 ghost use Rattle.semantics.specs.Block.{wordsOf, wordBytes, firstWords, blockBytes, writeBlocks};
 ghost use Rattle.semantics.specs.Call.{writerCall};
 ghost use Rattle.answers.specs.Replies.{writtenOutcome, finished};
@@ -70,7 +70,7 @@ fn write_each(s: &[u32], blocks: usize, out: &mut [u8])
 
 // The blocks of a sheet go to the front of the output.
 fn write_all(s: &[u32], out: &mut [u8]) -> Written
-    ensures { λ r. ⌜ finished r (now (out .exit)) ≡ writerCall prime (now (s .entry)) (length (now (out .entry))) ⌝ }
+    ensures { λ r. ⌜ finished r (now (out .exit)) ≡ writerCall (primeOf (now (s .entry))) (now (s .entry)) (length (now (out .entry))) ⌝ }
 {
     let checked = sheet::check_sheet(s);
     let Checked::Sheet(head) = checked else {
@@ -91,7 +91,7 @@ fn write_all(s: &[u32], out: &mut [u8]) -> Written
 
 // The sheet in blocks: its words, zero fill and the check words.
 pub fn write_blocks(s: &[u32], out: &mut [u8]) -> Written
-    ensures { λ r. ⌜ writtenOutcome r (now (out .exit)) ≡ writerCall prime (now (s .entry)) (length (now (out .entry))) ⌝ }
+    ensures { λ r. ⌜ writtenOutcome r (now (out .exit)) ≡ writerCall (primeOf (now (s .entry))) (now (s .entry)) (length (now (out .entry))) ⌝ }
 {
     let written = write_all(s, out);
     slices::zero_bytes_from(out, answers::count_of(written));

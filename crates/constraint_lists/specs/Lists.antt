@@ -6,7 +6,7 @@ use lib.ListN.{length, take}
 use Rattle.semantics.specs.Arithmetic.{prime}
 use Rattle.semantics.specs.Answer.{Answer, good, refused, andThen}
 use Rattle.semantics.specs.Sheet.{Sheet}
-use Rattle.semantics.specs.Check.{readSheet, check}
+use Rattle.semantics.specs.Check.{primeOf, readSheet, check}
 use Rattle.semantics.specs.Walk.{order}
 use Rattle.semantics.specs.Expand.{expandAll}
 use Rattle.semantics.specs.Group.{Root, constraintRoots}
@@ -22,7 +22,7 @@ use Rattle.constraint_lists.specs.declared.ConstraintLists.the-variants.
 
 -- A checked sheet with its E, C and I.
 pub record CheckedSheet (ws : List ℕ) (records constraints interactions : ℕ) : Type 0 where
-  pub checked : check prime ws ≡ good (readSheet ws)
+  pub checked : check (primeOf ws) ws ≡ good (readSheet ws)
   pub records-are : records ≡ length (readSheet ws .records)
   pub constraints-are : constraints ≡ length (readSheet ws .constraints)
   pub interactions-are : interactions ≡ length (readSheet ws .interactions)

@@ -1,7 +1,7 @@
 // The builder: port of dag.rs over a sheet, scratch and an output that are lent.
 ghost use mathlib.Core.Path.{_≡_};
 ghost use lib.ListN.{length};
-ghost use Rattle.semantics.specs.Arithmetic.{prime};
+ghost use Rattle.semantics.specs.Check.{primeOf};
 ghost use Rattle.semantics.specs.Call.{builderCall, zeros};
 ghost use Rattle.dag.specs.Calls.{builtOutcome, Clear};
 
@@ -20,7 +20,7 @@ fn build_checked(
     out: &mut [u32],
 ) -> Written
     requires { ⌜ Clear (now s) records words (now scratch) (now out) ⌝ }
-    ensures { λ r. ⌜ builtOutcome r (zeros (length (now (scratch .entry)))) (now (out .exit)) ≡ builderCall prime (now (s .entry)) (length (now (scratch .entry))) (length (now (out .entry))) ⌝ }
+    ensures { λ r. ⌜ builtOutcome r (zeros (length (now (scratch .entry)))) (now (out .exit)) ≡ builderCall (primeOf (now (s .entry))) (now (s .entry)) (length (now (scratch .entry))) (length (now (out .entry))) ⌝ }
 {
     if scratch.len() < records {
         return Written::Refused(Refusal {
@@ -41,7 +41,7 @@ fn build_checked(
 // The graph of a sheet, in an output of zeros.
 fn build_clear(s: &[u32], scratch: &mut [u32], out: &mut [u32]) -> Written
     requires { ⌜ (now scratch ≡ zeros (length (now scratch))) × (now out ≡ zeros (length (now out))) ⌝ }
-    ensures { λ r. ⌜ builtOutcome r (zeros (length (now (scratch .entry)))) (now (out .exit)) ≡ builderCall prime (now (s .entry)) (length (now (scratch .entry))) (length (now (out .entry))) ⌝ }
+    ensures { λ r. ⌜ builtOutcome r (zeros (length (now (scratch .entry)))) (now (out .exit)) ≡ builderCall (primeOf (now (s .entry))) (now (s .entry)) (length (now (scratch .entry))) (length (now (out .entry))) ⌝ }
 {
     let checked = sheet::check_sheet(s);
     let Checked::Sheet(head) = checked else {
@@ -52,7 +52,7 @@ fn build_clear(s: &[u32], scratch: &mut [u32], out: &mut [u32]) -> Written
 
 // The builder: checks the sheet and writes its graph; scratch ends all zero.
 pub fn build(s: &[u32], scratch: &mut [u32], out: &mut [u32]) -> Written
-    ensures { λ r. ⌜ builtOutcome r (now (scratch .exit)) (now (out .exit)) ≡ builderCall prime (now (s .entry)) (length (now (scratch .entry))) (length (now (out .entry))) ⌝ }
+    ensures { λ r. ⌜ builtOutcome r (now (scratch .exit)) (now (out .exit)) ≡ builderCall (primeOf (now (s .entry))) (now (s .entry)) (length (now (scratch .entry))) (length (now (out .entry))) ⌝ }
 {
     slices::zero_all(scratch);
     slices::zero_all(out);

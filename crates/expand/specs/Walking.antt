@@ -4,9 +4,8 @@ use mathlib.Core.Bool.{true, false}
 use mathlib.Core.List.{List, _++_}
 use Prim.Native.Nat.{ℕ, _+_, _*_, _≤_, _<_}
 use lib.ListN.{length, getD, set, take, drop}
-use Rattle.semantics.specs.Arithmetic.{prime}
 use Rattle.semantics.specs.Answer.{good, refused}
-use Rattle.semantics.specs.Check.{readSheet, check}
+use Rattle.semantics.specs.Check.{primeOf, readSheet, check}
 use Rattle.semantics.specs.Walk.{member}
 use Rattle.semantics.specs.Monomial.{Monomial, listAt}
 use Rattle.semantics.specs.Expand.{listSize, expandAll}
@@ -21,15 +20,15 @@ use Rattle.expand.specs.declared.Expanded.the-variants.{Used, Refused}
 
 -- An expanded record: its list is stored behind the two words of each record, and before what is free.
 pub record Kept (ws pool : List ℕ) (used i : ℕ) : Type 0 where
-  pub stored : Stored pool i (listAt prime (recordsOf ws) i)
+  pub stored : Stored pool i (listAt (primeOf ws) (recordsOf ws) i)
   pub behind : 2 * length (recordsOf ws) ≤ getD pool (2 * i) 0
-  pub before : getD pool (2 * i) 0 + listSize (listAt prime (recordsOf ws) i) ≤ used
-  pub few : length (listAt prime (recordsOf ws) i) ≤ 256
+  pub before : getD pool (2 * i) 0 + listSize (listAt (primeOf ws) (recordsOf ws) i) ≤ used
+  pub few : length (listAt (primeOf ws) (recordsOf ws) i) ≤ 256
 
 -- The walk accepted the records `done`, newest first, and `used` words of the pool are taken: a record that is not among them has
 -- 0 for its start, and one that is has its list. A list takes at most sixteen words for each of 256 monomials.
 pub record Holds (ws done pool : List ℕ) (used : ℕ) : Type 0 where
-  pub used-is : expandAll prime (recordsOf ws) (length pool) done ≡ good used
+  pub used-is : expandAll (primeOf ws) (recordsOf ws) (length pool) done ≡ good used
   pub low : 2 * length (recordsOf ws) ≤ used
   pub high : used ≤ length pool
   pub small : used ≤ 2 * length (recordsOf ws) + 4096 * length done
@@ -39,7 +38,7 @@ pub record Holds (ws done pool : List ℕ) (used : ℕ) : Type 0 where
 -- What an answer says of the records that were to be expanded: the words taken, or the refusal.
 abbrev pub Expands : (ws pool : List ℕ) → Expanded → (done : List ℕ) → Type 0
 Expands ws pool (Used u) done = Holds ws done pool u
-Expands ws pool (Refused q) done = expandAll prime (recordsOf ws) (length pool) done ≡ refused (q .number) (q .place)
+Expands ws pool (Refused q) done = expandAll (primeOf ws) (recordsOf ws) (length pool) done ≡ refused (q .number) (q .place)
 
 -- The refusal of record r, where its list was not made.
 abbrev pub refusedBy : Made → (r : ℕ) → Expanded
@@ -66,7 +65,7 @@ pub record Storing (work : List ℕ) (count : ℕ) (pool : List ℕ) (r used : �
 
 -- What expanding asks: a checked sheet, work of 4,096 words, and a pool that holds what the walk expanded so far.
 pub record Walking (ws work pool : List ℕ) (used : ℕ) : Type 0 where
-  pub checked : check prime ws ≡ good (readSheet ws)
+  pub checked : check (primeOf ws) ws ≡ good (readSheet ws)
   pub room : 4096 ≤ length work
   pub done : List ℕ
   pub order : Order ws done

@@ -4,7 +4,7 @@ ghost use mathlib.Core.Bool.{false};
 ghost use mathlib.Core.List.{List, _∷_};
 ghost use Prim.Native.Nat.{ℕ, suc};
 ghost use lib.ListN.{length};
-ghost use Rattle.semantics.specs.Arithmetic.{prime};
+ghost use Rattle.semantics.specs.Check.{primeOf};
 ghost use Rattle.semantics.specs.Monomial.{listAt};
 ghost use Rattle.semantics.specs.Expand.{recordFault};
 ghost use Rattle.semantics.specs.Walk.{member, visit, childrenAt};
@@ -29,7 +29,7 @@ pub enum Expanded {
 // Makes the list of a record whose children are expanded.
 fn make_list(sheet: &[u32], work: &mut [u32], pool: &[u32], r: usize) -> Made
     requires { ⌜ ((used : ℕ) × Finishing (now sheet) r (now work) (now pool) used) ⌝ }
-    ensures { λ u. ⌜ Makes (now (work .exit)) u (recordFault prime (recordsOf (now (sheet .entry))) r) (listAt prime (recordsOf (now (sheet .entry))) r) ⌝ }
+    ensures { λ u. ⌜ Makes (now (work .exit)) u (recordFault (primeOf (now (sheet .entry))) (recordsOf (now (sheet .entry))) r) (listAt (primeOf (now (sheet .entry))) (recordsOf (now (sheet .entry))) r) ⌝ }
 {
     let q = records::record_at(sheet, r);
     if q.kind < 6 {

@@ -1,7 +1,7 @@
 // The expansions as calls: each checks its sheet, has its lists made, and zeroes what is not written.
 ghost use mathlib.Core.Path.{_≡_};
 ghost use lib.ListN.{length};
-ghost use Rattle.semantics.specs.Arithmetic.{prime};
+ghost use Rattle.semantics.specs.Check.{primeOf};
 ghost use Rattle.semantics.specs.Call.{onSheet, constraintCall, interactionCall};
 ghost use Rattle.constraint_lists.specs.Lists.{constraintAnswer, constraintsOf, Inside};
 ghost use Rattle.interaction_lists.specs.Lists.{interactionAnswer, interactionsOf, BothInside};
@@ -21,7 +21,7 @@ fn expand_sheet(
     variables: &mut [u32],
     terms: &mut [u32],
 ) -> ConstraintLists
-    ensures { λ r. ⌜ (constraintAnswer r (now (headers .exit)) (now (variables .exit)) (now (terms .exit)) ≡ onSheet prime (now (s .entry)) (constraintsOf (length (now (work .entry))) (length (now (pool .entry))) (length (now (headers .entry))) (length (now (variables .entry))) (length (now (terms .entry))))) × Inside r (now (headers .exit)) (now (variables .exit)) (now (terms .exit)) ⌝ }
+    ensures { λ r. ⌜ (constraintAnswer r (now (headers .exit)) (now (variables .exit)) (now (terms .exit)) ≡ onSheet (primeOf (now (s .entry))) (now (s .entry)) (constraintsOf (length (now (work .entry))) (length (now (pool .entry))) (length (now (headers .entry))) (length (now (variables .entry))) (length (now (terms .entry))))) × Inside r (now (headers .exit)) (now (variables .exit)) (now (terms .exit)) ⌝ }
 {
     let checked = sheet::check_sheet(s);
     let Checked::Sheet(head) = checked else {
@@ -71,7 +71,7 @@ pub fn expand_constraints(
     variables: &mut [u32],
     terms: &mut [u32],
 ) -> ConstraintLists
-    ensures { λ r. ⌜ constraintOutcome r (now (work .exit)) (now (pool .exit)) (now (headers .exit)) (now (variables .exit)) (now (terms .exit)) ≡ constraintCall prime (now (s .entry)) (length (now (work .entry))) (length (now (pool .entry))) (length (now (headers .entry))) (length (now (variables .entry))) (length (now (terms .entry))) ⌝ }
+    ensures { λ r. ⌜ constraintOutcome r (now (work .exit)) (now (pool .exit)) (now (headers .exit)) (now (variables .exit)) (now (terms .exit)) ≡ constraintCall (primeOf (now (s .entry))) (now (s .entry)) (length (now (work .entry))) (length (now (pool .entry))) (length (now (headers .entry))) (length (now (variables .entry))) (length (now (terms .entry))) ⌝ }
 {
     let lists = expand_sheet(s, work, pool, headers, variables, terms);
     let kept = lengths_of(lists);
@@ -93,7 +93,7 @@ fn expand_sheet_interactions(
     denom_variables: &mut [u32],
     denom_terms: &mut [u32],
 ) -> InteractionLists
-    ensures { λ r. ⌜ (interactionAnswer r (now (headers .exit)) (now (variables .exit)) (now (terms .exit)) (now («denom_headers» .exit)) (now («denom_variables» .exit)) (now («denom_terms» .exit)) ≡ onSheet prime (now (s .entry)) (interactionsOf (length (now (work .entry))) (length (now (pool .entry))) (length (now (headers .entry))) (length (now (variables .entry))) (length (now (terms .entry))) (length (now («denom_headers» .entry))) (length (now («denom_variables» .entry))) (length (now («denom_terms» .entry))))) × BothInside r (now (headers .exit)) (now (variables .exit)) (now (terms .exit)) (now («denom_headers» .exit)) (now («denom_variables» .exit)) (now («denom_terms» .exit)) ⌝ }
+    ensures { λ r. ⌜ (interactionAnswer r (now (headers .exit)) (now (variables .exit)) (now (terms .exit)) (now («denom_headers» .exit)) (now («denom_variables» .exit)) (now («denom_terms» .exit)) ≡ onSheet (primeOf (now (s .entry))) (now (s .entry)) (interactionsOf (length (now (work .entry))) (length (now (pool .entry))) (length (now (headers .entry))) (length (now (variables .entry))) (length (now (terms .entry))) (length (now («denom_headers» .entry))) (length (now («denom_variables» .entry))) (length (now («denom_terms» .entry))))) × BothInside r (now (headers .exit)) (now (variables .exit)) (now (terms .exit)) (now («denom_headers» .exit)) (now («denom_variables» .exit)) (now («denom_terms» .exit)) ⌝ }
 {
     let checked = sheet::check_sheet(s);
     let Checked::Sheet(head) = checked else {
@@ -149,7 +149,7 @@ pub fn expand_interactions(
     denom_variables: &mut [u32],
     denom_terms: &mut [u32],
 ) -> InteractionLists
-    ensures { λ r. ⌜ interactionOutcome r (now (work .exit)) (now (pool .exit)) (now (headers .exit)) (now (variables .exit)) (now (terms .exit)) (now («denom_headers» .exit)) (now («denom_variables» .exit)) (now («denom_terms» .exit)) ≡ interactionCall prime (now (s .entry)) (length (now (work .entry))) (length (now (pool .entry))) (length (now (headers .entry))) (length (now (variables .entry))) (length (now (terms .entry))) (length (now («denom_headers» .entry))) (length (now («denom_variables» .entry))) (length (now («denom_terms» .entry))) ⌝ }
+    ensures { λ r. ⌜ interactionOutcome r (now (work .exit)) (now (pool .exit)) (now (headers .exit)) (now (variables .exit)) (now (terms .exit)) (now («denom_headers» .exit)) (now («denom_variables» .exit)) (now («denom_terms» .exit)) ≡ interactionCall (primeOf (now (s .entry))) (now (s .entry)) (length (now (work .entry))) (length (now (pool .entry))) (length (now (headers .entry))) (length (now (variables .entry))) (length (now (terms .entry))) (length (now («denom_headers» .entry))) (length (now («denom_variables» .entry))) (length (now («denom_terms» .entry))) ⌝ }
 {
     let lists = expand_sheet_interactions(
         s,

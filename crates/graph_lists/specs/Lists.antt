@@ -5,10 +5,9 @@ use mathlib.Core.List.{List, [], _∷_, _++_, map}
 use Prim.Native.Nat.{ℕ, zero, suc, pred, _+_, _-_, _≤_, _<_}
 use lib.Dec.{leb, ltb}
 use lib.ListN.{length, getD}
-use Rattle.semantics.specs.Arithmetic.{prime}
 use Rattle.semantics.specs.Answer.{good}
 use Rattle.semantics.specs.Sheet.{encode, lengthOf}
-use Rattle.semantics.specs.Check.{readSheet, check}
+use Rattle.semantics.specs.Check.{primeOf, readSheet, check}
 use Rattle.semantics.specs.Walk.{member, order}
 use Rattle.semantics.specs.Graph.{graphRoots, graphOf}
 use Rattle.semantics.specs.Call.{padded}
@@ -82,13 +81,13 @@ abbrev pub allAdded : List ℕ → List ℕ
 allAdded ws = order (recordsOf ws) (graphRoots (readSheet ws))
 
 pub record Finishing (ws scratch out : List ℕ) (n : ℕ) : Type 0 where
-  pub checked : check prime ws ≡ good (readSheet ws)
+  pub checked : check (primeOf ws) ws ≡ good (readSheet ws)
   pub room : lengthOf (readSheet ws) ≤ length out
   pub holds : Holds ws (allAdded ws) scratch out n
 
 -- The graph in the output.
 abbrev pub graphOut : (lent : ℕ) → List ℕ → List ℕ
-graphOut lent ws = padded (encode (graphOf prime (readSheet ws))) lent
+graphOut lent ws = padded (encode (graphOf (primeOf ws) (readSheet ws))) lent
 
 abbrev pub graphLength : List ℕ → ℕ
-graphLength ws = length (encode (graphOf prime (readSheet ws)))
+graphLength ws = length (encode (graphOf (primeOf ws) (readSheet ws)))

@@ -5,10 +5,9 @@ use mathlib.Core.List.{List}
 use Prim.Native.Nat.{ℕ, _+_, _*_, _≤_, _<_}
 use lib.Dec.{eqb}
 use lib.ListN.{length}
-use Rattle.semantics.specs.Arithmetic.{prime}
 use Rattle.semantics.specs.Answer.{good}
 use Rattle.semantics.specs.Sheet.{Record}
-use Rattle.semantics.specs.Check.{readSheet, check}
+use Rattle.semantics.specs.Check.{primeOf, readSheet, check}
 use Rattle.semantics.specs.Walk.{member}
 use Rattle.semantics.specs.Value.{nodeOf, recordAt}
 use Rattle.semantics.specs.Graph.{Pick, pick}
@@ -18,7 +17,7 @@ use Rattle.nodes.specs.Memory.{builtOf, Holds}
 
 -- What adding a record asks: a checked sheet, a record of it, room for as many nodes as records.
 pub record Ready (ws : List ℕ) (r : ℕ) (scratch out : List ℕ) (n : ℕ) : Type 0 where
-  pub checked : check prime ws ≡ good (readSheet ws)
+  pub checked : check (primeOf ws) ws ≡ good (readSheet ws)
   pub inside : r < length (recordsOf ws)
   pub room : 4 + 5 * length (recordsOf ws) ≤ length out
   pub done : List ℕ
@@ -32,7 +31,7 @@ pub record Adding (ws : List ℕ) (r : ℕ) (scratch out : List ℕ) (n : ℕ) :
   pub there : There ws r (ready .done)
 
 abbrev pub pickOfRecord : (ws : List ℕ) (r : ℕ) (done : List ℕ) → Pick
-pickOfRecord ws r done = pick prime (builtOf ws done) (recordAt (recordsOf ws) r) (nodeOf (recordAt (recordsOf ws) r))
+pickOfRecord ws r done = pick (primeOf ws) (builtOf ws done) (recordAt (recordsOf ws) r) (nodeOf (recordAt (recordsOf ws) r))
 
 -- The children of a record that has some, first and second; a Neg's only one is both.
 abbrev pub childOf : Record → (i : ℕ) → ℕ
@@ -40,7 +39,7 @@ childOf m i = cond (eqb i 0) (m .a) (cond (eqb (m .kind) 8) (m .a) (m .b))
 
 -- What adding records asks when none is said: a checked sheet, and room for as many nodes as records.
 pub record Walking (ws scratch out : List ℕ) (n : ℕ) : Type 0 where
-  pub checked : check prime ws ≡ good (readSheet ws)
+  pub checked : check (primeOf ws) ws ≡ good (readSheet ws)
   pub room : 4 + 5 * length (recordsOf ws) ≤ length out
   pub done : List ℕ
   pub order : Order ws done

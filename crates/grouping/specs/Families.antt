@@ -5,10 +5,9 @@ use mathlib.Core.Bool.{Bool, true, false}
 use mathlib.Core.List.{List, [], _∷_, _++_, map}
 use Prim.Native.Nat.{ℕ, zero, suc, _+_, _*_, _≤_, _<_}
 use lib.ListN.{length, getD, take}
-use Rattle.semantics.specs.Arithmetic.{prime}
 use Rattle.semantics.specs.Answer.{good}
 use Rattle.semantics.specs.Sheet.{Sheet}
-use Rattle.semantics.specs.Check.{readSheet, check}
+use Rattle.semantics.specs.Check.{primeOf, readSheet, check}
 use Rattle.semantics.specs.Monomial.{Monomial, listAt}
 use Rattle.semantics.specs.Expand.{listSize}
 use Rattle.semantics.specs.Group.{Root, labelled, constraintRoots, countRoots, fieldRoots, Item, items, Group, groups, headers, variables, terms, layout}
@@ -80,12 +79,12 @@ pub record Standing (list : ℕ → List Monomial) (pool : List ℕ) (i : ℕ) :
 
 -- What grouping a family asks: a checked sheet, and the list of every root in the pool.
 pub record Grouping (ws pool : List ℕ) (roots : List Root) : Type 0 where
-  pub checked : check prime ws ≡ good (readSheet ws)
-  pub lists : All (λ (r : Root). Standing (listAt prime (recordsOf ws)) pool (r .node)) roots
+  pub checked : check (primeOf ws) ws ≡ good (readSheet ws)
+  pub lists : All (λ (r : Root). Standing (listAt (primeOf ws) (recordsOf ws)) pool (r .node)) roots
 
 -- The groups of a family of a sheet's roots.
 abbrev pub groupsOf : (ws : List ℕ) → List Root → List Group
-groupsOf ws roots = groups (listAt prime (recordsOf ws)) roots
+groupsOf ws roots = groups (listAt (primeOf ws) (recordsOf ws)) roots
 
 -- How many words n rows take with v variables and t terms, and that there is room for them; or which slice is too short.
 abbrev pub Measured : (n width v t variables terms : ℕ) → Grouped → Type 0

@@ -4,9 +4,8 @@ ghost use mathlib.Core.Bool.{true, false};
 ghost use mathlib.Core.List.{[]};
 ghost use Prim.Native.Nat.{_+_, _≤_};
 ghost use lib.ListN.{length};
-ghost use Rattle.semantics.specs.Arithmetic.{prime};
 ghost use Rattle.semantics.specs.Answer.{good};
-ghost use Rattle.semantics.specs.Check.{readSheet, check};
+ghost use Rattle.semantics.specs.Check.{primeOf, readSheet, check};
 ghost use Rattle.semantics.specs.Group.{labelled, items};
 ghost use Rattle.semantics.specs.Call.{zeros};
 ghost use Rattle.records.specs.Access.{recordsOf, part, countWords, fieldWords, AllRootsInside};
@@ -246,7 +245,7 @@ pub fn place_family(
     pool: &[u32],
     terms: &mut [u32],
 )
-    requires { ⌜ (check prime (now sheet) ≡ good (readSheet (now sheet))) × ToPlaceRoots (isInteraction family) n (now headers) (now pool) (now terms) (rootsOf family (readSheet (now sheet))) ⌝ }
+    requires { ⌜ (check (primeOf (now sheet)) (now sheet) ≡ good (readSheet (now sheet))) × ToPlaceRoots (isInteraction family) n (now headers) (now pool) (now terms) (rootsOf family (readSheet (now sheet))) ⌝ }
     ensures { λ _. ⌜ Places (isInteraction family) n (now (pool .entry)) (now (headers .entry)) (now (terms .entry)) (now (headers .exit)) (now (terms .exit)) (items (listOf (now (pool .entry))) (rootsOf family (readSheet (now (sheet .entry))))) ⌝ }
 {
     match family {

@@ -3,8 +3,7 @@ ghost use mathlib.Core.Path.{_≡_};
 ghost use mathlib.Core.List.{[], _∷_, _++_};
 ghost use Prim.Native.Nat.{ℕ, _*_, _≤_};
 ghost use lib.ListN.{length};
-ghost use Rattle.semantics.specs.Arithmetic.{prime};
-ghost use Rattle.semantics.specs.Check.{readSheet};
+ghost use Rattle.semantics.specs.Check.{primeOf, readSheet};
 ghost use Rattle.semantics.specs.Walk.{order};
 ghost use Rattle.semantics.specs.Group.{countRoots, fieldRoots};
 ghost use Rattle.semantics.specs.Call.{fitted, interactionOutputs, maxFieldsLen};
@@ -83,7 +82,7 @@ fn group_interactions(
     denom_terms: &mut [u32],
 ) -> InteractionLists
     requires { ⌜ Grouping (now s) (now pool) (countRoots (readSheet (now s))) × Grouping (now s) (now pool) (fieldRoots (readSheet (now s))) × (interactions ≡ length (readSheet (now s) .interactions)) ⌝ }
-    ensures { λ r. ⌜ (interactionAnswer r (now (headers .exit)) (now (variables .exit)) (now (terms .exit)) (now («denom_headers» .exit)) (now («denom_variables» .exit)) (now («denom_terms» .exit)) ≡ fitted (interactionOutputs prime (readSheet (now (s .entry)))) (length (now (headers .entry)) ∷ length (now (variables .entry)) ∷ length (now (terms .entry)) ∷ length (now («denom_headers» .entry)) ∷ length (now («denom_variables» .entry)) ∷ length (now («denom_terms» .entry)) ∷ []) (length (readSheet (now (s .entry)) .interactions) ∷ maxFieldsLen (readSheet (now (s .entry))) ∷ [])) × BothInside r (now (headers .exit)) (now (variables .exit)) (now (terms .exit)) (now («denom_headers» .exit)) (now («denom_variables» .exit)) (now («denom_terms» .exit)) ⌝ }
+    ensures { λ r. ⌜ (interactionAnswer r (now (headers .exit)) (now (variables .exit)) (now (terms .exit)) (now («denom_headers» .exit)) (now («denom_variables» .exit)) (now («denom_terms» .exit)) ≡ fitted (interactionOutputs (primeOf (now (s .entry))) (readSheet (now (s .entry)))) (length (now (headers .entry)) ∷ length (now (variables .entry)) ∷ length (now (terms .entry)) ∷ length (now («denom_headers» .entry)) ∷ length (now («denom_variables» .entry)) ∷ length (now («denom_terms» .entry)) ∷ []) (length (readSheet (now (s .entry)) .interactions) ∷ maxFieldsLen (readSheet (now (s .entry))) ∷ [])) × BothInside r (now (headers .exit)) (now (variables .exit)) (now (terms .exit)) (now («denom_headers» .exit)) (now («denom_variables» .exit)) (now («denom_terms» .exit)) ⌝ }
 {
     let counted = grouping::group_counts(s, pool, headers, variables, terms);
     let Grouped::Written(numerators) = counted else {

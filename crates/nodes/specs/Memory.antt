@@ -4,8 +4,8 @@ use mathlib.Core.Bool.{cond}
 use mathlib.Core.List.{List, [], _∷_, _++_, flatMap}
 use Prim.Native.Nat.{ℕ, zero, suc}
 use lib.ListN.{length}
-use Rattle.semantics.specs.Arithmetic.{prime}
 use Rattle.semantics.specs.Sheet.{Record, recordWords}
+use Rattle.semantics.specs.Check.{primeOf}
 use Rattle.semantics.specs.Walk.{member}
 use Rattle.semantics.specs.Graph.{Built, build}
 use Rattle.semantics.specs.Call.{zeros, padded}
@@ -26,7 +26,7 @@ nodesOut lent ns = padded (zeros 4 ++ flatMap recordWords ns) lent
 
 -- The builder's state when `done` are added, newest first.
 unfoldable pub builtOf : List ℕ → List ℕ → Built
-builtOf ws done = build prime (recordsOf ws) done
+builtOf ws done = build (primeOf ws) (recordsOf ws) done
 
 pub record Holds (ws done scratch out : List ℕ) (n : ℕ) : Type 0 where
   pub scratch-is : scratch ≡ tabulate 0 (length (recordsOf ws)) (mark done (builtOf ws done))

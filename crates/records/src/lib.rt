@@ -4,10 +4,9 @@ ghost use mathlib.Core.List.{[], _∷_};
 ghost use Prim.Native.Nat.{_+_, _*_, _^_, _≤_, _<_};
 ghost use lib.ListN.{length, getD};
 ghost use lib.Seq.{sets};
-ghost use Rattle.semantics.specs.Arithmetic.{prime};
 ghost use Rattle.semantics.specs.Answer.{good};
 ghost use Rattle.semantics.specs.Sheet.{recordWords};
-ghost use Rattle.semantics.specs.Check.{readSheet, check};
+ghost use Rattle.semantics.specs.Check.{primeOf, readSheet, check};
 ghost use Rattle.semantics.specs.Graph.{equalRecords};
 ghost use Rattle.records.specs.Access.{fiveWords, nodeIn, constraintsAt, interactionsAt, messageLength, interactionFrom};
 
@@ -114,7 +113,7 @@ pub fn put_head(out: &mut [u32], records: usize, constraints: usize, interaction
 
 // How many constraints a checked sheet has.
 pub fn num_constraints(sheet: &[u32]) -> usize
-    requires { ⌜ check prime (now sheet) ≡ good (readSheet (now sheet)) ⌝ }
+    requires { ⌜ check (primeOf (now sheet)) (now sheet) ≡ good (readSheet (now sheet)) ⌝ }
     ensures { λ r. ⌜ r ≡ length (readSheet (now (sheet .entry)) .constraints) ⌝ }
 {
     answers::wide(sheet[2])
@@ -122,7 +121,7 @@ pub fn num_constraints(sheet: &[u32]) -> usize
 
 // How many interactions it has.
 pub fn num_interactions(sheet: &[u32]) -> usize
-    requires { ⌜ check prime (now sheet) ≡ good (readSheet (now sheet)) ⌝ }
+    requires { ⌜ check (primeOf (now sheet)) (now sheet) ≡ good (readSheet (now sheet)) ⌝ }
     ensures { λ r. ⌜ r ≡ length (readSheet (now (sheet .entry)) .interactions) ⌝ }
 {
     answers::wide(sheet[3])
@@ -130,7 +129,7 @@ pub fn num_interactions(sheet: &[u32]) -> usize
 
 // Where the constraints of a checked sheet start.
 pub fn constraints_at(sheet: &[u32]) -> usize
-    requires { ⌜ check prime (now sheet) ≡ good (readSheet (now sheet)) ⌝ }
+    requires { ⌜ check (primeOf (now sheet)) (now sheet) ≡ good (readSheet (now sheet)) ⌝ }
     ensures { λ r. ⌜ r ≡ constraintsAt (now (sheet .entry)) ⌝ }
 {
     records_end(answers::wide(sheet[1]))
@@ -138,7 +137,7 @@ pub fn constraints_at(sheet: &[u32]) -> usize
 
 // Where its interactions start.
 pub fn interactions_at(sheet: &[u32]) -> usize
-    requires { ⌜ check prime (now sheet) ≡ good (readSheet (now sheet)) ⌝ }
+    requires { ⌜ check (primeOf (now sheet)) (now sheet) ≡ good (readSheet (now sheet)) ⌝ }
     ensures { λ r. ⌜ r ≡ interactionsAt (now (sheet .entry)) ⌝ }
 {
     constraints_at(sheet) + num_constraints(sheet)

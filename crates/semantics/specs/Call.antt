@@ -36,6 +36,10 @@ pub record Outcome : Type 0 where
   pub reply : Reply
   pub slices : List (List ℕ)
 
+-- A call handed back what an outcome says: the fields of a reply, and every slice lent for writing.
+abbrev pub Handed : {X : Type 0} → (fields : Reply → X) → X → (slices : List (List ℕ)) → Outcome → Type 0
+Handed fields x slices o = (x ≡ fields (o .reply)) × (slices ≡ o .slices)
+
 -- What an accepted call writes to its outputs, and the further numbers.
 pub record Result : Type 0 where
   pub outputs : List (List ℕ)

@@ -4,6 +4,7 @@ use mathlib.Core.List.{List, [], _∷_}
 use Prim.Native.Nat.{ℕ, zero, suc, _+_, _*_}
 use lib.Dec.{eqb}
 use lib.ListN.{getD, take, drop, replicate}
+use Rattle.semantics.specs.Arithmetic.{prime}
 use Rattle.semantics.specs.Answer.{Answer, good, refused}
 use Rattle.semantics.specs.Sheet.{Record, Interaction, Sheet, recordOf, recordTests, interactionTests, headTests, names}
 
@@ -75,6 +76,10 @@ readSheet ws = record {
   constraints = take (getD ws 2 0) (drop (4 + 5 * getD ws 1 0) ws);
   interactions = readInteractions (getD ws 3 0) (drop (4 + 5 * getD ws 1 0 + getD ws 2 0) ws);
 }
+
+-- The prime of a sheet, by its words.
+abbrev pub primeOf : List ℕ → ℕ
+primeOf ws = prime
 
 -- A sheet, where no word failed.
 unfoldable pub judged : {X : Type 0} → Scan → X → Answer X

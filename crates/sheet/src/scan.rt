@@ -7,7 +7,7 @@ ghost use lib.Dec.{eqb, leb};
 ghost use lib.ListN.{length, drop, replicate};
 ghost use Rattle.semantics.specs.Arithmetic.{prime};
 ghost use Rattle.semantics.specs.Sheet.{fits, row, recordTests, interactionTests, headTests, names};
-ghost use Rattle.semantics.specs.Check.{reading, scanWords, scanPart, scanParts, scanSpare};
+ghost use Rattle.semantics.specs.Check.{primeOf, reading, scanWords, scanPart, scanParts, scanSpare};
 ghost use Rattle.sheet.specs.Scans.{scanOf, Ends, Reaches, refusedOf};
 use crate::Checked;
 use answers::Refusal;
@@ -78,7 +78,7 @@ fn row_of(kind: usize) -> [u8; 4]
 // One word of a record.
 fn check_word(s: &[u32], at: usize, how: u8, own: usize, a: u32) -> Scanned
     requires { ⌜ at ≤ length (now s) ⌝ }
-    ensures { λ r. ⌜ (scanOf (now (s .entry)) r ≡ scanWords 5 (fits prime own a how ∷ []) (reading at (drop at (now (s .entry))))) × Ends (now (s .entry)) r ⌝ }
+    ensures { λ r. ⌜ (scanOf (now (s .entry)) r ≡ scanWords 5 (fits (primeOf (now (s .entry))) own a how ∷ []) (reading at (drop at (now (s .entry))))) × Ends (now (s .entry)) r ⌝ }
 {
     if s.len() <= at {
         return Scanned::Stop(Refusal {
@@ -98,7 +98,7 @@ fn check_word(s: &[u32], at: usize, how: u8, own: usize, a: u32) -> Scanned
 // The words a to d of a record, used as the row of its kind says.
 fn check_row(s: &[u32], at: usize, row: [u8; 4], own: usize, a: u32) -> Scanned
     requires { ⌜ at ≤ length (now s) ⌝ }
-    ensures { λ r. ⌜ (scanOf (now (s .entry)) r ≡ scanWords 5 (map (fits prime own a) row) (reading at (drop at (now (s .entry))))) × Ends (now (s .entry)) r ⌝ }
+    ensures { λ r. ⌜ (scanOf (now (s .entry)) r ≡ scanWords 5 (map (fits (primeOf (now (s .entry))) own a) row) (reading at (drop at (now (s .entry))))) × Ends (now (s .entry)) r ⌝ }
 {
     let mut next = at;
     let mut j = 0;
@@ -116,7 +116,7 @@ fn check_row(s: &[u32], at: usize, row: [u8; 4], own: usize, a: u32) -> Scanned
 // A record: its kind, then its words a to d by the row of that kind.
 fn check_record(s: &[u32], at: usize, own: usize) -> Scanned
     requires { ⌜ at ≤ length (now s) ⌝ }
-    ensures { λ r. ⌜ (scanOf (now (s .entry)) r ≡ scanPart 5 (recordTests prime own) (reading at (drop at (now (s .entry))))) × Ends (now (s .entry)) r ⌝ }
+    ensures { λ r. ⌜ (scanOf (now (s .entry)) r ≡ scanPart 5 (recordTests (primeOf (now (s .entry))) own) (reading at (drop at (now (s .entry))))) × Ends (now (s .entry)) r ⌝ }
 {
     if s.len() <= at {
         return Scanned::Stop(Refusal {
@@ -145,7 +145,7 @@ fn check_record(s: &[u32], at: usize, own: usize) -> Scanned
 // The records, from the front.
 pub fn check_records(s: &[u32], at: usize, count: usize) -> Scanned
     requires { ⌜ at ≤ length (now s) ⌝ }
-    ensures { λ r. ⌜ (scanOf (now (s .entry)) r ≡ scanParts 5 (recordTests prime) count 0 (reading at (drop at (now (s .entry))))) × Ends (now (s .entry)) r ⌝ }
+    ensures { λ r. ⌜ (scanOf (now (s .entry)) r ≡ scanParts 5 (recordTests (primeOf (now (s .entry)))) count 0 (reading at (drop at (now (s .entry))))) × Ends (now (s .entry)) r ⌝ }
 {
     let mut next = at;
     let mut own = 0;

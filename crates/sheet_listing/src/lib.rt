@@ -6,6 +6,7 @@ ghost use lib.ListN.{length, take};
 ghost use Rattle.semantics.specs.Arithmetic.{prime};
 ghost use Rattle.semantics.specs.Call.{padded, constraintCall, interactionCall};
 ghost use Rattle.semantics.specs.Sheetlist.{line, endText, consText, interText, step, interactionLines, constraintLines, graphLines, sheetLines, sheetlist};
+ghost use Rattle.semantics.specs.Check.{primeOf};
 ghost use Rattle.listing.specs.declared.headers.Family.the-variants.{Numerators, Denominators};
 ghost use Rattle.listing.specs.Putting.{Room, Puts};
 ghost use Rattle.sheet_listing.specs.Fronts.{frontLines, Fronts};
@@ -84,8 +85,8 @@ fn put_both_lists(
 
 // What the graph's interactions print.
 fn put_interactions(out: &mut [u8], at: usize, graph: &[u32]) -> usize
-    requires { ⌜ Room (now out) at (step interText (interactionCall prime (now graph) 4096 4096 512 512 512 512 512 512) (interactionLines prime (interactionCall prime (now graph) 4096 4096 512 512 512 512 512 512))) ⌝ }
-    ensures { λ r. ⌜ Puts (now (out .entry)) at (step interText (interactionCall prime (now (graph .entry)) 4096 4096 512 512 512 512 512 512) (interactionLines prime (interactionCall prime (now (graph .entry)) 4096 4096 512 512 512 512 512 512))) (now (out .exit)) r ⌝ }
+    requires { ⌜ Room (now out) at (step interText (interactionCall (primeOf (now graph)) (now graph) 4096 4096 512 512 512 512 512 512) (interactionLines (primeOf (now graph)) (interactionCall (primeOf (now graph)) (now graph) 4096 4096 512 512 512 512 512 512))) ⌝ }
+    ensures { λ r. ⌜ Puts (now (out .entry)) at (step interText (interactionCall (primeOf (now (graph .entry))) (now (graph .entry)) 4096 4096 512 512 512 512 512 512) (interactionLines (primeOf (now (graph .entry))) (interactionCall (primeOf (now (graph .entry))) (now (graph .entry)) 4096 4096 512 512 512 512 512 512))) (now (out .exit)) r ⌝ }
 {
     let mut work = [0u32; 4096];
     let mut pool = [0u32; 4096];
@@ -125,8 +126,8 @@ fn put_interactions(out: &mut [u8], at: usize, graph: &[u32]) -> usize
 
 // What the graph's constraints print, and what comes after them.
 fn put_constraints(out: &mut [u8], at: usize, graph: &[u32]) -> usize
-    requires { ⌜ Room (now out) at (step consText (constraintCall prime (now graph) 4096 4096 1024 1024 1024) (constraintLines prime (now graph) (constraintCall prime (now graph) 4096 4096 1024 1024 1024))) ⌝ }
-    ensures { λ r. ⌜ Puts (now (out .entry)) at (step consText (constraintCall prime (now (graph .entry)) 4096 4096 1024 1024 1024) (constraintLines prime (now (graph .entry)) (constraintCall prime (now (graph .entry)) 4096 4096 1024 1024 1024))) (now (out .exit)) r ⌝ }
+    requires { ⌜ Room (now out) at (step consText (constraintCall (primeOf (now graph)) (now graph) 4096 4096 1024 1024 1024) (constraintLines (primeOf (now graph)) (now graph) (constraintCall (primeOf (now graph)) (now graph) 4096 4096 1024 1024 1024))) ⌝ }
+    ensures { λ r. ⌜ Puts (now (out .entry)) at (step consText (constraintCall (primeOf (now (graph .entry))) (now (graph .entry)) 4096 4096 1024 1024 1024) (constraintLines (primeOf (now (graph .entry))) (now (graph .entry)) (constraintCall (primeOf (now (graph .entry))) (now (graph .entry)) 4096 4096 1024 1024 1024))) (now (out .exit)) r ⌝ }
 {
     let mut work = [0u32; 4096];
     let mut pool = [0u32; 4096];
@@ -159,8 +160,8 @@ fn put_constraints(out: &mut [u8], at: usize, graph: &[u32]) -> usize
 
 // What a graph prints: its numbers, then its lists.
 fn put_graph(out: &mut [u8], at: usize, graph: &[u32]) -> usize
-    requires { ⌜ (2 < length (now graph)) × Room (now out) at (graphLines prime (now graph)) ⌝ }
-    ensures { λ r. ⌜ Puts (now (out .entry)) at (graphLines prime (now (graph .entry))) (now (out .exit)) r ⌝ }
+    requires { ⌜ (2 < length (now graph)) × Room (now out) at (graphLines (primeOf (now graph)) (now graph)) ⌝ }
+    ensures { λ r. ⌜ Puts (now (out .entry)) at (graphLines (primeOf (now (graph .entry))) (now (graph .entry))) (now (out .exit)) r ⌝ }
 {
     let rotated = sheet_calls::max_rotation(graph);
     let Counted::Number(rotation) = rotated else {
@@ -173,8 +174,8 @@ fn put_graph(out: &mut [u8], at: usize, graph: &[u32]) -> usize
 
 // What a sheet prints: its graph.
 fn put_sheet(out: &mut [u8], at: usize, sheet: &[u32]) -> usize
-    requires { ⌜ Room (now out) at (sheetLines prime (now sheet)) ⌝ }
-    ensures { λ r. ⌜ Puts (now (out .entry)) at (sheetLines prime (now (sheet .entry))) (now (out .exit)) r ⌝ }
+    requires { ⌜ Room (now out) at (sheetLines (primeOf (now sheet)) (now sheet)) ⌝ }
+    ensures { λ r. ⌜ Puts (now (out .entry)) at (sheetLines (primeOf (now (sheet .entry))) (now (sheet .entry))) (now (out .exit)) r ⌝ }
 {
     let mut scratch = [0u32; 1016];
     let mut graph = [0u32; 1016];

@@ -1,4 +1,4 @@
--- What the contract of the builder gives, by the law of the demand.
+-- The contract of the builder, and what it gives by the law of the demand.
 use Rattle.demands.proofs.Demands.{build-demand}
 use borrow.Author.Needs.{needs}
 use Rattle.demands.proofs.build.Statement.{statement}
@@ -16,7 +16,7 @@ same-length-2 c = search needs
 returns : tie.Need-returns
 returns c =
     let call = c .before .before .before .before in
-    build-demand _ _ _ (call .build .result) _ _ (call .build .ensures)
+    (call .build .ensures, build-demand _ _ _ (call .build .result) _ _ (call .build .ensures))
 
 pub build-spec : {M : Type 1} → statement M
 build-spec = tie.close (tie.spec build-requires same-length same-length-2 returns)

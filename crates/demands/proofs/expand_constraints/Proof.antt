@@ -1,4 +1,4 @@
--- What the contract of the constraint call gives, by the law of the demand.
+-- The contract of the constraint call, and what it gives by the law of the demand.
 use Rattle.demands.proofs.Demands.{constraints-demand}
 use borrow.Author.Needs.{needs}
 use Rattle.demands.proofs.expand_constraints.Statement.{statement}
@@ -26,7 +26,7 @@ returns : tie.Need-returns
 returns c =
     let scratch = c .before .before .before .before .before .before in
     let call = scratch .before .before .before .before in
-    constraints-demand _ _ _ _ _ _ _ (call .expand-constraints .ensures)
+    (call .expand-constraints .ensures, constraints-demand _ _ _ _ _ _ _ (call .expand-constraints .ensures))
 
 pub expand-constraints-spec : {M : Type 1} → statement M
 expand-constraints-spec =

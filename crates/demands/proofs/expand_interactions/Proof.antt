@@ -1,4 +1,4 @@
--- What the contract of the interaction call gives, by the law of the demand.
+-- The contract of the interaction call, and what it gives by the law of the demand.
 use Rattle.demands.proofs.Demands.{interactions-demand}
 use borrow.Author.Needs.{needs}
 use Rattle.demands.proofs.expand_interactions.Statement.{statement}
@@ -36,7 +36,7 @@ returns c =
     let numerators = c .before .before .before .before .before .before in
     let scratch = numerators .before .before .before .before .before .before in
     let call = scratch .before .before .before .before in
-    interactions-demand _ _ _ _ _ _ _ _ _ _ (call .expand-interactions .ensures)
+    (call .expand-interactions .ensures, interactions-demand _ _ _ _ _ _ _ _ _ _ (call .expand-interactions .ensures))
 
 pub expand-interactions-spec : {M : Type 1} → statement M
 expand-interactions-spec =
