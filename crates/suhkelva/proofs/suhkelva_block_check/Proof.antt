@@ -1,7 +1,6 @@
-use mathlib.Core.Path.{ap, _∙_}
 use borrow.Author.Needs.{needs}
-use Rattle.semantics.specs.Call.{Outcome}
 use Rattle.c_replies.specs.Fields.{blockFields}
+use Rattle.suhkelva.proofs.Laws.{handed}
 use Rattle.suhkelva.proofs.suhkelva_block_check.Statement.{statement}
 use Rattle.suhkelva.proofs.suhkelva_block_check.Tie as tie
 
@@ -12,7 +11,7 @@ block-fields-requires : tie.Need-block-fields-requires
 block-fields-requires c κs = search needs
 
 returns : tie.Need-returns
-returns c = c .block-fields .ensures ∙ ap (λ (o : Outcome). blockFields (o .reply)) (c .before .block-check .ensures)
+returns c = handed blockFields (c .block-fields .ensures) (c .before .block-check .ensures)
 
 pub suhkelva-block-check-spec : {M : Type 1} → statement M
 suhkelva-block-check-spec = tie.close (tie.spec block-check-requires block-fields-requires returns)

@@ -1,7 +1,6 @@
-use mathlib.Core.Path.{ap, _∙_}
 use borrow.Author.Needs.{needs}
 use Rattle.c_replies.specs.Fields.{numberFields}
-use Rattle.semantics.specs.Call.{Outcome}
+use Rattle.suhkelva.proofs.Laws.{handed}
 use Rattle.suhkelva.proofs.suhkelva_num_constraints.Statement.{statement}
 use Rattle.suhkelva.proofs.suhkelva_num_constraints.Tie as tie
 
@@ -12,7 +11,7 @@ number-fields-requires : tie.Need-number-fields-requires
 number-fields-requires c κs = search needs
 
 returns : tie.Need-returns
-returns c = c .number-fields .ensures ∙ ap (λ (o : Outcome). numberFields (o .reply)) (c .before .num-constraints .ensures)
+returns c = handed numberFields (c .number-fields .ensures) (c .before .num-constraints .ensures)
 
 pub suhkelva-num-constraints-spec : {M : Type 1} → statement M
 suhkelva-num-constraints-spec =

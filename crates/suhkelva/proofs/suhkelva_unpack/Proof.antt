@@ -1,7 +1,6 @@
-use mathlib.Core.Path.{ap, _∙_}
 use borrow.Author.Needs.{needs}
-use Rattle.semantics.specs.Call.{Outcome}
 use Rattle.c_replies.specs.Fields.{recordFields}
+use Rattle.suhkelva.proofs.Laws.{handed}
 use Rattle.suhkelva.proofs.suhkelva_unpack.Statement.{statement}
 use Rattle.suhkelva.proofs.suhkelva_unpack.Tie as tie
 
@@ -12,7 +11,7 @@ record-fields-requires : tie.Need-record-fields-requires
 record-fields-requires c κs = search needs
 
 returns : tie.Need-returns
-returns c = c .record-fields .ensures ∙ ap (λ (o : Outcome). recordFields (o .reply)) (c .before .unpack .ensures)
+returns c = handed recordFields (c .record-fields .ensures) (c .before .unpack .ensures)
 
 pub suhkelva-unpack-spec : {M : Type 1} → statement M
 suhkelva-unpack-spec = tie.close (tie.spec unpack-requires record-fields-requires returns)
