@@ -204,6 +204,25 @@ module _ (n : ℕ) (t : ℕ → Bool) (ts : List (ℕ → Bool)) (ws : List ℕ)
 pub step-at : (k : ℕ) (r : Scanned) (n : ℕ) → Reaches k r → r ≡ Next n → n ≡ k
 step-at k r n h q = subst (Reaches k) q h
 
+-- A scan that stands at `m`, `k` words behind `base`: the tests `ts` from there on give the whole.
+pub record Left (n : ℕ) (ts : List (ℕ → Bool)) (ws : List ℕ) (whole : Scan) (base k m : ℕ) : Type 0 where
+  pub goes : scanWords n ts (reading m (drop m ws)) ≡ whole
+  pub inside : m ≤ length ws
+  pub stands : m ≡ base + k
+
+-- One word of them is judged: that stops the whole, or the scan stands one word further.
+module _ {n : ℕ} {t : ℕ → Bool} {ts : List (ℕ → Bool)} {ws : List ℕ} {whole : Scan} {base k m : ℕ} (left : Left n (t ∷ ts) ws whole base k m)
+    (r : Scanned) (e : (scanOf ws r ≡ scanWords n (t ∷ []) (reading m (drop m ws))) × Ends ws r × Reaches (m + 1) r) where
+  pub left-stops : (v : Refusal) → r ≡ Stop v → (scanOf ws r ≡ whole) × Ends ws r
+  left-stops v q = (words-stop n t ts ws r (reading m (drop m ws)) whole (e .0) (left .goes) v q, e .1)
+
+  pub left-next : (j : ℕ) → r ≡ Next j → Left n ts ws whole base (suc k) j
+  left-next j q = record {
+    goes = words-go n t ts ws r (reading m (drop m ws)) whole (e .0) (left .goes) j q;
+    inside = step-ends ws r j (e .1) q;
+    stands = omega (arith, step-at (m + 1) r j (e .2) q, left .stands);
+  }
+
 -- The tests of an interaction, in the order in which its words are judged.
 pub interaction-tests : (n : ℕ) (ws : List ℕ) (at : ℕ)
     → scanWords 6 ((λ w. leb w 65535) ∷ (λ w. true) ∷ names n ∷ (λ w. leb w 63) ∷ replicate (getD ws (at + 3) 0) (names n)) (reading at (drop at ws))
