@@ -99,6 +99,16 @@ row-more n f row j s h =
     sym (scan-more n (f (getD row j 0)) (map f (drop (j + 1) row)) s)
     ∙ ap (λ (r : List ℕ). scanWords n (map f r) s) (sym (drop-cons row j 0 h ∙ ap (λ (k : ℕ). getD row j 0 ∷ drop k row) (sym (add-one j))))
 
+-- One use of them is judged: that stops the whole, or the uses that are left go on behind it.
+module _ (n : ℕ) (f : ℕ → ℕ → Bool) (row : List ℕ) (j : ℕ) (ws : List ℕ) (s whole : Scan) (h : j < length row)
+    (g : scanWords n (map f (drop j row)) s ≡ whole) (r : Scanned) (e : scanOf ws r ≡ scanWords n (f (getD row j 0) ∷ []) s) where
+  pub row-stop : (v : Refusal) → r ≡ Stop v → scanOf ws r ≡ whole
+  row-stop =
+      step-stops (scanWords n (map f (drop (j + 1) row))) whole ws r _ e (row-more n f row j s h ∙ g) (scan-stopped n (map f (drop (j + 1) row)))
+
+  pub row-go : (m : ℕ) → r ≡ Next m → scanWords n (map f (drop (j + 1) row)) (reading m (drop m ws)) ≡ whole
+  row-go = step-goes (scanWords n (map f (drop (j + 1) row))) whole ws r _ e (row-more n f row j s h ∙ g)
+
 -- All of the uses are done.
 pub row-done : (n : ℕ) (f : ℕ → ℕ → Bool) (row : List ℕ) (j : ℕ) (s whole : Scan) → length row ≤ j → scanWords n (map f (drop j row)) s ≡ whole → s ≡ whole
 unfolding scanWords
@@ -155,6 +165,17 @@ unfolding scanParts
 parts-more n tests count own s h =
     let m : count - own ≡ suc (count - (own + 1)) = omega arith in
     rw (m, add-one)
+
+-- One part of them is judged: that stops the whole, or the parts that are left go on behind it.
+module _ (n : ℕ) (tests : ℕ → List ℕ → List (ℕ → Bool)) (count own : ℕ) (ws : List ℕ) (s whole : Scan) (h : own < count)
+    (f : scanParts n tests (count - own) own s ≡ whole) (r : Scanned) (e : scanOf ws r ≡ scanPart n (tests own) s) where
+  pub parts-stop : (v : Refusal) → r ≡ Stop v → scanOf ws r ≡ whole
+  parts-stop =
+      step-stops (scanParts n tests (count - (own + 1)) (own + 1)) whole ws r _ e (parts-more n tests count own s h ∙ f)
+      (parts-stopped n tests (count - (own + 1)) (own + 1))
+
+  pub parts-go : (m : ℕ) → r ≡ Next m → scanParts n tests (count - (own + 1)) (own + 1) (reading m (drop m ws)) ≡ whole
+  parts-go = step-goes (scanParts n tests (count - (own + 1)) (own + 1)) whole ws r _ e (parts-more n tests count own s h ∙ f)
 
 pub parts-done : (n : ℕ) (tests : ℕ → List ℕ → List (ℕ → Bool)) (count own : ℕ) (s whole : Scan) → count ≤ own
     → scanParts n tests (count - own) own s ≡ whole → s ≡ whole
