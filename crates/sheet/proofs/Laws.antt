@@ -33,9 +33,11 @@ module _ (p own a w : ℕ) where
   pub fits-at : (how k : ℕ) → how ≡ k → fits p own a k w ≡ fits p own a how w
   fits-at how k e = ap (λ (h : ℕ). fits p own a h w) (sym e)
 
-  pub fits-any : (how : ℕ) → (how ≡ 0 → ⊥) → (how ≡ 1 → ⊥) → (how ≡ 2 → ⊥) → (how ≡ 3 → ⊥) → (how ≡ 5 → ⊥) → (how ≡ 6 → ⊥) → true ≡ fits p own a how w
+  pub fits-any : (how : ℕ) → (how ≡ 0 → ⊥) → (how ≡ 1 → ⊥) → (how ≡ 2 → ⊥) → (how ≡ 3 → ⊥) → (how ≡ 5 → ⊥) → (how ≡ 6 → ⊥)
+      → true ≡ fits p own a how w
   unfolding fits
-  fits-any how n₀ n₁ n₂ n₃ n₅ n₆ = simp (ne-eqb how 0 n₀, ne-eqb how 1 n₁, ne-eqb how 2 n₂, ne-eqb how 3 n₃, ne-eqb how 5 n₅, ne-eqb how 6 n₆)
+  fits-any how n₀ n₁ n₂ n₃ n₅ n₆ =
+      simp (ne-eqb how 0 n₀, ne-eqb how 1 n₁, ne-eqb how 2 n₂, ne-eqb how 3 n₃, ne-eqb how 5 n₅, ne-eqb how 6 n₆)
 
 pub or-first : (s t : Bool) → s ≡ true → s ≡ s || t
 or-first true t e = refl
@@ -80,17 +82,23 @@ module _ (n : ℕ) (t : ℕ → Bool) (ts : List (ℕ → Bool)) (ws : List ℕ)
   unfolding scanWords
   scan-passes h e = rw (drop-cons ws i 0 h, e, add-one)
 
--- A step of the scan that was taken: a refusal is the answer of the whole, and an index is where the rest goes on.
-module _ (rest : Scan → Scan) (whole : Scan) (ws : List ℕ) (r : Scanned) (s : Scan) (e : scanOf ws r ≡ s) (f : rest s ≡ whole) where
-  pub step-stops : ((m k : ℕ) → rest (stopped m k) ≡ stopped m k) → (v : Refusal) → r ≡ Stop v → scanOf ws r ≡ whole
-  step-stops stays v q =
-      ap (scanOf ws) q ∙ sym (stays (v .number) (v .place)) ∙ ap (λ (x : Scanned). rest (scanOf ws x)) (sym q) ∙ ap rest e ∙ f
+-- A step of a scan: a refusal is the answer of the whole, and an index is where the rest goes on.
+pub record Step (rest : Scan → Scan) (whole : Scan) (ws : List ℕ) (r : Scanned) : Type 0 where
+  pub stops : (v : Refusal) → r ≡ Stop v → scanOf ws r ≡ whole
+  pub goes : (m : ℕ) → r ≡ Next m → rest (reading m (drop m ws)) ≡ whole
+  pub inside : (m : ℕ) → r ≡ Next m → m ≤ length ws
 
-  pub step-goes : (n : ℕ) → r ≡ Next n → rest (reading n (drop n ws)) ≡ whole
-  step-goes n q = ap (λ (x : Scanned). rest (scanOf ws x)) (sym q) ∙ ap rest e ∙ f
-
-pub step-ends : (ws : List ℕ) (r : Scanned) (n : ℕ) → Ends ws r → r ≡ Next n → n ≤ length ws
-step-ends ws r n h q = subst (Ends ws) q h
+-- A step of which the scan is known.
+pub step : {rest : Scan → Scan} {whole : Scan} {ws : List ℕ} {r : Scanned} {s : Scan} → scanOf ws r ≡ s → Ends ws r → rest s ≡ whole
+    → ((m k : ℕ) → rest (stopped m k) ≡ stopped m k) → Step rest whole ws r
+step {rest} {whole} {ws} {r} {s} e h f stays = record {
+  stops = λ v q. ap (scanOf ws) q ∙ sym (stays (v .number) (v .place)) ∙ from (Stop v) q;
+  goes = λ m q. from (Next m) q;
+  inside = λ m q. subst (Ends ws) q h;
+}
+  where
+    from : (x : Scanned) → r ≡ x → rest (scanOf ws x) ≡ whole
+    from x q = ap (λ (y : Scanned). rest (scanOf ws y)) (sym q) ∙ ap rest e ∙ f
 
 -- The words of a row: `j` of the uses are done.
 pub row-more : (n : ℕ) (f : ℕ → ℕ → Bool) (row : List ℕ) (j : ℕ) (s : Scan) → j < length row
@@ -99,23 +107,20 @@ row-more n f row j s h =
     sym (scan-more n (f (getD row j 0)) (map f (drop (j + 1) row)) s)
     ∙ ap (λ (r : List ℕ). scanWords n (map f r) s) (sym (drop-cons row j 0 h ∙ ap (λ (k : ℕ). getD row j 0 ∷ drop k row) (sym (add-one j))))
 
--- One use of them is judged: that stops the whole, or the uses that are left go on behind it.
-module _ (n : ℕ) (f : ℕ → ℕ → Bool) (row : List ℕ) (j : ℕ) (ws : List ℕ) (s whole : Scan) (h : j < length row)
-    (g : scanWords n (map f (drop j row)) s ≡ whole) (r : Scanned) (e : scanOf ws r ≡ scanWords n (f (getD row j 0) ∷ []) s) where
-  pub row-stop : (v : Refusal) → r ≡ Stop v → scanOf ws r ≡ whole
-  row-stop =
-      step-stops (scanWords n (map f (drop (j + 1) row))) whole ws r _ e (row-more n f row j s h ∙ g) (scan-stopped n (map f (drop (j + 1) row)))
-
-  pub row-go : (m : ℕ) → r ≡ Next m → scanWords n (map f (drop (j + 1) row)) (reading m (drop m ws)) ≡ whole
-  row-go = step-goes (scanWords n (map f (drop (j + 1) row))) whole ws r _ e (row-more n f row j s h ∙ g)
+pub row-step : (n : ℕ) (f : ℕ → ℕ → Bool) (row : List ℕ) (j : ℕ) (s whole : Scan) {ws : List ℕ} {r : Scanned} → j < length row
+    → scanWords n (map f (drop j row)) s ≡ whole → scanOf ws r ≡ scanWords n (f (getD row j 0) ∷ []) s → Ends ws r
+    → Step (scanWords n (map f (drop (j + 1) row))) whole ws r
+row-step n f row j s whole h g e k = step e k (row-more n f row j s h ∙ g) (scan-stopped n (map f (drop (j + 1) row)))
 
 -- All of the uses are done.
-pub row-done : (n : ℕ) (f : ℕ → ℕ → Bool) (row : List ℕ) (j : ℕ) (s whole : Scan) → length row ≤ j → scanWords n (map f (drop j row)) s ≡ whole → s ≡ whole
+pub row-done : (n : ℕ) (f : ℕ → ℕ → Bool) (row : List ℕ) (j : ℕ) (s whole : Scan) → length row ≤ j
+    → scanWords n (map f (drop j row)) s ≡ whole → s ≡ whole
 unfolding scanWords
 row-done n f row j s whole h e = ap (λ (r : List ℕ). scanWords n (map f r) s) (sym (drop-of-length-le row h)) ∙ e
 
 -- A row has four uses.
-pub row-four : (kind : ℕ) → 1 ≤ kind → kind ≤ 9 → row kind ≡ getD (row kind) 0 0 ∷ getD (row kind) 1 0 ∷ getD (row kind) 2 0 ∷ getD (row kind) 3 0 ∷ []
+pub row-four : (kind : ℕ) → 1 ≤ kind → kind ≤ 9
+    → row kind ≡ getD (row kind) 0 0 ∷ getD (row kind) 1 0 ∷ getD (row kind) 2 0 ∷ getD (row kind) 3 0 ∷ []
 row-four kind l h =
     one-by-one 4 0 (row kind) (omega (arith, row-length kind l h))
     ∙ ap (λ (r : List ℕ). getD (row kind) 0 0 ∷ getD (row kind) 1 0 ∷ getD (row kind) 2 0 ∷ getD (row kind) 3 0 ∷ r)
@@ -140,7 +145,8 @@ module _ (p own : ℕ) (ws : List ℕ) (at : ℕ) where
 
     -- What is left once the kind is read: the words a to d, by its row.
     pub record-rest : leb 1 kind && leb kind 9 ≡ true
-        → scanWords 5 (map (fits p own (getD ws (at + 1) 0)) (row kind)) (reading (at + 1) (drop (at + 1) ws)) ≡ scanPart 5 (recordTests p own) (reading at (drop at ws))
+        → scanWords 5 (map (fits p own (getD ws (at + 1) 0)) (row kind)) (reading (at + 1) (drop (at + 1) ws))
+        ≡ scanPart 5 (recordTests p own) (reading at (drop at ws))
     unfolding scanPart recordTests
     record-rest f =
         (λ i. scanWords 5 (map (fits p own (sym (getD-drop at ws 1 0) i)) (row (sym first-word i))) (reading (at + 1) (drop (at + 1) ws)))
@@ -166,16 +172,11 @@ parts-more n tests count own s h =
     let m : count - own ≡ suc (count - (own + 1)) = omega arith in
     rw (m, add-one)
 
--- One part of them is judged: that stops the whole, or the parts that are left go on behind it.
-module _ (n : ℕ) (tests : ℕ → List ℕ → List (ℕ → Bool)) (count own : ℕ) (ws : List ℕ) (s whole : Scan) (h : own < count)
-    (f : scanParts n tests (count - own) own s ≡ whole) (r : Scanned) (e : scanOf ws r ≡ scanPart n (tests own) s) where
-  pub parts-stop : (v : Refusal) → r ≡ Stop v → scanOf ws r ≡ whole
-  parts-stop =
-      step-stops (scanParts n tests (count - (own + 1)) (own + 1)) whole ws r _ e (parts-more n tests count own s h ∙ f)
-      (parts-stopped n tests (count - (own + 1)) (own + 1))
-
-  pub parts-go : (m : ℕ) → r ≡ Next m → scanParts n tests (count - (own + 1)) (own + 1) (reading m (drop m ws)) ≡ whole
-  parts-go = step-goes (scanParts n tests (count - (own + 1)) (own + 1)) whole ws r _ e (parts-more n tests count own s h ∙ f)
+pub parts-step : (n : ℕ) (tests : ℕ → List ℕ → List (ℕ → Bool)) (count own : ℕ) (s whole : Scan) {ws : List ℕ} {r : Scanned} → own < count
+    → scanParts n tests (count - own) own s ≡ whole → scanOf ws r ≡ scanPart n (tests own) s → Ends ws r
+    → Step (scanParts n tests (count - (own + 1)) (own + 1)) whole ws r
+parts-step n tests count own s whole h f e k =
+    step e k (parts-more n tests count own s h ∙ f) (parts-stopped n tests (count - (own + 1)) (own + 1))
 
 pub parts-done : (n : ℕ) (tests : ℕ → List ℕ → List (ℕ → Bool)) (count own : ℕ) (s whole : Scan) → count ≤ own
     → scanParts n tests (count - own) own s ≡ whole → s ≡ whole
@@ -213,15 +214,6 @@ pub names-false : (n w x : ℕ) → x ≡ w → n ≤ x → names n w ≡ false
 unfolding names
 names-false n w x e h = le-ltb w n (omega arith)
 
--- One step of a run of tests: it stops the whole, or the rest of the tests goes on from the next word.
-module _ (n : ℕ) (t : ℕ → Bool) (ts : List (ℕ → Bool)) (ws : List ℕ) (r : Scanned) (s whole : Scan)
-    (e : scanOf ws r ≡ scanWords n (t ∷ []) s) (f : scanWords n (t ∷ ts) s ≡ whole) where
-  pub words-stop : (v : Refusal) → r ≡ Stop v → scanOf ws r ≡ whole
-  words-stop = step-stops (scanWords n ts) whole ws r (scanWords n (t ∷ []) s) e (sym (scan-more n t ts s) ∙ f) (scan-stopped n ts)
-
-  pub words-go : (m : ℕ) → r ≡ Next m → scanWords n ts (reading m (drop m ws)) ≡ whole
-  words-go = step-goes (scanWords n ts) whole ws r (scanWords n (t ∷ []) s) e (sym (scan-more n t ts s) ∙ f)
-
 pub step-at : (k : ℕ) (r : Scanned) (n : ℕ) → Reaches k r → r ≡ Next n → n ≡ k
 step-at k r n h q = subst (Reaches k) q h
 
@@ -234,13 +226,16 @@ pub record Left (n : ℕ) (ts : List (ℕ → Bool)) (ws : List ℕ) (whole : Sc
 -- One word of them is judged: that stops the whole, or the scan stands one word further.
 module _ {n : ℕ} {t : ℕ → Bool} {ts : List (ℕ → Bool)} {ws : List ℕ} {whole : Scan} {base k m : ℕ} (left : Left n (t ∷ ts) ws whole base k m)
     (r : Scanned) (e : (scanOf ws r ≡ scanWords n (t ∷ []) (reading m (drop m ws))) × Ends ws r × Reaches (m + 1) r) where
+  left-step : Step (scanWords n ts) whole ws r
+  left-step = step (e .0) (e .1) (sym (scan-more n t ts (reading m (drop m ws))) ∙ left .goes) (scan-stopped n ts)
+
   pub left-stops : (v : Refusal) → r ≡ Stop v → (scanOf ws r ≡ whole) × Ends ws r
-  left-stops v q = (words-stop n t ts ws r (reading m (drop m ws)) whole (e .0) (left .goes) v q, e .1)
+  left-stops v q = (left-step .stops v q, e .1)
 
   pub left-next : (j : ℕ) → r ≡ Next j → Left n ts ws whole base (suc k) j
   left-next j q = record {
-    goes = words-go n t ts ws r (reading m (drop m ws)) whole (e .0) (left .goes) j q;
-    inside = step-ends ws r j (e .1) q;
+    goes = left-step .goes j q;
+    inside = left-step .inside j q;
     stands = omega (arith, step-at (m + 1) r j (e .2) q, left .stands);
   }
 
@@ -273,7 +268,9 @@ module _ (ws : List ℕ) (i room : ℕ) (whole : Scan) (e : scanSpare room (read
 
   pub spare-end : length ws ≤ i → reading i (drop i ws) ≡ whole
   unfolding scanSpare
-  spare-end h = ap (reading i) (drop-of-length-le ws h) ∙ sym (at-end room) ∙ ap (λ (l : List ℕ). scanSpare room (reading i l)) (sym (drop-of-length-le ws h)) ∙ e
+  spare-end h =
+      ap (reading i) (drop-of-length-le ws h) ∙ sym (at-end room)
+      ∙ ap (λ (l : List ℕ). scanSpare room (reading i l)) (sym (drop-of-length-le ws h)) ∙ e
     where
       at-end : (k : ℕ) → scanSpare k (reading i []) ≡ reading i []
       at-end k = refl
@@ -308,20 +305,21 @@ module _ (p : ℕ) (ws : List ℕ) where
   unfolding scanSpare
   spare-stopped m k = refl
 
-  pub stays₁ : (m k : ℕ) → afterInteractions (stopped m k) ≡ stopped m k
-  stays₁ m k = spare-stopped m k
+  pub interactions-stay : (m k : ℕ) → afterInteractions (stopped m k) ≡ stopped m k
+  interactions-stay m k = spare-stopped m k
 
-  pub stays₂ : (m k : ℕ) → afterConstraints (stopped m k) ≡ stopped m k
-  stays₂ m k = ap (scanSpare 126) (parts-stopped 6 (λ own. interactionTests (getD ws 1 0)) (getD ws 3 0) 0 m k) ∙ stays₁ m k
+  pub constraints-stay : (m k : ℕ) → afterConstraints (stopped m k) ≡ stopped m k
+  constraints-stay m k = ap (scanSpare 126) (parts-stopped 6 (λ own. interactionTests (getD ws 1 0)) (getD ws 3 0) 0 m k) ∙ interactions-stay m k
 
-  pub stays₃ : (m k : ℕ) → afterRecords (stopped m k) ≡ stopped m k
-  stays₃ m k = ap afterConstraints (scan-stopped 6 (replicate (getD ws 2 0) (names (getD ws 1 0))) m k) ∙ stays₂ m k
+  pub records-stay : (m k : ℕ) → afterRecords (stopped m k) ≡ stopped m k
+  records-stay m k = ap afterConstraints (scan-stopped 6 (replicate (getD ws 2 0) (names (getD ws 1 0))) m k) ∙ constraints-stay m k
 
-  pub stays₄ : (m k : ℕ) → afterHead (stopped m k) ≡ stopped m k
-  stays₄ m k = ap afterRecords (parts-stopped 5 (recordTests p) (getD ws 1 0) 0 m k) ∙ stays₃ m k
+  pub head-stays : (m k : ℕ) → afterHead (stopped m k) ≡ stopped m k
+  head-stays m k = ap afterRecords (parts-stopped 5 (recordTests p) (getD ws 1 0) 0 m k) ∙ records-stay m k
 
   -- A scan that stopped refuses the sheet; one that went to the end accepts it.
-  pub refuses : (r : Scanned) (v : Refusal) (x : Checked) → r ≡ Stop v → scanOf ws r ≡ scanSheet p ws → x ≡ refusedOf r → checkedOutcome x ≡ checkCall p ws
+  pub refuses : (r : Scanned) (v : Refusal) (x : Checked) → r ≡ Stop v → scanOf ws r ≡ scanSheet p ws → x ≡ refusedOf r
+      → checkedOutcome x ≡ checkCall p ws
   unfolding check judged
   refuses r v x q e h =
       ap checkedOutcome (h ∙ ap refusedOf q) ∙ ap (λ (t : Scan). told (judged t (readSheet ws))) (sym (ap (scanOf ws) q) ∙ e) ∙ check-told p ws
@@ -332,7 +330,9 @@ module _ (p : ℕ) (ws : List ℕ) where
     accepts = ap (λ (t : Scan). judged t (readSheet ws)) (sym e ∙ ap (scanOf ws) q)
 
     -- The words are those of the sheet and zeros, so the head and the places are the sheet's.
-    module _ (b : ℕ) (at-b : reading b (drop b ws) ≡ scanWords 6 (replicate (getD ws 2 0) (names (getD ws 1 0))) (scanParts 5 (recordTests p) (getD ws 1 0) 0 (scanWords 3 headTests (reading 0 ws))))
+    module _ (b : ℕ)
+        (at-b : reading b (drop b ws) ≡ scanWords 6 (replicate (getD ws 2 0) (names (getD ws 1 0)))
+        (scanParts 5 (recordTests p) (getD ws 1 0) 0 (scanWords 3 headTests (reading 0 ws))))
         (l : ℕ) (at-l : reading l (drop l ws) ≡ scanParts 6 (λ own. interactionTests (getD ws 1 0)) (getD ws 3 0) 0 (reading b (drop b ws))) where
       abbrev head : Head
       head = record { records = getD ws 1 0; constraints = getD ws 2 0; interactions = getD ws 3 0; start = b; words = l }

@@ -1,3 +1,4 @@
+-- Each arm has its case of the definition.
 use mathlib.Core.Path.{sym, ap}
 use borrow.Author.Needs.{needs}
 use Rattle.sheet.specs.Replies.{refusalOf}

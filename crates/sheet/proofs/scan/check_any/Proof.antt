@@ -1,3 +1,4 @@
+-- The word fails only if the words end before it.
 use mathlib.Core.Path.{refl}
 use mathlib.Core.Bool.{true}
 use mathlib.Core.List.{[]}

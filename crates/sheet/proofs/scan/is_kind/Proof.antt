@@ -1,3 +1,4 @@
+-- A kind is at least 1 and at most 9: the first test decides the first half of the conjunction.
 use borrow.Author.Tests.{le-leb, lt-leb}
 use Rattle.sheet.proofs.scan.is_kind.Statement.{statement}
 use Rattle.sheet.proofs.scan.is_kind.Tie as tie

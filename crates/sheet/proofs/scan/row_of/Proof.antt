@@ -1,3 +1,4 @@
+-- The constant rows are those of the table.
 use mathlib.Core.Path.{refl}
 use borrow.Author.Needs.{needs}
 use Rattle.semantics.specs.Sheet.{row, table}
