@@ -58,53 +58,70 @@ module _ (ws : List ℕ) (lent n : ℕ) where
       ap (λ (x : Refusal). builtOutcome (Refused x) (zeros lent) (zeros n)) (f ∙ ap refusalOf q)
       ∙ refused-outcome v ∙ ap (outcome (lent ∷ []) (n ∷ [])) (on-refused prime ws rest e q)
 
-  module _ (records words : ℕ) (scratch out : List ℕ) (h : Clear ws records words scratch out) where
-    abbrev s : Sheet
-    s = readSheet ws
+-- A checked sheet, with scratch and output of zeros.
+module _ {ws : List ℕ} {records words : ℕ} {scratch out : List ℕ} (h : Clear ws records words scratch out) where
+  abbrev s : Sheet
+  s = readSheet ws
 
-    abbrev after : Answer Result
-    after = needs 15 (lengthOf s) n (result (encode (graphOf prime s) ∷ []) [])
+  abbrev lent : ℕ
+  lent = length scratch
 
-    pub scratch-short : lent < records → builtOutcome (Refused (record { number = 14; place = records })) (zeros lent) (zeros n) ≡ builderCall prime ws lent n
-    unfolding builderCall needs
-    scratch-short l =
-        refused-outcome (record { number = 14; place = records })
-        ∙ ap (outcome (lent ∷ []) (n ∷ []))
-        (ap (refused 14) (h .records-are)
-        ∙ sym (cond-false (leb (length (s .records)) lent) after (refused 14 (length (s .records))) (lt-leb (length (s .records)) lent (omega (arith, h .records-are))))
-        ∙ on-found prime ws rest (h .checked))
+  abbrev n : ℕ
+  n = length out
 
-    enough : records ≤ lent → after ≡ rest s
-    unfolding needs
-    enough l = sym (cond-true (leb (length (s .records)) lent) after (refused 14 (length (s .records))) (le-leb (length (s .records)) lent (omega (arith, h .records-are))))
+  abbrev after : Answer Result
+  after = needs 15 (lengthOf s) n (result (encode (graphOf prime s) ∷ []) [])
 
-    pub out-short : records ≤ lent → n < words → builtOutcome (Refused (record { number = 15; place = words })) (zeros lent) (zeros n) ≡ builderCall prime ws lent n
-    unfolding builderCall needs
-    out-short l k =
-        refused-outcome (record { number = 15; place = words })
-        ∙ ap (outcome (lent ∷ []) (n ∷ []))
-        (ap (refused 15) (h .words-are)
-        ∙ sym (cond-false (leb (lengthOf s) n) (result (encode (graphOf prime s) ∷ []) []) (refused 15 (lengthOf s)) (lt-leb (lengthOf s) n (omega (arith, h .words-are))))
-        ∙ enough l ∙ on-found prime ws rest (h .checked))
+  -- A refusal leaves the zeros.
+  refused-clear : (v : Refusal) → builtOutcome (Refused v) (zeros lent) out ≡ outcome (lent ∷ []) (n ∷ []) (refused (v .number) (v .place))
+  refused-clear v = ap (builtOutcome (Refused v) (zeros lent)) (h .out-is) ∙ refused-outcome ws lent n v
 
-    pub graph-built : records ≤ lent → words ≤ n → (written : ℕ) (out′ : List ℕ) → out′ ≡ graphOut n ws → written ≡ graphLength ws
-        → builtOutcome (Words written) (zeros lent) out′ ≡ builderCall prime ws lent n
-    unfolding builderCall needs outcome paddedAll result
-    graph-built l k written out′ eo ew =
-        (λ i. record { reply = record { number = 0; place = 0; counts = ew i ∷ []; numbers = [] }; slices = zeros lent ∷ eo i ∷ [] })
-        ∙ ap (outcome (lent ∷ []) (n ∷ []))
-        (sym (cond-true (leb (lengthOf s) n) (result (encode (graphOf prime s) ∷ []) []) (refused 15 (lengthOf s)) (le-leb (lengthOf s) n (omega (arith, h .words-are))))
-        ∙ enough l ∙ on-found prime ws rest (h .checked))
+  pub scratch-short : lent < records → builtOutcome (Refused (record { number = 14; place = records })) (zeros lent) out ≡ builderCall prime ws lent n
+  unfolding builderCall needs
+  scratch-short l =
+      refused-clear (record { number = 14; place = records })
+      ∙ ap (outcome (lent ∷ []) (n ∷ []))
+      (ap (refused 14) (h .records-are)
+      ∙ sym (cond-false (leb (length (s .records)) lent) after (refused 14 (length (s .records)))
+      (lt-leb (length (s .records)) lent (omega (arith, h .records-are))))
+      ∙ on-found prime ws (rest ws lent n) (h .checked))
 
-    -- What building asks of the first words of scratch.
-    pub starting : words ≤ length out → records ≤ length scratch → Starting ws (take records scratch) out
-    unfolding zeros
-    starting l k = record {
-      checked = h .checked;
-      room = omega (arith, h .words-are);
-      scratch-is =
-          ap (take records) (h .scratch-is)
-          ∙ take-replicate records (length scratch) k
-          ∙ ap (λ (m : ℕ). replicate m 0) (h .records-are);
-      out-is = h .out-is;
-    }
+  enough : records ≤ lent → after ≡ rest ws lent n s
+  unfolding needs
+  enough l =
+      sym (cond-true (leb (length (s .records)) lent) after (refused 14 (length (s .records)))
+      (le-leb (length (s .records)) lent (omega (arith, h .records-are))))
+
+  pub out-short : records ≤ lent → n < words
+      → builtOutcome (Refused (record { number = 15; place = words })) (zeros lent) out ≡ builderCall prime ws lent n
+  unfolding builderCall needs
+  out-short l k =
+      refused-clear (record { number = 15; place = words })
+      ∙ ap (outcome (lent ∷ []) (n ∷ []))
+      (ap (refused 15) (h .words-are)
+      ∙ sym (cond-false (leb (lengthOf s) n) (result (encode (graphOf prime s) ∷ []) []) (refused 15 (lengthOf s))
+      (lt-leb (lengthOf s) n (omega (arith, h .words-are))))
+      ∙ enough l ∙ on-found prime ws (rest ws lent n) (h .checked))
+
+  pub graph-built : records ≤ lent → words ≤ n → (written : ℕ) (out′ : List ℕ) → out′ ≡ graphOut n ws → written ≡ graphLength ws
+      → builtOutcome (Words written) (zeros lent) out′ ≡ builderCall prime ws lent n
+  unfolding builderCall needs outcome paddedAll result
+  graph-built l k written out′ eo ew =
+      (λ i. record { reply = record { number = 0; place = 0; counts = ew i ∷ []; numbers = [] }; slices = zeros lent ∷ eo i ∷ [] })
+      ∙ ap (outcome (lent ∷ []) (n ∷ []))
+      (sym (cond-true (leb (lengthOf s) n) (result (encode (graphOf prime s) ∷ []) []) (refused 15 (lengthOf s))
+      (le-leb (lengthOf s) n (omega (arith, h .words-are))))
+      ∙ enough l ∙ on-found prime ws (rest ws lent n) (h .checked))
+
+  -- What building asks of the first words of scratch.
+  pub starting : records ≤ lent → words ≤ n → Starting ws (take records scratch) out
+  unfolding zeros
+  starting l k = record {
+    checked = h .checked;
+    room = omega (arith, h .words-are);
+    scratch-is =
+        ap (take records) (h .scratch-is)
+        ∙ take-replicate records lent l
+        ∙ ap (λ (m : ℕ). replicate m 0) (h .records-are);
+    out-is = h .out-is;
+  }

@@ -24,15 +24,18 @@ unfolding tabulate
 table-zeros k zero f h = refl
 table-zeros k (suc n) f h = λ i. sym (h k) i ∷ table-zeros (suc k) n f h i
 
-module _ (ws scratch out : List ℕ) (b : Starting ws scratch out) where
+-- Where the constraints of a sheet start, and how many constraints and interactions it has.
+pub record Counted (ws : List ℕ) (at count ints : ℕ) : Type 0 where
+  pub located : at ≡ constraintsAt ws
+  pub constraints : count ≡ length (readSheet ws .constraints)
+  pub interactions : ints ≡ length (readSheet ws .interactions)
+
+module _ {ws scratch out : List ℕ} (b : Starting ws scratch out) where
   abbrev s : Sheet
   s = readSheet ws
 
   abbrev E : ℕ
   E = length (recordsOf ws)
-
-  abbrev C : ℕ
-  C = length (s .constraints)
 
   room : 4 + 5 * E ≤ length out
   unfolding lengthOf
@@ -52,38 +55,43 @@ module _ (ws scratch out : List ℕ) (b : Starting ws scratch out) where
   start-walking = record { checked = b .checked; room = room; done = []; order = order-none ws; holds = holds-none }
 
   -- The records that the constraints and the interactions name.
-  module _ (at count ints : ℕ) (ea : at ≡ constraintsAt ws) (ec : count ≡ C) (ei : ints ≡ length (s .interactions)) where
+  module _ {at count ints : ℕ} (n : Counted ws at count ints) where
     pub names-inside : NamesInside ws at count
-    names-inside = subst (λ (a : ℕ). NamesInside ws a count) (sym ea) (subst (NamesInside ws (constraintsAt ws)) (sym ec) (constraints-inside ws (b .checked)))
+    names-inside =
+        subst (λ (a : ℕ). NamesInside ws a count) (sym (n .located))
+        (subst (NamesInside ws (constraintsAt ws)) (sym (n .constraints)) (constraints-inside ws (b .checked)))
 
     -- When the constraints are added.
     pub walking-next : (s₁ o₁ : List ℕ) (n₁ : ℕ) → length o₁ ≡ length out → Walks ws (part at count ws) scratch out 0 s₁ o₁ n₁ → Walking ws s₁ o₁ n₁
     walking-next s₁ o₁ n₁ = walking-after ws (part at count ws) (names-below ws at count names-inside) scratch out 0 s₁ o₁ n₁ start-walking
 
-    module _ (from : ℕ) (ef : from ≡ at + count) where
-      from-is : from ≡ interactionsAt ws
-      from-is = omega arith
+    -- The interactions stand behind the constraints.
+    behind : at + count ≡ interactionsAt ws
+    behind = omega (arith, n .located, n .constraints)
 
-      pub all-inside : AllRootsInside E ws from ints
-      all-inside =
-          subst (λ (a : ℕ). AllRootsInside E ws a ints) (sym from-is)
-          (subst (AllRootsInside E ws (interactionsAt ws)) (sym ei) (interactions-inside ws (b .checked)))
+    pub all-inside : AllRootsInside E ws (at + count) ints
+    all-inside =
+        subst (λ (a : ℕ). AllRootsInside E ws a ints) (sym behind)
+        (subst (AllRootsInside E ws (interactionsAt ws)) (sym (n .interactions)) (interactions-inside ws (b .checked)))
 
-      roots-all : part at count ws ++ rootWords ws from ints ≡ graphRoots s
-      unfolding graphRoots
-      roots-all =
-          let stands = interactions-stand ws (b .checked) in
-          (λ i. part (ea i) (ec i) ws ++ rootWords ws (from-is i) (ei i))
-          ∙ (λ i. constraints-are ws (b .checked) i ++ roots-are (stands .0) ws (interactionsAt ws) (s .interactions) (stands .1) i)
+    roots-all : part at count ws ++ rootWords ws (at + count) ints ≡ graphRoots s
+    unfolding graphRoots
+    roots-all =
+        let stands = interactions-stand ws (b .checked) in
+        (λ i. part (n .located i) (n .constraints i) ws ++ rootWords ws (behind i) (n .interactions i))
+        ∙ (λ i. constraints-are ws (b .checked) i ++ roots-are (stands .0) ws (interactionsAt ws) (s .interactions) (stands .1) i)
 
-      -- When all are.
-      pub finishing : (s₁ o₁ : List ℕ) (n₁ : ℕ) (s₂ o₂ : List ℕ) (n₂ : ℕ) → Walks ws (part at count ws) scratch out 0 s₁ o₁ n₁
-          → Walks ws (rootWords ws from ints) s₁ o₁ n₁ s₂ o₂ n₂ → length o₂ ≡ length out → Finishing ws s₂ o₂ n₂
-      unfolding order
-      finishing s₁ o₁ n₁ s₂ o₂ n₂ v w k =
-          let all = walks-both ws start-walking (part at count ws) (rootWords ws from ints) (names-below ws at count names-inside) s₁ o₁ n₁ s₂ o₂ n₂ v w in
-          record {
-            checked = b .checked;
-            room = omega (arith, b .room);
-            holds = subst (λ (r : List ℕ). Holds ws (foldLeft (visit (childrenAt (recordsOf ws)) E) [] r) s₂ o₂ n₂) roots-all (all [] (order-none ws) holds-none);
-          }
+    -- When all are.
+    pub finishing : (s₁ o₁ : List ℕ) (n₁ : ℕ) (s₂ o₂ : List ℕ) (n₂ : ℕ) → Walks ws (part at count ws) scratch out 0 s₁ o₁ n₁
+        → Walks ws (rootWords ws (at + count) ints) s₁ o₁ n₁ s₂ o₂ n₂ → length o₂ ≡ length out → Finishing ws s₂ o₂ n₂
+    unfolding order
+    finishing s₁ o₁ n₁ s₂ o₂ n₂ v w k =
+        let all = walks-both ws start-walking (part at count ws) (rootWords ws (at + count) ints) (names-below ws at count names-inside)
+        s₁ o₁ n₁ s₂ o₂ n₂ v w in
+        record {
+          checked = b .checked;
+          room = omega (arith, b .room);
+          holds =
+              subst (λ (r : List ℕ). Holds ws (foldLeft (visit (childrenAt (recordsOf ws)) E) [] r) s₂ o₂ n₂) roots-all
+              (all [] (order-none ws) holds-none);
+        }

@@ -15,6 +15,12 @@ use Rattle.dag.proofs.build_clear.Tie as tie
 abbrev entry : tie.After-check-sheet → tie.Start
 entry c = c .before .before .before .before
 
+abbrev refused-at : tie.After-refusal-of → tie.After-check-sheet
+refused-at c = c .before .before .before
+
+abbrev found-at : tie.After-known-told → tie.After-check-sheet
+found-at c = c .before .before .before
+
 check-sheet-requires : tie.Need-check-sheet-requires
 check-sheet-requires c κs = search needs
 
@@ -29,7 +35,7 @@ refusal-of-requires c κs = search needs
 
 returns : tie.Need-returns
 returns c =
-    let checked = c .before .before .before in
+    let checked = refused-at c in
     let a = entry checked .args in
     ap (builtOutcome (Refused (c .refusal-of .result)) (zeros (length (a .scratch .now)))) (entry checked .pre .1)
     ∙ call-refused (a .s .now) (length (a .scratch .now)) (length (a .out .now)) (checked .check-sheet .ensures) (c .before .enum-told .given .1)
@@ -37,11 +43,11 @@ returns c =
 
 build-checked-requires : tie.Need-build-checked-requires
 build-checked-requires c κs =
-    let head = c .before .before .before in
-    let checked = head .before .before in
+    let told = c .before .before in
+    let checked = found-at told in
     let a = entry checked .args in
     let p = entry checked .pre in
-    let t = found prime (a .s .now) (checked .check-sheet .ensures) (head .checked .given .1) in
+    let t = found prime (a .s .now) (checked .check-sheet .ensures) (told .before .checked .given .1) in
     clear-found (a .s .now) (t .0) (t .1) _ _ (ap (λ (h : Head). h .records) (t .2)) (ap (λ (h : Head). h .words) (t .2)) (a .scratch .now) (a .out .now)
     (p .0) (p .1)
 

@@ -1,59 +1,110 @@
-use mathlib.Core.Path.{refl, ap, _∙_}
-use Prim.Native.Nat.{ℕ, _+_}
+-- What the constraints name is added, then what the interactions name, then the lists are written. Of each stage: scratch and output are what
+-- the walk so far leaves, and the output keeps its length.
+use mathlib.Core.Path.{_≡_, ap, _∙_}
+use mathlib.Core.List.{List}
+use Prim.Native.Nat.{ℕ}
 use native.Mathlib.Omega.{arith}
 use borrow.Author.Needs.{needs}
+use lib.ListN.{length}
 use Rattle.records.proofs.Reading.{counts-small}
 use Rattle.graph_lists.specs.Lists.{graphOut}
-use Rattle.dag.proofs.Starts.{start-walking, names-inside, walking-next, all-inside, finishing}
+use Rattle.dag.proofs.Starts.{Counted, start-walking, names-inside, walking-next, all-inside, finishing}
 use Rattle.dag.proofs.graph.build_graph.Statement.{statement}
 use Rattle.dag.proofs.graph.build_graph.Tie as tie
 
+-- The head is read.
+abbrev start : tie.After-slice-known2 → tie.Start
+start c = c .before .before .before
+
+module _ (c : tie.After-num-interactions) where
+  abbrev located : tie.After-constraints-at
+  located = c .before .before
+
+  abbrev entry : tie.Start
+  entry = start (located .before)
+
+  counted : Counted (entry .args .sheet .now) (located .constraints-at .result) (c .before .num-constraints .result) (c .num-interactions .result)
+  counted = record {
+    located = located .constraints-at .ensures;
+    constraints = c .before .num-constraints .ensures;
+    interactions = c .num-interactions .ensures;
+  }
+
+-- What the constraints name is added.
+module _ (c : tie.After-add-names) where
+  abbrev head-read : tie.After-num-interactions
+  head-read = c .before .before .before
+
+  abbrev named-scratch : List ℕ
+  named-scratch = c .add-names .last .1 .1 .1 .0
+
+  abbrev named-out : List ℕ
+  named-out = c .add-names .last .1 .1 .1 .1 .0
+
+  out-kept : length named-out ≡ length (entry head-read .args .out .now)
+  out-kept = c .add-names .kept .1 .1 .1 .1 .0
+
+abbrev named : tie.After-slice-known4 → tie.After-add-names
+named c = c .before .before .before .before
+
+-- What the interactions name is added.
+module _ (c : tie.After-add-interactions) where
+  abbrev names-added : tie.After-add-names
+  names-added = named (c .before .before .before)
+
+  abbrev all-scratch : List ℕ
+  all-scratch = c .add-interactions .last .1 .1 .1 .0
+
+  abbrev all-out : List ℕ
+  all-out = c .add-interactions .last .1 .1 .1 .1 .0
+
+  all-kept : length all-out ≡ length (entry (head-read names-added) .args .out .now)
+  all-kept = c .add-interactions .kept .1 .1 .1 .1 .0 ∙ out-kept names-added
+
+abbrev all-named : tie.After-slice-known6 → tie.After-add-interactions
+all-named c = c .before .before .before .before
+
+-- The lists are written.
+abbrev written : tie.After-slice-known8 → tie.After-write-graph
+written c = c .before .before .before .before
+
+abbrev all-added : tie.After-write-graph → tie.After-add-interactions
+all-added c = all-named (c .before .before .before)
+
 constraints-at-requires : tie.Need-constraints-at-requires
-constraints-at-requires c κs = c .before .before .before .pre .checked
+constraints-at-requires c κs = start c .pre .checked
 
 num-constraints-requires : tie.Need-num-constraints-requires
-num-constraints-requires c κs = c .before .before .before .before .pre .checked
+num-constraints-requires c κs = start (c .before) .pre .checked
 
 num-interactions-requires : tie.Need-num-interactions-requires
-num-interactions-requires c κs = c .before .before .before .before .before .pre .checked
+num-interactions-requires c κs = start (c .before .before) .pre .checked
 
 add-names-requires : tie.Need-add-names-requires
 add-names-requires c κs =
-    let a = c .before .before .before .before .before .before .before .before .args in
-    let p = c .before .before .before .before .before .before .before .before .pre in
-    let at = c .before .before .before .before .constraints-at in
-    let constraints = c .before .before .before .num-constraints in
-    let interactions = c .before .before .num-interactions in
-    (start-walking (a .sheet .now) (a .scratch .now) (a .out .now) p, names-inside (a .sheet .now) (a .scratch .now) (a .out .now) p (at .result) (constraints .result) (interactions .result) (at .ensures) (constraints .ensures) (interactions .ensures))
+    let n = c .before .before in
+    (start-walking (entry n .pre), names-inside (entry n .pre) (counted n))
 
 add-add-interactions : tie.Need-add-add-interactions
 add-add-interactions c =
-    let a = c .before .before .before .before .before .before .before .before .before .before .before .before .before .args in
-    let p = c .before .before .before .before .before .before .before .before .before .before .before .before .before .pre in
-    let at = c .before .before .before .before .before .before .before .before .before .constraints-at in
-    let constraints = c .before .before .before .before .before .before .before .before .num-constraints in
-    omega (arith, at .ensures, constraints .ensures, counts-small (a .sheet .now) (p .checked))
+    let n = head-read (named c) in
+    omega (arith, counted n .located, counted n .constraints, counts-small (entry n .args .sheet .now) (entry n .pre .checked))
 
 add-interactions-requires : tie.Need-add-interactions-requires
 add-interactions-requires c κs =
-    let a = c .before .before .before .before .before .before .before .before .before .before .before .before .before .before .before .args in
-    let p = c .before .before .before .before .before .before .before .before .before .before .before .before .before .before .before .pre in
-    let at = c .before .before .before .before .before .before .before .before .before .before .before .constraints-at in
-    let constraints = c .before .before .before .before .before .before .before .before .before .before .num-constraints in
-    let interactions = c .before .before .before .before .before .before .before .before .before .num-interactions in
-    let names = c .before .before .before .before .before .before .add-names in
-    (walking-next (a .sheet .now) (a .scratch .now) (a .out .now) p (at .result) (constraints .result) (interactions .result) (at .ensures) (constraints .ensures) (interactions .ensures) (names .last .1 .1 .1 .0) (names .last .1 .1 .1 .1 .0) (names .result) (names .kept .1 .1 .1 .1 .0) (names .ensures), all-inside (a .sheet .now) (a .scratch .now) (a .out .now) p (at .result) (constraints .result) (interactions .result) (at .ensures) (constraints .ensures) (interactions .ensures) (at .result + constraints .result) refl)
+    let a = named (c .before .before) in
+    let n = head-read a in
+    (walking-next (entry n .pre) (counted n) (named-scratch a) (named-out a) (a .add-names .result) (out-kept a) (a .add-names .ensures),
+    all-inside (entry n .pre) (counted n))
 
 write-graph-requires : tie.Need-write-graph-requires
 write-graph-requires c κs =
-    let a = c .before .before .before .before .before .before .before .before .before .before .before .before .before .before .before .before .before .before .before .before .before .before .args in
-    let p = c .before .before .before .before .before .before .before .before .before .before .before .before .before .before .before .before .before .before .before .before .before .before .pre in
-    let at = c .before .before .before .before .before .before .before .before .before .before .before .before .before .before .before .before .before .before .constraints-at in
-    let constraints = c .before .before .before .before .before .before .before .before .before .before .before .before .before .before .before .before .before .num-constraints in
-    let interactions = c .before .before .before .before .before .before .before .before .before .before .before .before .before .before .before .before .num-interactions in
-    let names = c .before .before .before .before .before .before .before .before .before .before .before .before .before .add-names in
-    let rest = c .before .before .before .before .before .before .add-interactions in
-    (finishing (a .sheet .now) (a .scratch .now) (a .out .now) p (at .result) (constraints .result) (interactions .result) (at .ensures) (constraints .ensures) (interactions .ensures) (at .result + constraints .result) refl (names .last .1 .1 .1 .0) (names .last .1 .1 .1 .1 .0) (names .result) (rest .last .1 .1 .1 .0) (rest .last .1 .1 .1 .1 .0) (rest .result) (names .ensures) (rest .ensures) (rest .kept .1 .1 .1 .1 .0 ∙ names .kept .1 .1 .1 .1 .0), at .ensures, constraints .ensures, interactions .ensures)
+    let all = all-named (c .before .before) in
+    let a = names-added all in
+    let n = head-read a in
+    (finishing (entry n .pre) (counted n) (named-scratch a) (named-out a) (a .add-names .result) (all-scratch all) (all-out all) (all .add-interactions .result)
+    (a .add-names .ensures) (all .add-interactions .ensures) (all-kept all),
+    counted n .located, counted n .constraints, counted n .interactions)
 
 same-length : tie.Need-same-length
 same-length c = search needs
@@ -63,10 +114,10 @@ same-length-2 c = search needs
 
 returns : tie.Need-returns
 returns c =
-    let names = c .before .before .before .before .before .before .before .before .before .before .before .before .before .before .before .before .before .before .add-names in
-    let rest = c .before .before .before .before .before .before .before .before .before .before .before .add-interactions in
-    let written = c .before .before .before .before .write-graph in
-    (written .ensures .0 ∙ ap (λ (k : ℕ). graphOut k (c .before .before .before .before .before .before .before .before .before .before .before .before .before .before .before .before .before .before .before .before .before .before .before .before .before .before .before .args .sheet .now)) (rest .kept .1 .1 .1 .1 .0 ∙ names .kept .1 .1 .1 .1 .0), written .ensures .1)
+    let w = written c in
+    let all = all-added w in
+    (w .write-graph .ensures .0 ∙ ap (λ (k : ℕ). graphOut k (entry (head-read (names-added all)) .args .sheet .now)) (all-kept all),
+    w .write-graph .ensures .1)
 
 pub build-graph-spec : {M : Type 1} → statement M
 build-graph-spec =
