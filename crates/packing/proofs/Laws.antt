@@ -102,7 +102,7 @@ transition-packs v e = outcome-is (packed′.Var v) (ap good e)
 
 -- ---- unpacking
 -- What words that may be those of a number, packed again, say of unpacking it.
-abbrev unpackedBy : Bool → Record → Unpacked
+abbrev pub unpackedBy : Bool → Record → Unpacked
 unpackedBy true w = unpacked′.Words w
 unpackedBy false w = unpacked′.Refused (record { number = 5; place = 0 })
 

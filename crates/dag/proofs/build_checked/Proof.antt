@@ -13,8 +13,8 @@ entry c = c .before .before .before
 abbrev long-scratch : tie.Else1 → tie.Start
 long-scratch c = entry (c .before)
 
-abbrev room : tie.After-build-graph → tie.Else2
-room c = c .before .before .before
+abbrev room : tie.After-build-graph-arg2 → tie.Else2
+room c = c .before .before
 
 abbrev built : tie.After-slice-known4 → tie.After-build-graph
 built c = c .before .before .before .before
@@ -36,7 +36,7 @@ slice-aggregate-build-graph c =
 
 build-graph-requires : tie.Need-build-graph-requires
 build-graph-requires c κs =
-    let r = c .before .before in
+    let r = room c in
     starting (long-scratch (r .before) .pre) (r .before .if1 .left) (r .if2 .left)
 
 same-length : tie.Need-same-length
@@ -48,7 +48,7 @@ same-length-2 c = search needs
 returns-3 : tie.Need-returns-3
 returns-3 c =
     let g = built c .build-graph in
-    let r = room (built c) in
+    let r = room (built c .before) in
     graph-built (long-scratch (r .before) .pre) (r .before .if1 .left) (r .if2 .left) (g .result) (g .last .1 .1 .0) (g .ensures .0) (g .ensures .1)
 
 pub build-checked-spec : {M : Type 1} → statement M

@@ -9,12 +9,16 @@ use Rattle.packing.proofs.Laws.{pack-refused, pack-said, first-packs, l
 use Rattle.packing.proofs.pack.Statement.{statement}
 use Rattle.packing.proofs.pack.Tie as tie
 
+-- The leaf is read.
+abbrev leaf-read : tie.After-known-told → tie.After-leaf-of
+leaf-read c = c .before .before .before
+
 -- The record that the words are, and what packing it comes to for the leaf that was read.
 abbrev words : tie.After-known-told → Record
-words c = let a = c .before .before .before .before .args in recordOf (a .kind) (a .a) (a .b) (a .c) (a .d)
+words c = let a = leaf-read c .before .args in recordOf (a .kind) (a .a) (a .b) (a .c) (a .d)
 
 says : (c : tie.After-known-told) {l : Leaf} → c .before .read .given .0 .0 ≡ l → variableCall (leafRecord l) ≡ packCall (words c)
-says c q = pack-said (words c) (c .before .before .before .leaf-of .ensures) (c .before .read .given .1) q
+says c q = pack-said (words c) (leaf-read c .leaf-of .ensures) (c .before .read .given .1) q
 
 leaf-of-requires : tie.Need-leaf-of-requires
 leaf-of-requires c κs = search needs
@@ -29,7 +33,9 @@ refusal-of-requires : tie.Need-refusal-of-requires
 refusal-of-requires c κs = search needs
 
 returns : tie.Need-returns
-returns c = pack-refused _ (c .before .before .before .leaf-of .ensures) (c .before .enum-told .given .1) (c .refusal-of .ensures)
+returns c =
+    let told = c .before in
+    pack-refused _ (told .before .before .leaf-of .ensures) (told .enum-told .given .1) (c .refusal-of .ensures)
 
 enum-known-said : tie.Need-enum-known-said
 enum-known-said c = search needs
@@ -61,13 +67,19 @@ returns-2 c =
     c .from-symbolic-var .ensures ∙ says (variable .before .before) (variable .said .given .1)
 
 returns-3 : tie.Need-returns-3
-returns-3 c = first-packs _ (c .is-first .ensures) ∙ says (c .before .before .before) (c .before .enum-told2 .given .1)
+returns-3 c =
+    let told = c .before in
+    first-packs _ (c .is-first .ensures) ∙ says (told .before .before) (told .enum-told2 .given .1)
 
 returns-4 : tie.Need-returns-4
-returns-4 c = last-packs _ (c .is-last .ensures) ∙ says (c .before .before .before) (c .before .enum-told3 .given .1)
+returns-4 c =
+    let told = c .before in
+    last-packs _ (c .is-last .ensures) ∙ says (told .before .before) (told .enum-told3 .given .1)
 
 returns-5 : tie.Need-returns-5
-returns-5 c = transition-packs _ (c .is-transition .ensures) ∙ says (c .before .before .before) (c .before .enum-told4 .given .1)
+returns-5 c =
+    let told = c .before in
+    transition-packs _ (c .is-transition .ensures) ∙ says (told .before .before) (told .enum-told4 .given .1)
 
 pub pack-spec : {M : Type 1} → statement M
 pack-spec =

@@ -30,10 +30,13 @@ module _ (c : tie.After-num-interactions) where
     interactions = c .num-interactions .ensures;
   }
 
+abbrev head-read : tie.After-add-names-arg2 → tie.After-num-interactions
+head-read c = c .before .before
+
 -- What the constraints name is added.
 module _ (c : tie.After-add-names) where
-  abbrev head-read : tie.After-num-interactions
-  head-read = c .before .before .before
+  abbrev head : tie.After-num-interactions
+  head = head-read (c .before)
 
   abbrev named-scratch : List ℕ
   named-scratch = c .add-names .last .1 .1 .1 .0
@@ -41,16 +44,19 @@ module _ (c : tie.After-add-names) where
   abbrev named-out : List ℕ
   named-out = c .add-names .last .1 .1 .1 .1 .0
 
-  out-kept : length named-out ≡ length (entry head-read .args .out .now)
+  out-kept : length named-out ≡ length (entry head .args .out .now)
   out-kept = c .add-names .kept .1 .1 .1 .1 .0
 
 abbrev named : tie.After-slice-known4 → tie.After-add-names
 named c = c .before .before .before .before
 
+abbrev names-added : tie.After-add-interactions-arg2 → tie.After-add-names
+names-added c = named (c .before .before)
+
 -- What the interactions name is added.
 module _ (c : tie.After-add-interactions) where
-  abbrev names-added : tie.After-add-names
-  names-added = named (c .before .before .before)
+  abbrev added : tie.After-add-names
+  added = names-added (c .before)
 
   abbrev all-scratch : List ℕ
   all-scratch = c .add-interactions .last .1 .1 .1 .0
@@ -58,18 +64,18 @@ module _ (c : tie.After-add-interactions) where
   abbrev all-out : List ℕ
   all-out = c .add-interactions .last .1 .1 .1 .1 .0
 
-  all-kept : length all-out ≡ length (entry (head-read names-added) .args .out .now)
-  all-kept = c .add-interactions .kept .1 .1 .1 .1 .0 ∙ out-kept names-added
+  all-kept : length all-out ≡ length (entry (head added) .args .out .now)
+  all-kept = c .add-interactions .kept .1 .1 .1 .1 .0 ∙ out-kept added
 
 abbrev all-named : tie.After-slice-known6 → tie.After-add-interactions
 all-named c = c .before .before .before .before
 
+abbrev all-added : tie.After-write-graph-arg2 → tie.After-add-interactions
+all-added c = all-named (c .before .before)
+
 -- The lists are written.
 abbrev written : tie.After-slice-known8 → tie.After-write-graph
 written c = c .before .before .before .before
-
-abbrev all-added : tie.After-write-graph → tie.After-add-interactions
-all-added c = all-named (c .before .before .before)
 
 constraints-at-requires : tie.Need-constraints-at-requires
 constraints-at-requires c κs = start c .pre .checked
@@ -82,27 +88,28 @@ num-interactions-requires c κs = start (c .before .before) .pre .checked
 
 add-names-requires : tie.Need-add-names-requires
 add-names-requires c κs =
-    let n = c .before .before in
+    let n = head-read c in
     (start-walking (entry n .pre), names-inside (entry n .pre) (counted n))
 
 add-add-interactions : tie.Need-add-add-interactions
 add-add-interactions c =
-    let n = head-read (named c) in
+    let n = head (named c) in
     omega (arith, counted n .located, counted n .constraints, counts-small (entry n .args .sheet .now) (entry n .pre .checked))
 
 add-interactions-requires : tie.Need-add-interactions-requires
 add-interactions-requires c κs =
-    let a = named (c .before .before) in
-    let n = head-read a in
+    let a = names-added c in
+    let n = head a in
     (walking-next (entry n .pre) (counted n) (named-scratch a) (named-out a) (a .add-names .result) (out-kept a) (a .add-names .ensures),
     all-inside (entry n .pre) (counted n))
 
 write-graph-requires : tie.Need-write-graph-requires
 write-graph-requires c κs =
-    let all = all-named (c .before .before) in
-    let a = names-added all in
-    let n = head-read a in
-    (finishing (entry n .pre) (counted n) (named-scratch a) (named-out a) (a .add-names .result) (all-scratch all) (all-out all) (all .add-interactions .result)
+    let all = all-added c in
+    let a = added all in
+    let n = head a in
+    (finishing (entry n .pre) (counted n) (named-scratch a) (named-out a) (a .add-names .result)
+    (all-scratch all) (all-out all) (all .add-interactions .result)
     (a .add-names .ensures) (all .add-interactions .ensures) (all-kept all),
     counted n .located, counted n .constraints, counted n .interactions)
 
@@ -115,8 +122,8 @@ same-length-2 c = search needs
 returns : tie.Need-returns
 returns c =
     let w = written c in
-    let all = all-added w in
-    (w .write-graph .ensures .0 ∙ ap (λ (k : ℕ). graphOut k (entry (head-read (names-added all)) .args .sheet .now)) (all-kept all),
+    let all = all-added (w .before) in
+    (w .write-graph .ensures .0 ∙ ap (λ (k : ℕ). graphOut k (entry (head (added all)) .args .sheet .now)) (all-kept all),
     w .write-graph .ensures .1)
 
 pub build-graph-spec : {M : Type 1} → statement M

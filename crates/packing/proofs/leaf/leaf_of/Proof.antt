@@ -1,6 +1,7 @@
-use borrow.Author.Needs.{needs}
+-- A kind below 1 or above 4 is refused; 1 is a variable, and the others are marks.
 use mathlib.Core.Path.{sym, ap, _∙_}
 use mathlib.Core.Bool.{Bool, _&&_}
+use borrow.Author.Needs.{needs}
 use lib.Dec.{leb}
 use borrow.Author.Tests.{le-leb, lt-leb}
 use Rattle.semantics.specs.Sheet.{recordOf}
@@ -9,6 +10,10 @@ use Rattle.packing.proofs.Laws.{kind-wrong}
 use Rattle.packing.proofs.leaf.leaf_of.Statement.{statement}
 use Rattle.packing.proofs.leaf.leaf_of.Tie as tie
 
+-- The kind is not 0.
+abbrev start : tie.Else1 → tie.Start
+start c = c .before
+
 wrong-requires : tie.Need-wrong-requires
 wrong-requires c κs = search needs
 
@@ -16,14 +21,15 @@ returns : tie.Need-returns
 returns c =
     let args = c .before .before .args in
     ap leafAnswer (c .wrong .ensures)
-    ∙ kind-wrong (args .kind) (args .a) (args .b) (args .c) (args .d) (ap (λ (t : Bool). t && leb (args .kind) 4) (lt-leb 1 (args .kind) (search needs)))
+    ∙ kind-wrong (args .kind) (args .a) (args .b) (args .c) (args .d)
+    (ap (λ (t : Bool). t && leb (args .kind) 4) (lt-leb 1 (args .kind) (search needs)))
 
 wrong-requires-2 : tie.Need-wrong-requires-2
 wrong-requires-2 c κs = search needs
 
 returns-2 : tie.Need-returns-2
 returns-2 c =
-    let args = c .before .before .before .args in
+    let args = start (c .before .before) .args in
     ap leafAnswer (c .wrong2 .ensures)
     ∙ kind-wrong (args .kind) (args .a) (args .b) (args .c) (args .d)
     (λ i. le-leb 1 (args .kind) (search needs) i && lt-leb (args .kind) 4 (c .before .if2 .taken) i)
@@ -33,8 +39,9 @@ variable-requires c κs = search needs
 
 returns-3 : tie.Need-returns-3
 returns-3 c =
-    let args = c .before .before .before .before .args in
-    c .variable .ensures ∙ (λ i. leafChecked (recordOf (sym (c .before .if3 .taken) i) (args .a) (args .b) (args .c) (args .d)))
+    let one = c .before in
+    let args = start (one .before .before) .args in
+    c .variable .ensures ∙ (λ i. leafChecked (recordOf (sym (one .if3 .taken) i) (args .a) (args .b) (args .c) (args .d)))
 
 mark-requires : tie.Need-mark-requires
 mark-requires c κs = search needs

@@ -1,3 +1,4 @@
+-- Each arm has its case of the definition.
 use borrow.Author.Needs.{needs}
 use mathlib.Core.Path.{sym, ap}
 use Rattle.packing.specs.Leaves.{refusalOf}
