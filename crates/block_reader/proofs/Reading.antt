@@ -34,60 +34,73 @@ words-snoc n bs = ap (λ (m : ℕ). wordsOf m bs) (add-one n) ∙ go n bs
         ∙ ap (λ (l : List ℕ). wordsOf n (drop 4 bs) ++ (wordAt l ∷ [])) (drop-drop (4 * n) 4 bs ∙ ap (λ (m : ℕ). drop m bs) k))
 
 -- The words of the block at `at`, of which i are written from `to` on.
-abbrev pub WordsRead : (bs o o₀ : List ℕ) (at to i : ℕ) → Type 0
-WordsRead bs o o₀ at to i = (i ≤ 127) × (length o ≡ length o₀) × (take (to + i) o ≡ take to o₀ ++ wordsOf i (drop at bs))
+pub record WordsRead (bs o o₀ : List ℕ) (at to i : ℕ) : Type 0 where
+  pub some : i ≤ 127
+  pub kept : length o ≡ length o₀
+  pub front : take (to + i) o ≡ take to o₀ ++ wordsOf i (drop at bs)
 
-module _ (bs o o₀ : List ℕ) (at to : ℕ) where
-  pub words-none : WordsRead bs o o at to 0
-  unfolding wordsOf
-  words-none = (omega arith, refl, ap (λ (k : ℕ). take k o) (add-zero to) ∙ sym (append-nil (take to o)))
+pub words-none : (bs o : List ℕ) (at to : ℕ) → WordsRead bs o o at to 0
+unfolding wordsOf
+words-none bs o at to = record {
+  some = omega arith;
+  kept = refl;
+  front = ap (λ (k : ℕ). take k o) (add-zero to) ∙ sym (append-nil (take to o));
+}
 
-  pub words-more : (i : ℕ) {w : ℕ} → i < 127 → to + 127 ≤ length o₀ → w ≡ wordAt (drop (at + 4 * i) bs) → WordsRead bs o o₀ at to i → WordsRead bs (set o (to + i) w) o₀ at to (i + 1)
-  words-more i {w} h k e r = (
-    omega arith,
-    length-set o (to + i) w ∙ r .1,
-    put-next o (to + i) (to + (i + 1)) w (omega arith) (omega arith) (r .2)
+module _ {bs o o₀ : List ℕ} {at to i : ℕ} (r : WordsRead bs o o₀ at to i) where
+  pub words-more : {w : ℕ} → i < 127 → to + 127 ≤ length o₀ → w ≡ wordAt (drop (at + 4 * i) bs) → WordsRead bs (set o (to + i) w) o₀ at to (i + 1)
+  words-more {w} h k e = record {
+    some = omega arith;
+    kept = length-set o (to + i) w ∙ r .kept;
+    front =
+        put-next o (to + i) (to + (i + 1)) w (omega arith) (omega arith) (r .front)
         ∙ append-assoc (take to o₀) (wordsOf i (drop at bs)) (w ∷ [])
         ∙ ap (λ (l : List ℕ). take to o₀ ++ l)
-        (ap (λ (x : ℕ). wordsOf i (drop at bs) ++ (x ∷ [])) (e ∙ ap wordAt (sym (drop-drop (4 * i) at bs))) ∙ sym (words-snoc i (drop at bs))),
-  )
+        (ap (λ (x : ℕ). wordsOf i (drop at bs) ++ (x ∷ [])) (e ∙ ap wordAt (sym (drop-drop (4 * i) at bs))) ∙ sym (words-snoc i (drop at bs)));
+  }
 
-  pub words-all : (i : ℕ) → 127 ≤ i → WordsRead bs o o₀ at to i → take (to + 127) o ≡ take to o₀ ++ wordsOf 127 (drop at bs)
-  words-all i h r =
+  pub words-all : 127 ≤ i → take (to + 127) o ≡ take to o₀ ++ wordsOf 127 (drop at bs)
+  words-all h =
       let e : i ≡ 127 = omega arith in
-      rw e at (r .2)
+      rw e at (r .front)
 
 -- The outcome where `front` is written and the words of `a` are to follow.
 abbrev following : (lent : ℕ) (front : List ℕ) → Answer (List ℕ) → Outcome
 following lent front a = outcome [] (lent ∷ []) (andThen a (λ (ws : List ℕ). result ((front ++ ws) ∷ []) []))
 
-follow-more : (lent : ℕ) (front us : List ℕ) (a : Answer (List ℕ)) → following lent (front ++ us) a ≡ following lent front (andThen a (λ (ws : List ℕ). good (us ++ ws)))
+follow-more : (lent : ℕ) (front us : List ℕ) (a : Answer (List ℕ))
+    → following lent (front ++ us) a ≡ following lent front (andThen a (λ (ws : List ℕ). good (us ++ ws)))
 unfolding andThen
 follow-more lent front us (good ws) = ap (λ (l : List ℕ). outcome [] (lent ∷ []) (result (l ∷ []) [])) (append-assoc front us ws)
 follow-more lent front us (refused n k) = refl
 
 -- n blocks, of which k are read.
-abbrev pub BlocksRead : (bs o o₀ : List ℕ) (n k : ℕ) → Type 0
-BlocksRead bs o o₀ n k =
-    (k ≤ n) × (length o ≡ length o₀)
-    × (following (length o₀) (take (127 * k) o) (readBlocks (n - k) k (drop (512 * k) bs)) ≡ wordsOutcome (length o₀) (readBlocks n 0 bs))
+pub record BlocksRead (bs o o₀ : List ℕ) (n k : ℕ) : Type 0 where
+  pub some : k ≤ n
+  pub kept : length o ≡ length o₀
+  pub follow : following (length o₀) (take (127 * k) o) (readBlocks (n - k) k (drop (512 * k) bs)) ≡ wordsOutcome (length o₀) (readBlocks n 0 bs)
 
-module _ (bs o o₀ : List ℕ) (n : ℕ) where
-  pub blocks-none : BlocksRead bs o o n 0
-  blocks-none = (omega arith, refl, ap (λ (m : ℕ). wordsOutcome (length o) (readBlocks m 0 bs)) (sub-zero n))
+pub blocks-none : (bs o : List ℕ) (n : ℕ) → BlocksRead bs o o n 0
+blocks-none bs o n = record {
+  some = omega arith;
+  kept = refl;
+  follow = ap (λ (m : ℕ). wordsOutcome (length o) (readBlocks m 0 bs)) (sub-zero n);
+}
 
-  module _ (k : ℕ) (h : k < n) (r : BlocksRead bs o o₀ n k) where
+module _ {bs o o₀ : List ℕ} {n k : ℕ} (r : BlocksRead bs o o₀ n k) where
+  module _ (h : k < n) where
     left : n - k ≡ suc (n - (k + 1))
     left = omega arith
 
-    pub block-bad : false ≡ blockGood (k + 1) (drop (512 * k) bs) → finished (Refused (record { number = 2; place = k })) o ≡ wordsOutcome (length o₀) (readBlocks n 0 bs)
+    pub block-bad : false ≡ blockGood (k + 1) (drop (512 * k) bs)
+        → finished (Refused (record { number = 2; place = k })) o ≡ wordsOutcome (length o₀) (readBlocks n 0 bs)
     unfolding readBlocks andThen
     block-bad g =
         let e : readBlocks (n - k) k (drop (512 * k) bs) ≡ refused 2 k =
         ap (λ (m : ℕ). readBlocks m k (drop (512 * k) bs)) left
         ∙ cond-false (blockGood (suc k) (drop (512 * k) bs)) _ _ (ap (λ (m : ℕ). blockGood m (drop (512 * k) bs)) (sym (add-one k)) ∙ sym g) in
-        refused-outcome o (r .1) (record { number = 2; place = k })
-        ∙ ap (following (length o₀) (take (127 * k) o)) (sym e) ∙ r .2
+        refused-outcome o (r .kept) (record { number = 2; place = k })
+        ∙ ap (following (length o₀) (take (127 * k) o)) (sym e) ∙ r .follow
 
     pub block-more : (o′ : List ℕ) → true ≡ blockGood (k + 1) (drop (512 * k) bs) → length o′ ≡ length o
         → take (127 * k + 127) o′ ≡ take (127 * k) o ++ wordsOf 127 (drop (512 * k) bs) → BlocksRead bs o′ o₀ n (k + 1)
@@ -102,22 +115,24 @@ module _ (bs o o₀ : List ℕ) (n : ℕ) where
         ∙ cond-true (blockGood (suc k) bs₁) _ _ (ap (λ (m : ℕ). blockGood m bs₁) (sym (add-one k)) ∙ sym g)
         ∙ (λ i. andThen (readBlocks (n - (k + 1)) (sym (add-one k) i) (sym d i)) (λ (ws : List ℕ). good (wordsOf 127 bs₁ ++ ws))) in
         let j : 127 * (k + 1) ≡ 127 * k + 127 = omega arith in
-        let q : take (127 * (k + 1)) o′ ≡ take (127 * k) o ++ wordsOf 127 bs₁ = ap (λ (m : ℕ). take m o′) j ∙ f in (
-          omega arith,
-          l ∙ r .1,
-          ap (λ (u : List ℕ). following (length o₀) u a) q
+        let q : take (127 * (k + 1)) o′ ≡ take (127 * k) o ++ wordsOf 127 bs₁ = ap (λ (m : ℕ). take m o′) j ∙ f in
+        record {
+          some = omega arith;
+          kept = l ∙ r .kept;
+          follow =
+              ap (λ (u : List ℕ). following (length o₀) u a) q
               ∙ follow-more (length o₀) (take (127 * k) o) (wordsOf 127 bs₁) a
-              ∙ ap (following (length o₀) (take (127 * k) o)) (sym e) ∙ r .2,
-        )
+              ∙ ap (following (length o₀) (take (127 * k) o)) (sym e) ∙ r .follow;
+        }
 
-  pub blocks-all : (k : ℕ) → n ≤ k → 127 * n ≤ length o₀ → BlocksRead bs o o₀ n k → finished (Words (127 * n)) o ≡ wordsOutcome (length o₀) (readBlocks n 0 bs)
+  pub blocks-all : n ≤ k → 127 * n ≤ length o₀ → finished (Words (127 * n)) o ≡ wordsOutcome (length o₀) (readBlocks n 0 bs)
   unfolding readBlocks andThen
-  blocks-all k h l r =
+  blocks-all h l =
       let e : k ≡ n = omega arith in
       let z : n - k ≡ 0 = omega arith in
       let w : take (127 * n) o ≡ take (127 * k) o ++ [] = ap (λ (m : ℕ). take (127 * m) o) (sym e) ∙ sym (append-nil (take (127 * k) o)) in
-      words-outcome o (r .1) (127 * n) w (sym (length-take-le (127 * n) o (omega (arith, r .1))) ∙ ap length w)
-      ∙ ap (λ (m : ℕ). following (length o₀) (take (127 * k) o) (readBlocks m k (drop (512 * k) bs))) (sym z) ∙ r .2
+      words-outcome o (r .kept) (127 * n) w (sym (length-take-le (127 * n) o (omega (arith, r .kept))) ∙ ap length w)
+      ∙ ap (λ (m : ℕ). following (length o₀) (take (127 * k) o) (readBlocks m k (drop (512 * k) bs))) (sym z) ∙ r .follow
 
 or-false : (s t : Bool) → s || t ≡ false → t ≡ false
 or-false true t e = absurd (true≢false e)
@@ -139,13 +154,15 @@ module _ (bs o : List ℕ) {lent : ℕ} (l : length o ≡ lent) where
   length-bad b = refused-outcome o l _ ∙ ap (outcome [] (lent ∷ [])) (sym (cond-true (badLength (length bs)) _ _ (sym b)))
 
   module _ (b : false ≡ badLength (length bs)) where
-    pub output-short : lent < 127 * (length bs / 512) → finished (Refused (record { number = 15; place = 127 * (length bs / 512) })) o ≡ readerCall bs lent
+    pub output-short : lent < 127 * (length bs / 512)
+        → finished (Refused (record { number = 15; place = 127 * (length bs / 512) })) o ≡ readerCall bs lent
     unfolding readerCall
     output-short h =
         refused-outcome o l _
         ∙ ap (outcome [] (lent ∷ [])) (needs-short 15 _ lent reads h ∙ sym (cond-false (badLength (length bs)) _ _ (sym b)))
 
-    pub blocks-read : (r : Written) → 127 * (length bs / 512) ≤ lent → finished r o ≡ wordsOutcome lent (readBlocks (length bs / 512) 0 bs) → finished r o ≡ readerCall bs lent
+    pub blocks-read : (r : Written) → 127 * (length bs / 512) ≤ lent → finished r o ≡ wordsOutcome lent (readBlocks (length bs / 512) 0 bs)
+        → finished r o ≡ readerCall bs lent
     unfolding readerCall
     blocks-read r h e =
         e ∙ ap (outcome [] (lent ∷ [])) (sym (needs-met 15 _ lent reads h) ∙ sym (cond-false (badLength (length bs)) _ _ (sym b)))

@@ -1,3 +1,4 @@
+-- Each branch decides one test of the definition.
 use borrow.Author.Tests.{eq-eqb, ne-eqb}
 use Rattle.semantics.specs.Block.{badLength}
 use Rattle.block_reader.proofs.bad_length.Statement.{statement}

@@ -1,3 +1,4 @@
+-- Word by word. Kept: the words read so far stand behind those that stood before, and the output keeps its length.
 use Prim.Native.Nat.{_-_}
 use borrow.Author.Needs.{needs}
 use Rattle.block_reader.proofs.Reading.{WordsRead, words-none, words-more, words-all}
@@ -10,8 +11,11 @@ Inv-loop bytes at out₀ to i₀ out i = WordsRead bytes out out₀ at to i
 abbrev μ-loop : tie.MeasureT-loop
 μ-loop bytes at out₀ to i₀ out i = 127 - i
 
+abbrev turn : tie.After-word-at Inv-loop μ-loop → tie.At-loop Inv-loop μ-loop
+turn c = c .before .before
+
 loop-holds : tie.Need-loop-holds Inv-loop μ-loop
-loop-holds c = words-none (c .before .before .args .bytes .now) (c .before .before .args .out .now) (c .before .before .args .out .now) (c .before .before .args .at) (c .before .before .args .to)
+loop-holds c = let a = c .before .before .args in words-none (a .bytes .now) (a .out .now) (a .at) (a .to)
 
 mul-word-at : tie.Need-mul-word-at Inv-loop μ-loop
 mul-word-at c = search needs
@@ -38,19 +42,13 @@ loop-less : tie.Need-loop-less Inv-loop μ-loop
 loop-less c = search needs
 
 loop-again : tie.Need-loop-again Inv-loop μ-loop
-loop-again c =
-    let args = c .before .before .before .before .before .args in
-    let loop = c .before .before .loop in
-    words-more (args .bytes .now) (loop .out) (args .out .now) (args .at) (args .to) (loop .i) (search needs) (search needs) (c .word-at .ensures) (loop .inv)
+loop-again c = words-more (turn c .loop .inv) (search needs) (search needs) (c .word-at .ensures)
 
 same-length : tie.Need-same-length Inv-loop μ-loop
 same-length c = search needs
 
 returns : tie.Need-returns Inv-loop μ-loop
-returns c =
-    let args = c .before .before .before .before .args in
-    let loop = c .before .loop in
-    words-all (args .bytes .now) (loop .out) (args .out .now) (args .at) (args .to) (loop .i) (search needs) (loop .inv)
+returns c = words-all (c .before .loop .inv) (search needs)
 
 pub read-block-spec : {M : Type 1} → statement M
 read-block-spec =

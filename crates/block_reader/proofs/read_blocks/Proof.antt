@@ -1,9 +1,13 @@
+-- The blocks are read, and what was not written is zeroed.
 use mathlib.Core.Path.{_∙_}
 use borrow.Author.Needs.{needs}
 use Rattle.semantics.specs.Call.{result}
 use Rattle.answers.proofs.Outcomes.{finish}
 use Rattle.block_reader.proofs.read_blocks.Statement.{statement}
 use Rattle.block_reader.proofs.read_blocks.Tie as tie
+
+abbrev all-read : tie.After-count-of → tie.After-read-all
+all-read c = c .before .before .before .before
 
 read-all-requires : tie.Need-read-all-requires
 read-all-requires c κs = search needs
@@ -19,8 +23,9 @@ same-length c = search needs
 
 returns : tie.Need-returns
 returns c =
-    let read = c .before .before .before .before .before .before .before .read-all in
-    finish (read .result) (read .last .1 .0) (c .before .before .before .count-of .ensures) (c .before .before .zero-from .ensures) ∙ read .ensures
+    let zeroed = c .before .before in
+    let read = all-read (zeroed .before) .read-all in
+    finish (read .result) (read .last .1 .0) (zeroed .before .count-of .ensures) (zeroed .zero-from .ensures) ∙ read .ensures
 
 pub read-blocks-spec : {M : Type 1} → statement M
 read-blocks-spec =

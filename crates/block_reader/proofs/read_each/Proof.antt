@@ -1,3 +1,4 @@
+-- Block by block, until one lacks its check word. Kept: what follows the words read so far gives the outcome of all.
 use mathlib.Core.Path.{sym, _∙_}
 use Prim.Native.Nat.{_-_}
 use borrow.Author.Needs.{needs}
@@ -12,8 +13,15 @@ Inv-loop bytes blocks out₀ k₀ out k = BlocksRead bytes out out₀ blocks k
 abbrev μ-loop : tie.MeasureT-loop
 μ-loop bytes blocks out₀ k₀ out k = blocks - k
 
+-- A block is judged; it is good, and read.
+abbrev turn : tie.After-block-good Inv-loop μ-loop → tie.At-loop Inv-loop μ-loop
+turn c = c .before .before
+
+abbrev good : tie.After-read-block Inv-loop μ-loop → tie.Else1 Inv-loop μ-loop
+good c = c .before .before
+
 loop-holds : tie.Need-loop-holds Inv-loop μ-loop
-loop-holds c = blocks-none (c .before .before .args .bytes .now) (c .before .before .args .out .now) (c .before .before .args .out .now) (c .before .before .args .blocks)
+loop-holds c = let a = c .before .before .args in blocks-none (a .bytes .now) (a .out .now) (a .blocks)
 
 mul-at : tie.Need-mul-at Inv-loop μ-loop
 mul-at c = search needs
@@ -32,9 +40,8 @@ same-length c = search needs
 
 returns : tie.Need-returns Inv-loop μ-loop
 returns c =
-    let args = c .before .before .before .before .before .before .args in
-    let loop = c .before .before .before .loop in
-    block-bad (args .bytes .now) (loop .out) (args .out .now) (args .blocks) (loop .k) (search needs) (loop .inv) (sym (not-true _ (c .if1 .taken)) ∙ c .before .block-good .ensures)
+    let judged = c .before in
+    block-bad (turn judged .loop .inv) (search needs) (sym (not-true _ (c .if1 .taken)) ∙ judged .block-good .ensures)
 
 mul-read-block : tie.Need-mul-read-block Inv-loop μ-loop
 mul-read-block c = search needs
@@ -50,11 +57,11 @@ loop-less c = search needs
 
 loop-again : tie.Need-loop-again Inv-loop μ-loop
 loop-again c =
-    let args = c .before .before .before .before .before .before .before .before .before .before .args in
-    let loop = c .before .before .before .before .before .before .before .loop in
-    let read = c .before .before .read-block in
-    block-more (args .bytes .now) (loop .out) (args .out .now) (args .blocks) (loop .k) (search needs) (loop .inv) (read .last .1 .1 .0)
-    (sym (not-false _ (c .before .before .before .before .if1 .left)) ∙ c .before .before .before .before .before .block-good .ensures) (read .kept .1 .1 .0) (read .ensures)
+    let r = c .before .before in
+    let read = r .read-block in
+    let judged = good r .before in
+    block-more (turn judged .loop .inv) (search needs) (read .last .1 .1 .0)
+    (sym (not-false _ (good r .if1 .left)) ∙ judged .block-good .ensures) (read .kept .1 .1 .0) (read .ensures)
 
 mul-t15 : tie.Need-mul-t15 Inv-loop μ-loop
 mul-t15 c = search needs
@@ -63,10 +70,7 @@ same-length-2 : tie.Need-same-length-2 Inv-loop μ-loop
 same-length-2 c = search needs
 
 returns-2 : tie.Need-returns-2 Inv-loop μ-loop
-returns-2 c =
-    let args = c .before .before .before .before .args in
-    let loop = c .before .loop in
-    blocks-all (args .bytes .now) (loop .out) (args .out .now) (args .blocks) (loop .k) (search needs) (search needs) (loop .inv)
+returns-2 c = blocks-all (c .before .loop .inv) (search needs) (search needs)
 
 pub read-each-spec : {M : Type 1} → statement M
 read-each-spec =
