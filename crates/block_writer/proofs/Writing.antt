@@ -54,48 +54,53 @@ first-snoc n ws =
     (first-one (drop n ws) ∙ ap (λ (x : ℕ). x ∷ []) (getD-drop n ws 0 0 ∙ ap (λ (k : ℕ). getD ws k 0) (add-zero n)))
 
 -- The words from `from` on, of which i are written from `at` on.
-abbrev pub WordsPut : (ws o o₀ : List ℕ) (from at i : ℕ) → Type 0
-WordsPut ws o o₀ from at i =
-    (i ≤ 127) × (length o ≡ length o₀)
-    × (take (at + 4 * i) o ≡ take at o₀ ++ flatMap wordBytes (firstWords i (drop from ws))) × Words (firstWords i (drop from ws))
+pub record WordsPut (ws o o₀ : List ℕ) (from at i : ℕ) : Type 0 where
+  pub some : i ≤ 127
+  pub kept : length o ≡ length o₀
+  pub front : take (at + 4 * i) o ≡ take at o₀ ++ flatMap wordBytes (firstWords i (drop from ws))
+  pub words : Words (firstWords i (drop from ws))
 
-module _ (ws o o₀ : List ℕ) (from at : ℕ) where
-  pub put-none : WordsPut ws o o from at 0
-  unfolding firstWords flatMap
-  put-none =
-      let m : 0 - length (drop from ws) ≡ 0 = omega arith in
-      let z : firstWords 0 (drop from ws) ≡ [] = ap (λ (k : ℕ). replicate k 0) m in (
-        omega arith,
-        refl,
-        ap (λ (k : ℕ). take k o) (add-zero at) ∙ sym (append-nil (take at o)) ∙ ap (λ (u : List ℕ). take at o ++ flatMap wordBytes u) (sym z),
-        subst Words (sym z) tt,
-      )
+pub put-none : (ws o : List ℕ) (from at : ℕ) → WordsPut ws o o from at 0
+unfolding firstWords flatMap
+put-none ws o from at =
+    let m : 0 - length (drop from ws) ≡ 0 = omega arith in
+    let z : firstWords 0 (drop from ws) ≡ [] = ap (λ (k : ℕ). replicate k 0) m in
+    record {
+      some = omega arith;
+      kept = refl;
+      front =
+          ap (λ (k : ℕ). take k o) (add-zero at) ∙ sym (append-nil (take at o)) ∙ ap (λ (u : List ℕ). take at o ++ flatMap wordBytes u) (sym z);
+      words = subst Words (sym z) tt;
+    }
 
-  pub put-more : (i : ℕ) (o′ : List ℕ) {w : ℕ} → i < 127 → w ≡ getD ws (from + i) 0 → w < 4294967296 → length o′ ≡ length o
-      → take (at + 4 * i + 4) o′ ≡ take (at + 4 * i) o ++ wordBytes w → WordsPut ws o o₀ from at i → WordsPut ws o′ o₀ from at (i + 1)
+module _ {ws o o₀ : List ℕ} {from at i : ℕ} (r : WordsPut ws o o₀ from at i) where
+  pub put-more : (o′ : List ℕ) {w : ℕ} → i < 127 → w ≡ getD ws (from + i) 0 → w < 4294967296 → length o′ ≡ length o
+      → take (at + 4 * i + 4) o′ ≡ take (at + 4 * i) o ++ wordBytes w → WordsPut ws o′ o₀ from at (i + 1)
   unfolding flatMap
-  put-more i o′ {w} h e b l f r =
+  put-more o′ {w} h e b l f =
       let us : List ℕ = firstWords i (drop from ws) in
       let j : at + 4 * (i + 1) ≡ at + 4 * i + 4 = omega arith in
       let s : firstWords (i + 1) (drop from ws) ≡ us ++ (w ∷ []) =
-      first-snoc i (drop from ws) ∙ ap (λ (x : ℕ). us ++ (x ∷ [])) (getD-drop from ws i 0 ∙ sym e) in (
-        omega arith,
-        l ∙ r .1,
-        ap (λ (m : ℕ). take m o′) j ∙ f ∙ ap (λ (u : List ℕ). u ++ wordBytes w) (r .2)
+      first-snoc i (drop from ws) ∙ ap (λ (x : ℕ). us ++ (x ∷ [])) (getD-drop from ws i 0 ∙ sym e) in
+      record {
+        some = omega arith;
+        kept = l ∙ r .kept;
+        front =
+            ap (λ (m : ℕ). take m o′) j ∙ f ∙ ap (λ (u : List ℕ). u ++ wordBytes w) (r .front)
             ∙ append-assoc (take at o₀) (flatMap wordBytes us) (wordBytes w)
             ∙ ap (λ (u : List ℕ). take at o₀ ++ (flatMap wordBytes us ++ u)) (sym (append-nil (wordBytes w)))
-            ∙ ap (λ (u : List ℕ). take at o₀ ++ u) (sym (flat-append wordBytes us (w ∷ [])) ∙ ap (flatMap wordBytes) (sym s)),
-        subst Words (sym s) (words-append us (w ∷ []) (r .3) (b, tt)),
-      )
+            ∙ ap (λ (u : List ℕ). take at o₀ ++ u) (sym (flat-append wordBytes us (w ∷ [])) ∙ ap (flatMap wordBytes) (sym s));
+        words = subst Words (sym s) (words-append us (w ∷ []) (r .words) (b, tt));
+      }
 
   -- All are written, and read back they are the same.
-  pub put-all : (i : ℕ) → 127 ≤ i → at + 508 ≤ length o₀ → WordsPut ws o o₀ from at i
+  pub put-all : 127 ≤ i → at + 508 ≤ length o₀
       → (take (at + 508) o ≡ take at o₀ ++ flatMap wordBytes (firstWords 127 (drop from ws))) × (wordsOf 127 (drop at o) ≡ firstWords 127 (drop from ws))
-  put-all i h l r =
+  put-all h l =
       let e : i ≡ 127 = omega arith in
       let us : List ℕ = firstWords 127 (drop from ws) in
-      let f : take (at + 508) o ≡ take at o₀ ++ flatMap wordBytes us = rw e at (r .2) in
-      let w : Words us = rw e at (r .3) in
+      let f : take (at + 508) o ≡ take at o₀ ++ flatMap wordBytes us = rw e at (r .front) in
+      let w : Words us = rw e at (r .words) in
       let D : List ℕ = drop (at + 508) o in
       let d : drop at o ≡ flatMap wordBytes us ++ D =
       ap (drop at) (sym (take-append-drop (at + 508) o) ∙ ap (λ (u : List ℕ). u ++ D) f ∙ append-assoc (take at o₀) (flatMap wordBytes us) D)
@@ -113,37 +118,41 @@ module _ (ws o o₁ o₂ : List ℕ) (at number : ℕ) where
       ap (λ (m : ℕ). take m o₂) j ∙ g ∙ (λ i. f i ++ wordBytes ((e ∙ ap (checkWord number) b) i)) ∙ append-assoc (take at o) (flatMap wordBytes ws) _
 
 -- n blocks, of which k are written.
-abbrev pub BlocksPut : (ws o o₀ : List ℕ) (n k : ℕ) → Type 0
-BlocksPut ws o o₀ n k = (k ≤ n) × (length o ≡ length o₀) × (take (512 * k) o ++ writeBlocks (n - k) k (drop (127 * k) ws) ≡ writeBlocks n 0 ws)
+pub record BlocksPut (ws o o₀ : List ℕ) (n k : ℕ) : Type 0 where
+  pub some : k ≤ n
+  pub kept : length o ≡ length o₀
+  pub follow : take (512 * k) o ++ writeBlocks (n - k) k (drop (127 * k) ws) ≡ writeBlocks n 0 ws
 
-module _ (ws o o₀ : List ℕ) (n : ℕ) where
-  pub none-put : BlocksPut ws o o n 0
-  none-put = (omega arith, refl, ap (λ (m : ℕ). writeBlocks m 0 ws) (sub-zero n))
+pub none-put : (ws o : List ℕ) (n : ℕ) → BlocksPut ws o o n 0
+none-put ws o n = record { some = omega arith; kept = refl; follow = ap (λ (m : ℕ). writeBlocks m 0 ws) (sub-zero n) }
 
-  pub one-put : (k : ℕ) (o′ : List ℕ) → k < n → length o′ ≡ length o
-      → take (512 * k + 512) o′ ≡ take (512 * k) o ++ blockBytes (k + 1) (firstWords 127 (drop (127 * k) ws)) → BlocksPut ws o o₀ n k → BlocksPut ws o′ o₀ n (k + 1)
+module _ {ws o o₀ : List ℕ} {n k : ℕ} (r : BlocksPut ws o o₀ n k) where
+  pub one-put : (o′ : List ℕ) → k < n → length o′ ≡ length o
+      → take (512 * k + 512) o′ ≡ take (512 * k) o ++ blockBytes (k + 1) (firstWords 127 (drop (127 * k) ws)) → BlocksPut ws o′ o₀ n (k + 1)
   unfolding writeBlocks
-  one-put k o′ h l f r =
+  one-put o′ h l f =
       let us : List ℕ = drop (127 * k) ws in
       let left : n - k ≡ suc (n - (k + 1)) = omega arith in
       let i : 127 * (k + 1) ≡ 127 * k + 127 = omega arith in
       let j : 512 * (k + 1) ≡ 512 * k + 512 = omega arith in
-      let d : drop (127 * (k + 1)) ws ≡ drop 127 us = ap (λ (m : ℕ). drop m ws) i ∙ sym (drop-drop 127 (127 * k) ws) in (
-        omega arith,
-        l ∙ r .1,
-        ap (λ (u : List ℕ). u ++ writeBlocks (n - (k + 1)) (k + 1) (drop (127 * (k + 1)) ws)) (ap (λ (m : ℕ). take m o′) j ∙ f)
+      let d : drop (127 * (k + 1)) ws ≡ drop 127 us = ap (λ (m : ℕ). drop m ws) i ∙ sym (drop-drop 127 (127 * k) ws) in
+      record {
+        some = omega arith;
+        kept = l ∙ r .kept;
+        follow =
+            ap (λ (u : List ℕ). u ++ writeBlocks (n - (k + 1)) (k + 1) (drop (127 * (k + 1)) ws)) (ap (λ (m : ℕ). take m o′) j ∙ f)
             ∙ append-assoc (take (512 * k) o) _ _
             ∙ (λ x. take (512 * k) o ++ (blockBytes (add-one k x) (firstWords 127 us) ++ writeBlocks (n - (k + 1)) (add-one k x) (d x)))
-            ∙ ap (λ (m : ℕ). take (512 * k) o ++ writeBlocks m k us) (sym left) ∙ r .2,
-      )
+            ∙ ap (λ (m : ℕ). take (512 * k) o ++ writeBlocks m k us) (sym left) ∙ r .follow;
+      }
 
-  pub all-put : (k : ℕ) → n ≤ k → BlocksPut ws o o₀ n k → take (512 * n) o ≡ writeBlocks n 0 ws
+  pub all-put : n ≤ k → take (512 * n) o ≡ writeBlocks n 0 ws
   unfolding writeBlocks
-  all-put k h r =
+  all-put h =
       let e : k ≡ n = omega arith in
       let z : n - k ≡ 0 = omega arith in
       ap (λ (m : ℕ). take (512 * m) o) (sym e) ∙ sym (append-nil (take (512 * k) o))
-      ∙ ap (λ (m : ℕ). take (512 * k) o ++ writeBlocks m k (drop (127 * k) ws)) (sym z) ∙ r .2
+      ∙ ap (λ (m : ℕ). take (512 * k) o ++ writeBlocks m k (drop (127 * k) ws)) (sym z) ∙ r .follow
 
 -- The blocks of a sheet that was found.
 abbrev pub sheetBytes : Sheet → ℕ

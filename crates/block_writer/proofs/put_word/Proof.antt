@@ -1,3 +1,4 @@
+-- Four bytes are written, one behind the other; the output keeps its length.
 use native.Mathlib.Omega.{arith}
 use borrow.Author.Needs.{needs}
 use lib.ListN.{length-set}

@@ -1,3 +1,4 @@
+-- Word by word. Kept: the words put so far stand as bytes behind what stood before, and the output keeps its length.
 use Prim.Native.Nat.{_-_}
 use borrow.Author.Needs.{needs}
 use Rattle.block_writer.proofs.Writing.{WordsPut, put-none, put-more, put-all}
@@ -10,8 +11,15 @@ Inv-loop s from out₀ at i₀ out i = WordsPut s out out₀ from at i
 abbrev μ-loop : tie.MeasureT-loop
 μ-loop s from out₀ at i₀ out i = 127 - i
 
+-- A word is read, and put.
+abbrev turn : tie.After-word-or-zero Inv-loop μ-loop → tie.At-loop Inv-loop μ-loop
+turn c = c .before .before
+
+abbrev word-read : tie.After-put-word Inv-loop μ-loop → tie.After-word-or-zero Inv-loop μ-loop
+word-read c = c .before .before
+
 loop-holds : tie.Need-loop-holds Inv-loop μ-loop
-loop-holds c = put-none (c .before .before .args .s .now) (c .before .before .args .out .now) (c .before .before .args .out .now) (c .before .before .args .from) (c .before .before .args .at)
+loop-holds c = let a = c .before .before .args in put-none (a .s .now) (a .out .now) (a .from) (a .at)
 
 add-word-or-zero : tie.Need-add-word-or-zero Inv-loop μ-loop
 add-word-or-zero c = search needs
@@ -36,21 +44,16 @@ loop-less c = search needs
 
 loop-again : tie.Need-loop-again Inv-loop μ-loop
 loop-again c =
-    let args = c .before .before .before .before .before .before .before .before .before .args in
-    let loop = c .before .before .before .before .before .before .loop in
-    let put = c .before .before .put-word in
-    let word = c .before .before .before .before .word-or-zero in
-    put-more (args .s .now) (loop .out) (args .out .now) (args .from) (args .at) (loop .i) (put .last .1 .0) (search needs)
-    (word .ensures .0) (word .ensures .1) (put .kept .1 .0) (put .ensures) (loop .inv)
+    let p = c .before .before in
+    let put = p .put-word in
+    let word = word-read p .word-or-zero in
+    put-more (turn (word-read p) .loop .inv) (put .last .1 .0) (search needs) (word .ensures .0) (word .ensures .1) (put .kept .1 .0) (put .ensures)
 
 same-length : tie.Need-same-length Inv-loop μ-loop
 same-length c = search needs
 
 returns : tie.Need-returns Inv-loop μ-loop
-returns c =
-    let args = c .before .before .before .before .args in
-    let loop = c .before .loop in
-    put-all (args .s .now) (loop .out) (args .out .now) (args .from) (args .at) (loop .i) (search needs) (search needs) (loop .inv)
+returns c = put-all (c .before .loop .inv) (search needs) (search needs)
 
 pub put-words-spec : {M : Type 1} → statement M
 put-words-spec =

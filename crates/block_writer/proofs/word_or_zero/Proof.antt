@@ -1,3 +1,4 @@
+-- Past the end the default is 0; inside, the word is a word.
 use mathlib.Core.Path.{refl, sym}
 use native.Mathlib.Omega.{arith}
 use borrow.Author.Needs.{needs}

@@ -16,14 +16,24 @@ use Rattle.block_writer.proofs.write_all.Statement.{statement}
 use Rattle.block_writer.proofs.write_all.Tie as tie
 
 -- The words, and the sheet that the check found.
+abbrev start : tie.After-check-sheet → tie.Start
+start c = c .before .before .before
+
+abbrev checked : tie.After-known-told → tie.After-check-sheet
+checked c = c .before .before .before
+
 abbrev entry : tie.After-known-told → tie.Start
-entry c = c .before .before .before .before .before .before
+entry c = start (checked c)
 
 abbrev words : tie.After-known-told → List ℕ
 words c = entry c .args .s .now
 
 sheet : (c : tie.After-known-told) → (t : Sheet) × (check prime (words c) ≡ good t) × (c .before .checked .given .0 .0 ≡ headOf t)
-sheet c = found prime (words c) (c .before .before .before .check-sheet .ensures) (c .before .checked .given .1)
+sheet c = found prime (words c) (checked c .check-sheet .ensures) (c .before .checked .given .1)
+
+-- Where the output has room for them, the blocks are written.
+abbrev room : tie.After-write-each-arg2 → tie.Else1
+room c = c .before .before
 
 check-sheet-requires : tie.Need-check-sheet-requires
 check-sheet-requires c κs = search needs
@@ -40,9 +50,11 @@ refusal-of-requires c κs = search needs
 returns : tie.Need-returns
 unfolding writerCall
 returns c =
-    let checked = c .before .before .before in
-    let a = checked .before .before .before .args in
-    sheet-refused prime (a .s .now) sheetBytes sheetBlocks (a .out .now) refl (checked .check-sheet .ensures) (c .before .enum-told .given .1) (c .refusal-of .ensures)
+    let told = c .before in
+    let refused = told .before .before in
+    let a = start refused .args in
+    sheet-refused prime (a .s .now) sheetBytes sheetBlocks (a .out .now) refl (refused .check-sheet .ensures) (told .enum-told .given .1)
+    (c .refusal-of .ensures)
 
 add-blocks : tie.Need-add-blocks
 add-blocks c = omega (arith, words-few prime (words c) (sheet c .1) (sheet c .2))
@@ -64,7 +76,7 @@ slice-aggregate-write-each c =
 
 write-each-requires : tie.Need-write-each-requires
 write-each-requires c κs =
-    let k = c .before .before .before in
+    let k = room c .before in
     (omega (arith, words-few prime (words k) (sheet k .1) (sheet k .2)), search needs)
 
 same-length : tie.Need-same-length
@@ -73,12 +85,13 @@ same-length c = search needs
 returns-3 : tie.Need-returns-3
 unfolding writerCall
 returns-3 c =
-    let long-enough = c .before .before .before .before .before in
-    let k = long-enough .before in
+    let written = c .before .before in
+    let write = written .write-each in
+    let r = room (written .before) in
+    let k = r .before in
     let w = words k in
     let t = sheet k in
-    let write = c .before .before .write-each in
-    sheet-written prime w sheetBytes sheetBlocks (write .last .1 .1 .0) (write .kept .1 .1 .0) (t .1) (bytes-are prime w (t .1) (t .2)) (long-enough .if1 .left)
+    sheet-written prime w sheetBytes sheetBlocks (write .last .1 .1 .0) (write .kept .1 .1 .0) (t .1) (bytes-are prime w (t .1) (t .2)) (r .if1 .left)
     (write .ensures ∙ made-are prime w (t .1) (t .2)) (made-length prime w (t .1) (t .2))
 
 pub write-all-spec : {M : Type 1} → statement M

@@ -1,3 +1,4 @@
+-- The words are put, the check word is computed from them where they stand, and put behind them.
 use Prim.Native.Nat.{_+_, _*_}
 use borrow.Author.Needs.{needs}
 use lib.ListN.{drop}
@@ -5,6 +6,15 @@ use Rattle.semantics.specs.Block.{firstWords}
 use Rattle.block_writer.proofs.Writing.{block-put}
 use Rattle.block_writer.proofs.write_block.Statement.{statement}
 use Rattle.block_writer.proofs.write_block.Tie as tie
+
+abbrev start : tie.After-put-words → tie.Start
+start c = c .before .before .before .before
+
+abbrev words-put : tie.After-check-word → tie.After-put-words
+words-put c = c .before .before .before .before
+
+abbrev check-known : tie.After-put-word → tie.After-check-word
+check-known c = c .before .before
 
 mul-at : tie.Need-mul-at
 mul-at c = search needs
@@ -35,11 +45,13 @@ same-length c = search needs
 
 returns : tie.Need-returns
 returns c =
-    let args = c .before .before .before .before .before .before .before .before .before .before .before .before .args in
-    let words = c .before .before .before .before .before .before .before .before .put-words in
-    let put = c .before .before .put-word in
+    let p = c .before .before in
+    let put = p .put-word in
+    let check = check-known p in
+    let words = words-put check .put-words in
+    let args = start (words-put check) .args in
     block-put (firstWords 127 (drop (127 * args .k) (args .s .now))) (args .out .now) (words .last .1 .1 .0) (put .last .1 .0) (512 * args .k) (args .k + 1)
-    (words .ensures .0) (words .ensures .1) (c .before .before .before .before .check-word .ensures) (put .ensures)
+    (words .ensures .0) (words .ensures .1) (check .check-word .ensures) (put .ensures)
 
 pub write-block-spec : {M : Type 1} → statement M
 write-block-spec =

@@ -1,3 +1,4 @@
+-- Block by block. Kept: the blocks written so far, and those that are left, are all of them; the output keeps its length.
 use Prim.Native.Nat.{_-_}
 use borrow.Author.Needs.{needs}
 use Rattle.block_writer.proofs.Writing.{BlocksPut, none-put, one-put, all-put}
@@ -10,8 +11,11 @@ Inv-loop s blocks out₀ k₀ out k = BlocksPut s out out₀ blocks k
 abbrev μ-loop : tie.MeasureT-loop
 μ-loop s blocks out₀ k₀ out k = blocks - k
 
+abbrev turn : tie.After-write-block Inv-loop μ-loop → tie.At-loop Inv-loop μ-loop
+turn c = c .before .before .before
+
 loop-holds : tie.Need-loop-holds Inv-loop μ-loop
-loop-holds c = none-put (c .before .before .args .s .now) (c .before .before .args .out .now) (c .before .before .args .out .now) (c .before .before .args .blocks)
+loop-holds c = let a = c .before .before .args in none-put (a .s .now) (a .out .now) (a .blocks)
 
 write-block-requires : tie.Need-write-block-requires Inv-loop μ-loop
 write-block-requires c κs = search needs
@@ -24,19 +28,15 @@ loop-less c = search needs
 
 loop-again : tie.Need-loop-again Inv-loop μ-loop
 loop-again c =
-    let args = c .before .before .before .before .before .before .before .before .args in
-    let loop = c .before .before .before .before .before .loop in
-    let write = c .before .before .write-block in
-    one-put (args .s .now) (loop .out) (args .out .now) (args .blocks) (loop .k) (write .last .1 .1 .0) (search needs) (write .kept .1 .1 .0) (write .ensures) (loop .inv)
+    let w = c .before .before in
+    let write = w .write-block in
+    one-put (turn w .loop .inv) (write .last .1 .1 .0) (search needs) (write .kept .1 .1 .0) (write .ensures)
 
 same-length : tie.Need-same-length Inv-loop μ-loop
 same-length c = search needs
 
 returns : tie.Need-returns Inv-loop μ-loop
-returns c =
-    let args = c .before .before .before .before .args in
-    let loop = c .before .loop in
-    all-put (args .s .now) (loop .out) (args .out .now) (args .blocks) (loop .k) (search needs) (loop .inv)
+returns c = all-put (c .before .loop .inv) (search needs)
 
 pub write-each-spec : {M : Type 1} → statement M
 write-each-spec =
