@@ -24,11 +24,12 @@ abbrev left : List ℕ → (n i : ℕ) → ℕ
 left ws n i = largest (readRecords (n - i) (drop (4 + 5 * i) ws))
 
 -- The larger of `most` and of what is left is the largest of all.
-abbrev pub Largest : List ℕ → (n i most : ℕ) → Type 0
-Largest ws n i most = (i ≤ n) × (max most (left ws n i) ≡ largest (readRecords n (drop 4 ws)))
+pub record Largest (ws : List ℕ) (n i most : ℕ) : Type 0 where
+  pub some : i ≤ n
+  pub larger : max most (left ws n i) ≡ largest (readRecords n (drop 4 ws))
 
 pub largest-none : (ws : List ℕ) (n : ℕ) → Largest ws n 0 0
-largest-none ws n = (omega arith, omega (arith, ap (λ (m : ℕ). largest (readRecords m (drop 4 ws))) (sub-zero n)))
+largest-none ws n = record { some = omega arith; larger = omega (arith, ap (λ (m : ℕ). largest (readRecords m (drop 4 ws))) (sub-zero n)) }
 
 next : (ws : List ℕ) (n i : ℕ) → i < n → left ws n i ≡ max (cond (eqb (nodeIn ws i .kind) 1) (nodeIn ws i .c) 0) (left ws n (i + 1))
 unfolding largest readRecords readRecord rotation
@@ -37,16 +38,16 @@ next ws n i h =
     let k : 4 + 5 * i + 5 ≡ 4 + 5 * (i + 1) = omega arith in
     rw (m, drop-drop 5 (4 + 5 * i) ws, k, getD-drop (4 + 5 * i) ws 0 0, getD-drop (4 + 5 * i) ws 3 0, add-zero)
 
-pub largest-more : (ws : List ℕ) (n i most : ℕ) {x y : ℕ} → i < n → y ≡ cond (eqb (nodeIn ws i .kind) 1) (nodeIn ws i .c) 0 → x ≡ max most y
-    → Largest ws n i most → Largest ws n (i + 1) x
-largest-more ws n i most h e f g = (omega arith, omega (arith, next ws n i h, g .1))
+module _ {ws : List ℕ} {n i most : ℕ} (l : Largest ws n i most) where
+  pub largest-more : {x y : ℕ} → i < n → y ≡ cond (eqb (nodeIn ws i .kind) 1) (nodeIn ws i .c) 0 → x ≡ max most y → Largest ws n (i + 1) x
+  largest-more h e f = record { some = omega arith; larger = omega (arith, next ws n i h, l .larger) }
 
-pub largest-all : (ws : List ℕ) (n i most : ℕ) → n ≤ i → Largest ws n i most → most ≡ largest (readRecords n (drop 4 ws))
-unfolding largest readRecords
-largest-all ws n i most h g =
-    let z : n - i ≡ 0 = omega arith in
-    let none : left ws n i ≡ 0 = rw z in
-    omega (arith, g .1)
+  pub largest-all : n ≤ i → most ≡ largest (readRecords n (drop 4 ws))
+  unfolding largest readRecords
+  largest-all h =
+      let z : n - i ≡ 0 = omega arith in
+      let none : left ws n i ≡ 0 = rw z in
+      omega (arith, l .larger)
 
 -- The records of a checked sheet stand behind its head.
 module _ (p : ℕ) (ws : List ℕ) {t : Sheet} (e : check p ws ≡ good t) {h : Head} (q : h ≡ headOf t) where

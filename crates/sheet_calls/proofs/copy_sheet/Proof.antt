@@ -18,17 +18,27 @@ use Rattle.sheet_calls.proofs.copy_sheet.Statement.{statement}
 use Rattle.sheet_calls.proofs.copy_sheet.Tie as tie
 
 -- The words, the output, and the sheet that the check found.
+abbrev start : tie.After-check-sheet → tie.Start
+start c = c .before .before .before
+
+abbrev checked : tie.After-known-told → tie.After-check-sheet
+checked c = c .before .before .before
+
 abbrev entry : tie.After-known-told → tie.Start
-entry c = c .before .before .before .before .before .before
+entry c = start (checked c)
 
 abbrev words : tie.After-known-told → List ℕ
 words c = entry c .args .s .now
 
 sheet : (c : tie.After-known-told) → (t : Sheet) × (check prime (words c) ≡ good t) × (c .before .checked .given .0 .0 ≡ headOf t)
-sheet c = found prime (words c) (c .before .before .before .check-sheet .ensures) (c .before .checked .given .1)
+sheet c = found prime (words c) (checked c .check-sheet .ensures) (c .before .checked .given .1)
 
 words-are : (c : tie.After-known-told) → c .before .checked .given .0 .0 .words ≡ lengthOf (sheet c .0)
 words-are c = ap (λ (h : Head). h .words) (sheet c .2)
+
+-- Where the output has room for them, the words are copied.
+abbrev room : tie.After-copy-words-arg2 → tie.Else1
+room c = c .before .before
 
 check-sheet-requires : tie.Need-check-sheet-requires
 check-sheet-requires c κs = search needs
@@ -45,9 +55,11 @@ refusal-of-requires c κs = search needs
 returns : tie.Need-returns
 unfolding conversionCall
 returns c =
-    let checked = c .before .before .before in
-    let a = checked .before .before .before .args in
-    sheet-refused prime (a .s .now) lengthOf encode (a .out .now) refl (checked .check-sheet .ensures) (c .before .enum-told .given .1) (c .refusal-of .ensures)
+    let told = c .before in
+    let refused = told .before .before in
+    let a = start refused .args in
+    sheet-refused prime (a .s .now) lengthOf encode (a .out .now) refl (refused .check-sheet .ensures) (told .enum-told .given .1)
+    (c .refusal-of .ensures)
 
 returns-2 : tie.Need-returns-2
 unfolding conversionCall
@@ -69,13 +81,14 @@ same-length c = search needs
 returns-3 : tie.Need-returns-3
 unfolding conversionCall
 returns-3 c =
-    let long-enough = c .before .before .before .before .before in
-    let k = long-enough .before in
+    let copied = c .before .before in
+    let copy = copied .copy-words in
+    let r = room (copied .before) in
+    let k = r .before in
     let t = sheet k in
-    let copy = c .before .before .copy-words in
     let front = words-found prime (words k) (t .1) (t .2) in
     let inside = words-inside prime (words k) (t .1) (t .2) in
-    sheet-written prime (words k) lengthOf encode (copy .last .1 .0) (copy .kept .1 .0) (t .1) (words-are k) (long-enough .if1 .left)
+    sheet-written prime (words k) lengthOf encode (copy .last .1 .0) (copy .kept .1 .0) (t .1) (words-are k) (r .if1 .left)
     (ap (λ (k : ℕ). take k (copy .last .1 .0)) inside ∙ copied-front _ _ (entry k .args .out .now) (omega arith) (copy .ensures) ∙ front)
     (inside ∙ ap length front)
 

@@ -16,11 +16,14 @@ use Rattle.sheet_calls.proofs.max_rotation.Statement.{statement}
 use Rattle.sheet_calls.proofs.max_rotation.Tie as tie
 
 -- The words, and the sheet that the check found.
+abbrev checked : tie.After-known-told → tie.After-check-sheet
+checked c = c .before .before .before
+
 abbrev words : tie.After-known-told → List ℕ
-words c = c .before .before .before .before .before .args .s .now
+words c = checked c .before .before .args .s .now
 
 sheet : (c : tie.After-known-told) → (t : Sheet) × (check prime (words c) ≡ good t) × (c .before .checked .given .0 .0 ≡ headOf t)
-sheet c = found prime (words c) (c .before .before .before .check-sheet .ensures) (c .before .checked .given .1)
+sheet c = found prime (words c) (checked c .check-sheet .ensures) (c .before .checked .given .1)
 
 check-sheet-requires : tie.Need-check-sheet-requires
 check-sheet-requires c κs = search needs
@@ -37,8 +40,10 @@ refusal-of-requires c κs = search needs
 returns : tie.Need-returns
 unfolding maxRotationCall
 returns c =
-    let checked = c .before .before .before in
-    counted-refused prime (checked .before .before .args .s .now) maxRotation (checked .check-sheet .ensures) (c .before .enum-told .given .1) (c .refusal-of .ensures)
+    let told = c .before in
+    let refused = told .before .before in
+    counted-refused prime (refused .before .before .args .s .now) maxRotation (refused .check-sheet .ensures) (told .enum-told .given .1)
+    (c .refusal-of .ensures)
 
 largest-offset-requires : tie.Need-largest-offset-requires
 largest-offset-requires c κs = records-fit prime (words c) (sheet c .1) (sheet c .2)

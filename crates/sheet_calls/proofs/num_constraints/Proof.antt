@@ -25,16 +25,18 @@ refusal-of-requires c κs = search needs
 returns : tie.Need-returns
 unfolding numConstraintsCall
 returns c =
-    let checked = c .before .before .before in
-    counted-refused prime (checked .before .before .args .s .now) (λ t. length (t .constraints)) (checked .check-sheet .ensures)
-    (c .before .enum-told .given .1) (c .refusal-of .ensures)
+    let told = c .before in
+    let refused = told .before .before in
+    counted-refused prime (refused .before .before .args .s .now) (λ t. length (t .constraints)) (refused .check-sheet .ensures)
+    (told .enum-told .given .1) (c .refusal-of .ensures)
 
 returns-2 : tie.Need-returns-2
 unfolding numConstraintsCall
 returns-2 c =
-    let checked = c .before .before .before in
+    let given = c .before in
+    let checked = given .before .before in
     let ws = checked .before .before .args .s .now in
-    let t = found prime ws (checked .check-sheet .ensures) (c .before .checked .given .1) in
+    let t = found prime ws (checked .check-sheet .ensures) (given .checked .given .1) in
     counted-found prime ws (λ t. length (t .constraints)) (t .1) (ap (λ (h : Head). h .constraints) (t .2))
 
 pub num-constraints-spec : {M : Type 1} → statement M

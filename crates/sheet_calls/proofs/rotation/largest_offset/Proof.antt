@@ -1,3 +1,4 @@
+-- Record by record. Kept: the larger of the offset so far and of those that are left is the largest of all.
 use mathlib.Core.Path.{ap, _∙_}
 use mathlib.Core.Bool.{cond}
 use Prim.Native.Nat.{_-_}
@@ -13,6 +14,10 @@ Inv-loop s records most₀ i₀ most i = Largest s records i most
 
 abbrev μ-loop : tie.MeasureT-loop
 μ-loop s records most₀ i₀ most i = records - i
+
+-- A record is read, and its offset taken.
+abbrev turn : tie.After-record-at Inv-loop μ-loop → tie.At-loop Inv-loop μ-loop
+turn c = c .before .before
 
 loop-holds : tie.Need-loop-holds Inv-loop μ-loop
 loop-holds c = largest-none (c .before .args .s .now) (c .before .args .records)
@@ -34,17 +39,12 @@ loop-less c = search needs
 
 loop-again : tie.Need-loop-again Inv-loop μ-loop
 loop-again c =
-    let args = c .before .before .before .before .before .before .args in
-    let loop = c .before .before .before .before .loop in
-    largest-more (args .s .now) (args .records) (loop .i) (loop .most) (search needs)
-    (c .before .offset-of .ensures ∙ ap (λ (q : Record). cond (eqb (q .kind) 1) (q .c) 0) (c .before .before .record-at .ensures))
-    (c .larger .ensures) (loop .inv)
+    let read = c .before .before in
+    largest-more (turn read .loop .inv) (search needs)
+    (c .before .offset-of .ensures ∙ ap (λ (q : Record). cond (eqb (q .kind) 1) (q .c) 0) (read .record-at .ensures)) (c .larger .ensures)
 
 returns : tie.Need-returns Inv-loop μ-loop
-returns c =
-    let args = c .before .before .before .args in
-    let loop = c .before .loop in
-    largest-all (args .s .now) (args .records) (loop .i) (loop .most) (search needs) (loop .inv)
+returns c = largest-all (c .before .loop .inv) (search needs)
 
 pub largest-offset-spec : {M : Type 1} → statement M
 largest-offset-spec =

@@ -1,3 +1,4 @@
+-- The test of the kind decides the choice.
 use mathlib.Core.Path.{sym, ap, _∙_}
 use mathlib.Core.Bool.{Bool, cond}
 use borrow.Author.Needs.{needs}
