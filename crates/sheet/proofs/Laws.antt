@@ -48,13 +48,13 @@ or-second true t e = absurd (true≢false e)
 or-second false t e = refl
 
 -- A stopped scan stays.
-pub scan-stopped : (n : ℕ) (ts : List (ℕ → Bool)) (m k : ℕ) → scanWords n ts (stopped m k) ≡ stopped m k
+scan-stopped : (n : ℕ) (ts : List (ℕ → Bool)) (m k : ℕ) → scanWords n ts (stopped m k) ≡ stopped m k
 unfolding scanWords
 scan-stopped n [] m k = refl
 scan-stopped n (t ∷ ts) m k = refl
 
 -- One word of the words `ws`, and then the rest of the tests.
-pub scan-more : (n : ℕ) (t : ℕ → Bool) (ts : List (ℕ → Bool)) (s : Scan) → scanWords n (t ∷ ts) s ≡ scanWords n ts (scanWords n (t ∷ []) s)
+scan-more : (n : ℕ) (t : ℕ → Bool) (ts : List (ℕ → Bool)) (s : Scan) → scanWords n (t ∷ ts) s ≡ scanWords n ts (scanWords n (t ∷ []) s)
 unfolding scanWords
 scan-more n t [] (reading i []) = refl
 scan-more n t (u ∷ ts) (reading i []) = refl
@@ -101,7 +101,7 @@ step {rest} {whole} {ws} {r} {s} e h f stays = record {
     from x q = ap (λ (y : Scanned). rest (scanOf ws y)) (sym q) ∙ ap rest e ∙ f
 
 -- The words of a row: `j` of the uses are done.
-pub row-more : (n : ℕ) (f : ℕ → ℕ → Bool) (row : List ℕ) (j : ℕ) (s : Scan) → j < length row
+row-more : (n : ℕ) (f : ℕ → ℕ → Bool) (row : List ℕ) (j : ℕ) (s : Scan) → j < length row
     → scanWords n (map f (drop (j + 1) row)) (scanWords n (f (getD row j 0) ∷ []) s) ≡ scanWords n (map f (drop j row)) s
 row-more n f row j s h =
     sym (scan-more n (f (getD row j 0)) (map f (drop (j + 1) row)) s)
@@ -160,12 +160,12 @@ module _ (p own : ℕ) (ws : List ℕ) (at : ℕ) where
         ∙ record-rest f
 
 -- Parts that are left: `own` of `count` are done.
-pub parts-stopped : (n : ℕ) (tests : ℕ → List ℕ → List (ℕ → Bool)) (count own m k : ℕ) → scanParts n tests count own (stopped m k) ≡ stopped m k
+parts-stopped : (n : ℕ) (tests : ℕ → List ℕ → List (ℕ → Bool)) (count own m k : ℕ) → scanParts n tests count own (stopped m k) ≡ stopped m k
 unfolding scanParts scanPart
 parts-stopped n tests zero own m k = refl
 parts-stopped n tests (suc count) own m k = parts-stopped n tests count (suc own) m k
 
-pub parts-more : (n : ℕ) (tests : ℕ → List ℕ → List (ℕ → Bool)) (count own : ℕ) (s : Scan) → own < count
+parts-more : (n : ℕ) (tests : ℕ → List ℕ → List (ℕ → Bool)) (count own : ℕ) (s : Scan) → own < count
     → scanParts n tests (count - (own + 1)) (own + 1) (scanPart n (tests own) s) ≡ scanParts n tests (count - own) own s
 unfolding scanParts
 parts-more n tests count own s h =
