@@ -3,7 +3,7 @@ use mathlib.Core.Path.{_≡_, refl, sym, ap, subst, _∙_}
 use mathlib.Core.Bool.{Bool, true, false, cond, true≢false, _&&_, _||_}
 use mathlib.Core.List.{List, [], _∷_, _++_, map}
 use Prim.Native.Nat.{ℕ, zero, suc, _+_, _*_, _-_, _≤_, _<_}
-use native.Mathlib.Nat.{add-zero}
+use native.Mathlib.Nat.{add-zero, sub-zero}
 use native.Mathlib.Numerals.{add-one}
 use native.Mathlib.Omega.{arith}
 use lib.Dec.{leb}
@@ -107,16 +107,27 @@ row-more n f row j s h =
     sym (scan-more n (f (getD row j 0)) (map f (drop (j + 1) row)) s)
     ∙ ap (λ (r : List ℕ). scanWords n (map f r) s) (sym (drop-cons row j 0 h ∙ ap (λ (k : ℕ). getD row j 0 ∷ drop k row) (sym (add-one j))))
 
-pub row-step : (n : ℕ) (f : ℕ → ℕ → Bool) (row : List ℕ) (j : ℕ) (s whole : Scan) {ws : List ℕ} {r : Scanned} → j < length row
-    → scanWords n (map f (drop j row)) s ≡ whole → scanOf ws r ≡ scanWords n (f (getD row j 0) ∷ []) s → Ends ws r
-    → Step (scanWords n (map f (drop (j + 1) row))) whole ws r
-row-step n f row j s whole h g e k = step e k (row-more n f row j s h ∙ g) (scan-stopped n (map f (drop (j + 1) row)))
+-- A scan that stands at `m`: the uses from the j-th on give the whole.
+pub record RowLeft (n : ℕ) (f : ℕ → ℕ → Bool) (row ws : List ℕ) (whole : Scan) (j m : ℕ) : Type 0 where
+  pub goes : scanWords n (map f (drop j row)) (reading m (drop m ws)) ≡ whole
+  pub inside : m ≤ length ws
 
--- All of the uses are done.
-pub row-done : (n : ℕ) (f : ℕ → ℕ → Bool) (row : List ℕ) (j : ℕ) (s whole : Scan) → length row ≤ j
-    → scanWords n (map f (drop j row)) s ≡ whole → s ≡ whole
-unfolding scanWords
-row-done n f row j s whole h e = ap (λ (r : List ℕ). scanWords n (map f r) s) (sym (drop-of-length-le row h)) ∙ e
+module _ {n : ℕ} {f : ℕ → ℕ → Bool} {row ws : List ℕ} {whole : Scan} {j m : ℕ} (left : RowLeft n f row ws whole j m) where
+  -- One of them is judged.
+  module _ (h : j < length row) (r : Scanned) (e : (scanOf ws r ≡ scanWords n (f (getD row j 0) ∷ []) (reading m (drop m ws))) × Ends ws r) where
+    row-step : Step (scanWords n (map f (drop (j + 1) row))) whole ws r
+    row-step = step (e .0) (e .1) (row-more n f row j (reading m (drop m ws)) h ∙ left .goes) (scan-stopped n (map f (drop (j + 1) row)))
+
+    pub row-stops : (v : Refusal) → r ≡ Stop v → (scanOf ws r ≡ whole) × Ends ws r
+    row-stops v q = (row-step .stops v q, e .1)
+
+    pub row-next : (k : ℕ) → r ≡ Next k → RowLeft n f row ws whole (j + 1) k
+    row-next k q = record { goes = row-step .goes k q; inside = row-step .inside k q }
+
+  -- All are judged.
+  pub row-done : length row ≤ j → (reading m (drop m ws) ≡ whole) × (m ≤ length ws)
+  unfolding scanWords
+  row-done h = (ap (λ (r : List ℕ). scanWords n (map f r) (reading m (drop m ws))) (sym (drop-of-length-le row h)) ∙ left .goes, left .inside)
 
 -- A row has four uses.
 pub row-four : (kind : ℕ) → 1 ≤ kind → kind ≤ 9
@@ -172,39 +183,86 @@ parts-more n tests count own s h =
     let m : count - own ≡ suc (count - (own + 1)) = omega arith in
     rw (m, add-one)
 
-pub parts-step : (n : ℕ) (tests : ℕ → List ℕ → List (ℕ → Bool)) (count own : ℕ) (s whole : Scan) {ws : List ℕ} {r : Scanned} → own < count
-    → scanParts n tests (count - own) own s ≡ whole → scanOf ws r ≡ scanPart n (tests own) s → Ends ws r
-    → Step (scanParts n tests (count - (own + 1)) (own + 1)) whole ws r
-parts-step n tests count own s whole h f e k =
-    step e k (parts-more n tests count own s h ∙ f) (parts-stopped n tests (count - (own + 1)) (own + 1))
+-- A scan that stands at `m`: the parts from number `own` on give the whole.
+pub record PartsLeft (n : ℕ) (tests : ℕ → List ℕ → List (ℕ → Bool)) (ws : List ℕ) (whole : Scan) (count own m : ℕ) : Type 0 where
+  pub goes : scanParts n tests (count - own) own (reading m (drop m ws)) ≡ whole
+  pub inside : m ≤ length ws
 
-pub parts-done : (n : ℕ) (tests : ℕ → List ℕ → List (ℕ → Bool)) (count own : ℕ) (s whole : Scan) → count ≤ own
-    → scanParts n tests (count - own) own s ≡ whole → s ≡ whole
-unfolding scanParts
-parts-done n tests count own s whole h e =
-    let m : count - own ≡ 0 = omega arith in
-    ap (λ (k : ℕ). scanParts n tests k own s) (sym m) ∙ e
+pub parts-begin : (n : ℕ) (tests : ℕ → List ℕ → List (ℕ → Bool)) (ws : List ℕ) (count at : ℕ) → at ≤ length ws
+    → PartsLeft n tests ws (scanParts n tests count 0 (reading at (drop at ws))) count 0 at
+parts-begin n tests ws count at h = record {
+  goes = ap (λ (k : ℕ). scanParts n tests k 0 (reading at (drop at ws))) (sub-zero count);
+  inside = h;
+}
 
--- The same for words that all have one test: `k` of `count` are done.
-module _ (n : ℕ) (t : ℕ → Bool) (ws : List ℕ) (count k i : ℕ) (whole : Scan) (h : k < count)
-    (e : scanWords n (replicate (count - k) t) (reading i (drop i ws)) ≡ whole) where
-  left : count - k ≡ suc (count - (k + 1))
-  left = omega arith
+module _ {n : ℕ} {tests : ℕ → List ℕ → List (ℕ → Bool)} {ws : List ℕ} {whole : Scan} {count own m : ℕ}
+    (left : PartsLeft n tests ws whole count own m) where
+  -- One of them is judged.
+  module _ (h : own < count) (r : Scanned) (e : (scanOf ws r ≡ scanPart n (tests own) (reading m (drop m ws))) × Ends ws r) where
+    parts-step : Step (scanParts n tests (count - (own + 1)) (own + 1)) whole ws r
+    parts-step =
+        step (e .0) (e .1) (parts-more n tests count own (reading m (drop m ws)) h ∙ left .goes)
+        (parts-stopped n tests (count - (own + 1)) (own + 1))
 
-  pub same-cut : i ≤ length ws → length ws ≤ i → stopped 4 i ≡ whole
-  same-cut a b = scan-cut n t (replicate (count - (k + 1)) t) ws i a b ∙ ap (λ (m : ℕ). scanWords n (replicate m t) (reading i (drop i ws))) (sym left) ∙ e
+    pub parts-stops : (v : Refusal) → r ≡ Stop v → (scanOf ws r ≡ whole) × Ends ws r
+    parts-stops v q = (parts-step .stops v q, e .1)
 
-  pub same-fails : i < length ws → t (getD ws i 0) ≡ false → stopped n i ≡ whole
-  same-fails a b = scan-fails n t (replicate (count - (k + 1)) t) ws i a b ∙ ap (λ (m : ℕ). scanWords n (replicate m t) (reading i (drop i ws))) (sym left) ∙ e
+    pub parts-next : (k : ℕ) → r ≡ Next k → PartsLeft n tests ws whole count (own + 1) k
+    parts-next k q = record { goes = parts-step .goes k q; inside = parts-step .inside k q }
 
-  pub same-passes : i < length ws → t (getD ws i 0) ≡ true → scanWords n (replicate (count - (k + 1)) t) (reading (i + 1) (drop (i + 1) ws)) ≡ whole
-  same-passes a b = scan-passes n t (replicate (count - (k + 1)) t) ws i a b ∙ ap (λ (m : ℕ). scanWords n (replicate m t) (reading i (drop i ws))) (sym left) ∙ e
+  -- All are judged.
+  pub parts-done : count ≤ own → (reading m (drop m ws) ≡ whole) × (m ≤ length ws)
+  unfolding scanParts
+  parts-done h =
+      let z : count - own ≡ 0 = omega arith in
+      (ap (λ (k : ℕ). scanParts n tests k own (reading m (drop m ws))) (sym z) ∙ left .goes, left .inside)
 
-pub same-done : (n : ℕ) (t : ℕ → Bool) (count k : ℕ) (s whole : Scan) → count ≤ k → scanWords n (replicate (count - k) t) s ≡ whole → s ≡ whole
-unfolding scanWords
-same-done n t count k s whole h e =
-    let m : count - k ≡ 0 = omega arith in
-    ap (λ (j : ℕ). scanWords n (replicate j t) s) (sym m) ∙ e
+-- Words that all have one test: the scan stands at `i`, `k` of `count` words behind `base`, and those that are left give the whole.
+pub record SameLeft (n : ℕ) (t : ℕ → Bool) (ws : List ℕ) (whole : Scan) (base count k i : ℕ) : Type 0 where
+  pub some : k ≤ count
+  pub goes : scanWords n (replicate (count - k) t) (reading i (drop i ws)) ≡ whole
+  pub inside : i ≤ length ws
+  pub stands : i ≡ base + k
+
+pub same-begin : (n : ℕ) (t : ℕ → Bool) (ws : List ℕ) (count at : ℕ) → at ≤ length ws
+    → SameLeft n t ws (scanWords n (replicate count t) (reading at (drop at ws))) at count 0 at
+same-begin n t ws count at h = record {
+  some = omega arith;
+  goes = ap (λ (k : ℕ). scanWords n (replicate k t) (reading at (drop at ws))) (sub-zero count);
+  inside = h;
+  stands = omega arith;
+}
+
+module _ {n : ℕ} {t : ℕ → Bool} {ws : List ℕ} {whole : Scan} {base count k i : ℕ} (left : SameLeft n t ws whole base count k i) where
+  -- One of them is judged.
+  module _ (h : k < count) where
+    first-left : scanWords n (t ∷ replicate (count - (k + 1)) t) (reading i (drop i ws)) ≡ whole
+    first-left =
+        let s : count - k ≡ suc (count - (k + 1)) = omega arith in
+        ap (λ (m : ℕ). scanWords n (replicate m t) (reading i (drop i ws))) (sym s) ∙ left .goes
+
+    pub same-cut : length ws ≤ i → stopped 4 i ≡ whole
+    same-cut l = scan-cut n t (replicate (count - (k + 1)) t) ws i (left .inside) l ∙ first-left
+
+    module _ (l : i < length ws) where
+      pub same-fails : t (getD ws i 0) ≡ false → stopped n i ≡ whole
+      same-fails e = scan-fails n t (replicate (count - (k + 1)) t) ws i l e ∙ first-left
+
+      pub same-next : t (getD ws i 0) ≡ true → SameLeft n t ws whole base count (k + 1) (i + 1)
+      same-next e = record {
+        some = omega arith;
+        goes = scan-passes n t (replicate (count - (k + 1)) t) ws i l e ∙ first-left;
+        inside = omega arith;
+        stands = omega (arith, left .stands);
+      }
+
+  -- All are judged.
+  pub same-done : count ≤ k → (reading i (drop i ws) ≡ whole) × (i ≤ length ws) × (i ≡ base + count)
+  unfolding scanWords
+  same-done h =
+      let z : count - k ≡ 0 = omega arith in
+      (ap (λ (j : ℕ). scanWords n (replicate j t) (reading i (drop i ws))) (sym z) ∙ left .goes, left .inside,
+      omega (arith, left .some, left .stands))
 
 pub names-true : (n w x : ℕ) → x ≡ w → x < n → names n w ≡ true
 unfolding names
@@ -248,32 +306,46 @@ interaction-tests n ws at =
     ap (λ (k : ℕ). scanWords 6 ((λ w. leb w 65535) ∷ (λ w. true) ∷ names n ∷ (λ w. leb w 63) ∷ replicate k (names n)) (reading at (drop at ws)))
     (sym (getD-drop at ws 3 0))
 
--- Spare words: `room` more may stand.
-module _ (ws : List ℕ) (i room : ℕ) (whole : Scan) (e : scanSpare room (reading i (drop i ws)) ≡ whole) where
-  pub spare-full : i < length ws → room ≡ 0 → stopped 7 i ≡ whole
-  unfolding scanSpare
-  spare-full h z = sym (ap (λ (l : List ℕ). scanSpare 0 (reading i l)) (drop-cons ws i 0 h)) ∙ ap (λ (k : ℕ). scanSpare k (reading i (drop i ws))) (sym z) ∙ e
+-- Spare words: the scan stands at `i`, `k` are judged, and those that are left give the whole.
+pub record SpareLeft (ws : List ℕ) (whole : Scan) (k i : ℕ) : Type 0 where
+  pub goes : scanSpare (126 - k) (reading i (drop i ws)) ≡ whole
+  pub inside : i ≤ length ws
 
-  pub spare-word : (room′ : ℕ) → room ≡ suc room′ → i < length ws → (getD ws i 0 ≡ 0 → ⊥) → stopped 7 i ≡ whole
-  unfolding scanSpare
-  spare-word m z h k =
-      sym (ap (λ (l : List ℕ). scanSpare (suc m) (reading i l)) (drop-cons ws i 0 h) ∙ rw (ne-eqb (getD ws i 0) 0 k))
-      ∙ ap (λ (q : ℕ). scanSpare q (reading i (drop i ws))) (sym z) ∙ e
+module _ {ws : List ℕ} {whole : Scan} {k i : ℕ} (left : SpareLeft ws whole k i) where
+  module _ (h : i < length ws) where
+    -- There is room for no more, or for `room` more behind the next.
+    with-room : (room : ℕ) → 126 - k ≡ room → scanSpare room (reading i (getD ws i 0 ∷ drop (suc i) ws)) ≡ whole
+    with-room room z =
+        ap (λ (l : List ℕ). scanSpare room (reading i l)) (sym (drop-cons ws i 0 h))
+        ∙ ap (λ (m : ℕ). scanSpare m (reading i (drop i ws))) (sym z) ∙ left .goes
 
-  pub spare-zero : (room′ : ℕ) → room ≡ suc room′ → i < length ws → getD ws i 0 ≡ 0 → scanSpare room′ (reading (i + 1) (drop (i + 1) ws)) ≡ whole
-  unfolding scanSpare
-  spare-zero m z h k =
-      sym (ap (λ (l : List ℕ). scanSpare (suc m) (reading i l)) (drop-cons ws i 0 h) ∙ rw (eq-eqb (getD ws i 0) 0 k, add-one))
-      ∙ ap (λ (q : ℕ). scanSpare q (reading i (drop i ws))) (sym z) ∙ e
+    pub spare-full : 126 ≤ k → stopped 7 i ≡ whole
+    unfolding scanSpare
+    spare-full f = with-room 0 (omega arith)
+
+    module _ (l : k < 126) where
+      next-room : 126 - k ≡ suc (126 - (k + 1))
+      next-room = omega arith
+
+      pub spare-word : (getD ws i 0 ≡ 0 → ⊥) → stopped 7 i ≡ whole
+      unfolding scanSpare
+      spare-word e = sym (rw (ne-eqb (getD ws i 0) 0 e)) ∙ with-room (suc (126 - (k + 1))) next-room
+
+      pub spare-zero : getD ws i 0 ≡ 0 → SpareLeft ws whole (k + 1) (i + 1)
+      unfolding scanSpare
+      spare-zero e = record {
+        goes = sym (rw (eq-eqb (getD ws i 0) 0 e, add-one i)) ∙ with-room (suc (126 - (k + 1))) next-room;
+        inside = omega arith;
+      }
 
   pub spare-end : length ws ≤ i → reading i (drop i ws) ≡ whole
   unfolding scanSpare
   spare-end h =
-      ap (reading i) (drop-of-length-le ws h) ∙ sym (at-end room)
-      ∙ ap (λ (l : List ℕ). scanSpare room (reading i l)) (sym (drop-of-length-le ws h)) ∙ e
+      ap (reading i) (drop-of-length-le ws h) ∙ sym (at-end (126 - k))
+      ∙ ap (λ (l : List ℕ). scanSpare (126 - k) (reading i l)) (sym (drop-of-length-le ws h)) ∙ left .goes
     where
-      at-end : (k : ℕ) → scanSpare k (reading i []) ≡ reading i []
-      at-end k = refl
+      at-end : (room : ℕ) → scanSpare room (reading i []) ≡ reading i []
+      at-end room = refl
 
 pub stop-reaches : (k : ℕ) (r : Scanned) (v : Refusal) → r ≡ Stop v → Reaches k r
 stop-reaches k r v q = subst (Reaches k) (sym q) tt
