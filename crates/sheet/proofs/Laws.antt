@@ -260,9 +260,11 @@ module _ {n : ℕ} {t : ℕ → Bool} {ws : List ℕ} {whole : Scan} {base count
   pub same-done : count ≤ k → (reading i (drop i ws) ≡ whole) × (i ≤ length ws) × (i ≡ base + count)
   unfolding scanWords
   same-done h =
-      let z : count - k ≡ 0 = omega arith in
-      (ap (λ (j : ℕ). scanWords n (replicate j t) (reading i (drop i ws))) (sym z) ∙ left .goes, left .inside,
-      omega (arith, left .some, left .stands))
+      let z : count - k ≡ 0 = omega arith in (
+        ap (λ (j : ℕ). scanWords n (replicate j t) (reading i (drop i ws))) (sym z) ∙ left .goes,
+        left .inside,
+        omega (arith, left .some, left .stands),
+      )
 
 pub names-true : (n w x : ℕ) → x ≡ w → x < n → names n w ≡ true
 unfolding names

@@ -99,19 +99,23 @@ add-add-interactions c =
 add-interactions-requires : tie.Need-add-interactions-requires
 add-interactions-requires c κs =
     let a = names-added c in
-    let n = head a in
-    (walking-next (entry n .pre) (counted n) (named-scratch a) (named-out a) (a .add-names .result) (out-kept a) (a .add-names .ensures),
-    all-inside (entry n .pre) (counted n))
+    let n = head a in (
+      walking-next (entry n .pre) (counted n) (named-scratch a) (named-out a) (a .add-names .result) (out-kept a) (a .add-names .ensures),
+      all-inside (entry n .pre) (counted n),
+    )
 
 write-graph-requires : tie.Need-write-graph-requires
 write-graph-requires c κs =
     let all = all-added c in
     let a = added all in
-    let n = head a in
-    (finishing (entry n .pre) (counted n) (named-scratch a) (named-out a) (a .add-names .result)
-    (all-scratch all) (all-out all) (all .add-interactions .result)
-    (a .add-names .ensures) (all .add-interactions .ensures) (all-kept all),
-    counted n .located, counted n .constraints, counted n .interactions)
+    let n = head a in (
+      finishing (entry n .pre) (counted n) (named-scratch a) (named-out a) (a .add-names .result)
+          (all-scratch all) (all-out all) (all .add-interactions .result)
+          (a .add-names .ensures) (all .add-interactions .ensures) (all-kept all),
+      counted n .located,
+      counted n .constraints,
+      counted n .interactions,
+    )
 
 same-length : tie.Need-same-length
 same-length c = search needs
@@ -122,9 +126,10 @@ same-length-2 c = search needs
 returns : tie.Need-returns
 returns c =
     let w = written c in
-    let all = all-added (w .before) in
-    (w .write-graph .ensures .0 ∙ ap (λ (k : ℕ). graphOut k (entry (head (added all)) .args .sheet .now)) (all-kept all),
-    w .write-graph .ensures .1)
+    let all = all-added (w .before) in (
+      w .write-graph .ensures .0 ∙ ap (λ (k : ℕ). graphOut k (entry (head (added all)) .args .sheet .now)) (all-kept all),
+      w .write-graph .ensures .1,
+    )
 
 pub build-graph-spec : {M : Type 1} → statement M
 build-graph-spec =

@@ -103,6 +103,10 @@ length-left c =
 length-inside : (c : tie.After-known-told4) → count-end (length-checked c .before) < length (words (length-start c))
 length-inside c = omega (arith, length-left c .inside, length-left c .stands, count-left (length-checked c .before) .stands)
 
+-- The fourth word is read.
+abbrev length-told : tie.After-wide → tie.After-known-told4
+length-told c = c .before .before
+
 check-limit-requires : tie.Need-check-limit-requires
 check-limit-requires c κs = search needs
 
@@ -173,21 +177,24 @@ wide-requires : tie.Need-wide-requires
 wide-requires c κs = search needs
 
 check-names-requires-2 : tie.Need-check-names-requires-2
-check-names-requires-2 c κs = length-left (c .before .before) .inside
+check-names-requires-2 c κs = length-left (length-told c) .inside
 
 -- The names of the message: as many as the fourth word says.
-names-are : (c : tie.After-wide) → let k = length-start (c .before .before) in c .wide .result ≡ getD (words k) (k .args .at + 3) 0
+names-are : (c : tie.After-wide) → let k = length-start (length-told c) in c .wide .result ≡ getD (words k) (k .args .at + 3) 0
 names-are c =
-    let a = length-checked (c .before .before) .before in
+    let a = length-checked (length-told c) .before in
     c .wide .ensures ∙ ap (λ (i : ℕ). getD (words (count-start a)) i 0) (count-left a .stands)
 
 returns-5 : tie.Need-returns-5
 returns-5 c =
-    let a = c .before .before .before in
-    let k = length-start a in
-    (c .check-names2 .ensures .0
-    ∙ ap (λ (n : ℕ). scanWords 6 (replicate n (names (k .args .records))) (reading (length-end a) (drop (length-end a) (words k)))) (names-are (c .before))
-    ∙ length-left a .goes, c .check-names2 .ensures .1)
+    let a = length-told (c .before) in
+    let k = length-start a in (
+      c .check-names2 .ensures .0
+          ∙ ap (λ (n : ℕ). scanWords 6 (replicate n (names (k .args .records))) (reading (length-end a) (drop (length-end a) (words k))))
+          (names-are (c .before))
+          ∙ length-left a .goes,
+      c .check-names2 .ensures .1,
+    )
 
 pub check-interaction-spec : {M : Type 1} → statement M
 check-interaction-spec =

@@ -60,9 +60,11 @@ is-kind-requires c κs = search needs
 returns-2 : tie.Need-returns-2
 returns-2 c =
     let k = c .before .before in
-    let a = start k .args in
-    (record-kind prime (a .own) (words k) (a .at) (omega arith) (kind k) (k .wide .ensures)
-    (sym (c .before .is-kind .ensures) ∙ not-true _ (c .if2 .taken)), tt)
+    let a = start k .args in (
+      record-kind prime (a .own) (words k) (a .at) (omega arith) (kind k) (k .wide .ensures)
+          (sym (c .before .is-kind .ensures) ∙ not-true _ (c .if2 .taken)),
+      tt,
+    )
 
 add-first : tie.Need-add-first
 add-first c = search needs
@@ -89,11 +91,13 @@ returns-4 : tie.Need-returns-4
 returns-4 c =
     let k = kind-read (kind-known c) in
     let a = start k .args in
-    let w = words k in
-    (c .check-row .ensures .0
-    ∙ ap (λ (r : List ℕ). scanWords 5 (map (fits prime (a .own) (getD w (a .at + 1) 0)) r) (reading (a .at + 1) (drop (a .at + 1) w)))
-    (c .before .before .row-of .ensures)
-    ∙ record-rest prime (a .own) w (a .at) (omega arith) (kind k) (k .wide .ensures) (is-kind (kind-known c)), c .check-row .ensures .1)
+    let w = words k in (
+      c .check-row .ensures .0
+          ∙ ap (λ (r : List ℕ). scanWords 5 (map (fits prime (a .own) (getD w (a .at + 1) 0)) r) (reading (a .at + 1) (drop (a .at + 1) w)))
+          (c .before .before .row-of .ensures)
+          ∙ record-rest prime (a .own) w (a .at) (omega arith) (kind k) (k .wide .ensures) (is-kind (kind-known c)),
+      c .check-row .ensures .1,
+    )
 
 pub check-record-spec : {M : Type 1} → statement M
 check-record-spec =
