@@ -1,14 +1,15 @@
 -- From an empty scratch and output to the state when all records are added.
 use mathlib.Core.Path.{_≡_, refl, sym, ap, subst, _∙_}
 use mathlib.Core.List.{List, [], _∷_, _++_, flatMap}
-use Prim.Native.Nat.{ℕ, zero, suc, _+_, _*_, _-_, _≤_}
+use Prim.Native.Nat.{ℕ, zero, suc, _+_, _-_, _≤_}
 use native.Mathlib.Omega.{arith}
 use lib.ListN.{length, replicate, replicate-append-replicate}
-use Rattle.semantics.specs.Sheet.{Sheet, lengthOf}
+use Rattle.semantics.specs.Sheet.{Sheet, lengthOf, place}
 use Rattle.semantics.specs.Check.{readSheet}
 use Rattle.semantics.specs.Walk.{childrenAt, member, foldLeft, visit, order}
 use Rattle.semantics.specs.Graph.{build, graphRoots}
 use Rattle.semantics.specs.Call.{zeros, padded}
+use Rattle.semantics.proofs.Places.{place-head}
 use Rattle.records.specs.Access.{recordsOf, constraintsAt, interactionsAt, part, rootWords, NamesInside, AllRootsInside}
 use Rattle.records.proofs.Rooting.{order-none, names-below}
 use Rattle.records.proofs.Reading.{constraints-are, constraints-inside, interactions-stand, interactions-inside, roots-are}
@@ -37,7 +38,7 @@ module _ {ws scratch out : List ℕ} (b : Starting ws scratch out) where
   abbrev E : ℕ
   E = length (recordsOf ws)
 
-  room : 4 + 5 * E ≤ length out
+  room : place 5 E ≤ length out
   unfolding lengthOf
   room = omega (arith, encode-long s, b .room)
 
@@ -46,7 +47,7 @@ module _ {ws scratch out : List ℕ} (b : Starting ws scratch out) where
   holds-none = record {
     scratch-is = b .scratch-is ∙ table-zeros 0 E (mark [] (builtOf ws [])) (λ i. refl);
     out-is =
-        let e : 4 + (length out - 4) ≡ length out = omega (arith, room) in
+        let e : 4 + (length out - 4) ≡ length out = omega (arith, room, place-head 5 E) in
         b .out-is ∙ ap (λ (k : ℕ). replicate k 0) (sym e) ∙ sym (replicate-append-replicate 4 (length out - 4) 0);
     count-is = refl;
   }

@@ -2,7 +2,7 @@
 use mathlib.Core.Path.{_≡_, refl, sym, ap, _∙_}
 use mathlib.Core.Bool.{Bool, true, false, cond}
 use mathlib.Core.List.{List, [], _∷_, _++_, flatMap, append-assoc}
-use Prim.Native.Nat.{ℕ, zero, suc, _+_, _*_, _≤_, _<_}
+use Prim.Native.Nat.{ℕ, zero, suc, _+_, _≤_, _<_}
 use native.Mathlib.Omega.{arith}
 use lib.Dec.{ltb, leb, lit<}
 use lib.ListN.{length, length-append}
@@ -10,13 +10,14 @@ use lib.Seq.{sets}
 use borrow.Author.Tests.{ltb-false, le-leb, lt-leb}
 use Rattle.semantics.specs.Arithmetic.{prime}
 use Rattle.semantics.specs.Answer.{good}
-use Rattle.semantics.specs.Sheet.{Sheet, recordWords, interactionWords, headWords, encode, lengthOf}
+use Rattle.semantics.specs.Sheet.{Sheet, recordWords, interactionWords, headWords, encode, lengthOf, place}
 use Rattle.semantics.specs.Check.{readSheet, check}
 use Rattle.semantics.specs.Walk.{member}
 use Rattle.semantics.specs.Graph.{sortedOnce, graphOf}
 use Rattle.semantics.specs.Call.{zeros, padded}
 use Rattle.semantics.proofs.Members.{Below}
-use Rattle.semantics.proofs.Encoding.{records-length, sheet-length, check-inside}
+use Rattle.semantics.proofs.Places.{records-end}
+use Rattle.semantics.proofs.Encoding.{sheet-length, check-inside}
 use Rattle.semantics.proofs.GraphSheets.{graph-shorter}
 use Rattle.nodes.specs.Memory.{tabulate, nodesOut}
 use Rattle.nodes.proofs.Marks.{tabulate-length, tabulate-from, tabulate-same}
@@ -37,22 +38,22 @@ head-in lent n c i xs = refl
 
 -- The parts of a graph whose words fit.
 room-for : (lent : ℕ) (g : Sheet) → length (encode g) ≤ lent
-    → 4 + 5 * length (g .records) + length (g .constraints) + length (flatMap interactionWords (g .interactions)) ≤ lent
+    → place 5 (length (g .records)) + length (g .constraints) + length (flatMap interactionWords (g .interactions)) ≤ lent
 unfolding lengthOf
 room-for lent g h = omega (arith, sheet-length g)
 
 -- The nodes, behind them the constraints and the interactions, and the head: the words of the graph.
 pub graph-words : (lent : ℕ) (g : Sheet) → length (encode g) ≤ lent
     → sets (
-    put (put (nodesOut lent (g .records)) (4 + 5 * length (g .records)) (g .constraints))
-    (4 + 5 * length (g .records) + length (g .constraints)) (flatMap interactionWords (g .interactions))
+    put (put (nodesOut lent (g .records)) (place 5 (length (g .records))) (g .constraints))
+    (place 5 (length (g .records)) + length (g .constraints)) (flatMap interactionWords (g .interactions))
     ) 0 (1 ∷ length (g .records) ∷ length (g .constraints) ∷ length (g .interactions) ∷ [])
     ≡ padded (encode g) lent
 unfolding nodesOut encode headWords
 graph-words lent g h =
     ap (λ (u : List ℕ). heads u)
-    (ap (λ (u : List ℕ). put u (4 + 5 * length (g .records) + length C) I) (put-behind W C lent (4 + 5 * length (g .records)) start (omega (arith, room-for lent g h)))
-    ∙ put-behind (W ++ C) I lent (4 + 5 * length (g .records) + length C) (sym (length-append W C ∙ omega (arith, start))) (omega (arith, room-for lent g h))
+    (ap (λ (u : List ℕ). put u (place 5 (length (g .records)) + length C) I) (put-behind W C lent (place 5 (length (g .records))) start (omega (arith, room-for lent g h)))
+    ∙ put-behind (W ++ C) I lent (place 5 (length (g .records)) + length C) (sym (length-append W C ∙ omega (arith, start))) (omega (arith, room-for lent g h))
     ∙ ap (λ (u : List ℕ). padded u lent) (append-assoc W C I ∙ append-assoc (zeros 4) R (C ++ I)))
     ∙ head-in lent (length (g .records)) (length C) (length (g .interactions)) (R ++ (C ++ I))
   where
@@ -71,8 +72,8 @@ graph-words lent g h =
     heads : List ℕ → List ℕ
     heads u = sets u 0 (1 ∷ length (g .records) ∷ length C ∷ length (g .interactions) ∷ [])
 
-    start : 4 + 5 * length (g .records) ≡ length W
-    start = sym (length-append (zeros 4) R ∙ unfold zeros in (omega (arith, records-length (g .records))))
+    start : place 5 (length (g .records)) ≡ length W
+    start = sym (length-append (zeros 4) R ∙ unfold zeros in (omega (arith, records-end (g .records))))
 
 -- The graph is no longer than its source.
 pub graph-fits : (ws : List ℕ) → check prime ws ≡ good (readSheet ws) → length (encode (graphOf prime (readSheet ws))) ≤ lengthOf (readSheet ws)

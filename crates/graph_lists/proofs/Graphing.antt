@@ -1,18 +1,19 @@
 -- The graph in the output, from the state when all records are added.
 use mathlib.Core.Path.{_≡_, refl, sym, ap, subst, _∙_}
 use mathlib.Core.List.{List, [], _∷_, _++_, map, flatMap}
-use Prim.Native.Nat.{ℕ, suc, pred, _+_, _*_, _-_, _^_, _≤_, _<_}
+use Prim.Native.Nat.{ℕ, suc, pred, _+_, _-_, _^_, _≤_, _<_}
 use native.Mathlib.Omega.{arith}
-use lib.ListN.{length, getD, drop, length-map, length-append}
+use lib.ListN.{length, getD, drop, length-map}
 use lib.Seq.{sets}
 use Rattle.semantics.specs.Arithmetic.{prime}
-use Rattle.semantics.specs.Sheet.{Sheet, interactionWords, encode, headWords, lengthOf}
+use Rattle.semantics.specs.Sheet.{Sheet, interactionWords, encode, lengthOf, place}
 use Rattle.semantics.specs.Check.{readSheet}
 use Rattle.semantics.specs.Walk.{member}
 use Rattle.semantics.specs.Graph.{Built, built, graphRoots, graphOf, sortedOnce, renamed}
 use Rattle.semantics.proofs.Basics.{by-test}
 use Rattle.semantics.proofs.Members.{Mem, mem-left, mem-right, mem-getD, Below, map-below}
-use Rattle.semantics.proofs.Encoding.{records-length}
+use Rattle.semantics.proofs.Places.{place-head}
+use Rattle.semantics.proofs.Encoding.{sheet-length}
 use Rattle.semantics.proofs.Access.{constraint-word, words-count}
 use Rattle.semantics.proofs.Orders.{order-closed, order-roots, order-below, order-distinct, distinct-length}
 use Rattle.semantics.proofs.GraphSheets.{graph-roots, sorted-length}
@@ -29,9 +30,9 @@ use Rattle.slices.proofs.Puts.{put-length}
 use Rattle.graph_lists.proofs.Renaming.{map-same, renamed-are, named-are}
 use Rattle.graph_lists.proofs.Closing.{plain-again, flagged-are, graph-words, graph-fits}
 
-pub encode-long : (g : Sheet) → length (encode g) ≡ 4 + (5 * length (g .records) + (length (g .constraints) + length (flatMap interactionWords (g .interactions))))
-unfolding encode headWords
-encode-long g = simp (length-append, records-length) (omega arith)
+pub encode-long : (g : Sheet) → length (encode g) ≡ place 5 (length (g .records)) + length (g .constraints) + length (flatMap interactionWords (g .interactions))
+unfolding lengthOf
+encode-long g = sheet-length g
 
 module _ (ws scratch out : List ℕ) (n : ℕ) (f : Finishing ws scratch out n) where
   abbrev s : Sheet
@@ -142,11 +143,11 @@ module _ (ws scratch out : List ℕ) (n : ℕ) (f : Finishing ws scratch out n) 
   unfolding graphOf built builtOf
   interactions-are = refl
 
-  fits : 4 + 5 * n + length (g .constraints) + length (flatMap interactionWords (g .interactions)) ≤ length out
+  fits : place 5 n + length (g .constraints) + length (flatMap interactionWords (g .interactions)) ≤ length out
   unfolding lengthOf
   fits =
       let k : length (g .records) ≡ n = ap length records-are ∙ sym nodes-count in
-      omega (arith, encode-long g, graph-fits ws (f .checked), f .room, k)
+      omega (arith, encode-long g, graph-fits ws (f .checked), f .room, ap (place 5) k)
 
   -- The constraints are flagged, written and plain again.
   module _ (at count : ℕ) (ea : at ≡ constraintsAt ws) (ec : count ≡ length (s .constraints)) (s₁ : List ℕ)
@@ -157,13 +158,13 @@ module _ (ws scratch out : List ℕ) (n : ℕ) (f : Finishing ws scratch out n) 
     among-are : flaggedAmong 0 n s₁ ≡ g .constraints
     among-are = ap (flaggedAmong 0 n) flags-are ∙ flagged-are scratch nums n marks-small nums-below nodes-few ∙ sym sorted-are
 
-    pub room-flagged : (to : ℕ) → to ≡ 4 + 5 * n → (n ≤ length s₁) × (n < 4294967296) × (to + length (flaggedAmong 0 n s₁) ≤ length out)
+    pub room-flagged : (to : ℕ) → to ≡ place 5 n → (n ≤ length s₁) × (n < 4294967296) × (to + length (flaggedAmong 0 n s₁) ≤ length out)
     room-flagged to et =
         let l : length s₁ ≡ length scratch = ap length e₁ ∙ tabulate-length 0 (length scratch) _ in
         let k : length (flaggedAmong 0 n s₁) ≡ length (g .constraints) = ap length among-are in
         (omega (arith, nodes-few), omega (arith, nodes-small), omega (arith, fits))
 
-    module _ (to : ℕ) (et : to ≡ 4 + 5 * n) (s₂ out₁ : List ℕ) (next : ℕ) (e₂ : s₂ ≡ tabulate 0 (length s₁) (plainBelow n s₁)) (o₁ : out₁ ≡ put out to (flaggedAmong 0 n s₁))
+    module _ (to : ℕ) (et : to ≡ place 5 n) (s₂ out₁ : List ℕ) (next : ℕ) (e₂ : s₂ ≡ tabulate 0 (length s₁) (plainBelow n s₁)) (o₁ : out₁ ≡ put out to (flaggedAmong 0 n s₁))
         (q : next ≡ to + length (flaggedAmong 0 n s₁)) (from ints : ℕ) (ef : from ≡ at + count) (ei : ints ≡ length (s .interactions)) where
       plain : s₂ ≡ scratch
       plain = e₂ ∙ ap (λ (l : List ℕ). tabulate 0 (length l) (plainBelow n l)) flags-are ∙ plain-again scratch nums n marks-small nums-below nodes-few
@@ -181,14 +182,14 @@ module _ (ws scratch out : List ℕ) (n : ℕ) (f : Finishing ws scratch out n) 
           (λ c m. number-is c (interaction-root c m))
           ∙ ap (flatMap interactionWords) (sym interactions-are)
 
-      next-is : next ≡ 4 + 5 * n + length (g .constraints)
+      next-is : next ≡ place 5 n + length (g .constraints)
       next-is = q ∙ λ i. et i + length (among-are i)
 
-      out₁-is : out₁ ≡ put out (4 + 5 * n) (g .constraints)
+      out₁-is : out₁ ≡ put out (place 5 n) (g .constraints)
       out₁-is = o₁ ∙ λ i. put out (et i) (among-are i)
 
       out₁-length : length out₁ ≡ length out
-      out₁-length = ap length out₁-is ∙ put-length out (4 + 5 * n) (g .constraints) (omega (arith, fits))
+      out₁-length = ap length out₁-is ∙ put-length out (place 5 n) (g .constraints) (omega (arith, fits))
 
       pub interactions-named : NamedInteractions ws s₂ from ints × (next + length (renamedAll ws s₂ from ints) ≤ length out₁)
       interactions-named =
@@ -211,11 +212,11 @@ module _ (ws scratch out : List ℕ) (n : ℕ) (f : Finishing ws scratch out n) 
         end-is end e =
             let k : length (renamedAll ws s₂ from ints) ≡ length (flatMap interactionWords (g .interactions)) = ap length renamed-now in
             let kn : n ≡ length (g .records) = nodes-count ∙ ap length (sym records-are) in
-            omega (arith, next-is, encode-long g)
+            omega (arith, next-is, encode-long g, ap (place 5) kn)
 
         -- What the head asks.
         pub head-asks : (4 ≤ length out₂) × (n < 2 ^ 32) × (next - to < 2 ^ 32) × (ints < 2 ^ 32)
-        head-asks = (omega (arith, fits, out₂-length), omega (arith, nodes-small), omega (arith, next-is, sorted-few), omega (arith, lists-small .1))
+        head-asks = (omega (arith, fits, out₂-length, place-head 5 n), omega (arith, nodes-small), omega (arith, next-is, sorted-few), omega (arith, lists-small .1))
           where
             sorted-few : length (g .constraints) ≤ 1024
             sorted-few =
@@ -228,9 +229,9 @@ module _ (ws scratch out : List ℕ) (n : ℕ) (f : Finishing ws scratch out n) 
             let kn : n ≡ N = nodes-count ∙ ap length (sym records-are) in
             let kc : next - to ≡ length (g .constraints) = omega (arith, next-is) in
             let ki : ints ≡ length (g .interactions) = ei ∙ sym (length-map (s .interactions) (renamed (B .num))) ∙ ap length (sym interactions-are) in
-            let kx : next ≡ 4 + 5 * N + length (g .constraints) = next-is ∙ ap (λ (m : ℕ). 4 + 5 * m + length (g .constraints)) kn in
+            let kx : next ≡ place 5 N + length (g .constraints) = next-is ∙ ap (λ (m : ℕ). place 5 m + length (g .constraints)) kn in
             let ko : out ≡ nodesOut (length out) (g .records) = f .holds .out-is ∙ ap (nodesOut (length out)) (sym records-are) in
-            let w : out₂ ≡ put (put (nodesOut (length out) (g .records)) (4 + 5 * N) (g .constraints)) (4 + 5 * N + length (g .constraints)) (flatMap interactionWords (g .interactions)) =
-            o₂ ∙ (λ i. put (out₁-is i) (kx i) (renamed-now i)) ∙ (λ i. put (put (ko i) (4 + 5 * kn i) (g .constraints)) (4 + 5 * N + length (g .constraints)) (flatMap interactionWords (g .interactions))) in
+            let w : out₂ ≡ put (put (nodesOut (length out) (g .records)) (place 5 N) (g .constraints)) (place 5 N + length (g .constraints)) (flatMap interactionWords (g .interactions)) =
+            o₂ ∙ (λ i. put (out₁-is i) (kx i) (renamed-now i)) ∙ (λ i. put (put (ko i) (place 5 (kn i)) (g .constraints)) (place 5 N + length (g .constraints)) (flatMap interactionWords (g .interactions))) in
             (λ i. sets (w i) 0 (1 ∷ kn i ∷ kc i ∷ ki i ∷ []))
             ∙ graph-words (length out) g (unfold lengthOf in (omega (arith, graph-fits ws (f .checked), f .room)))

@@ -2,14 +2,14 @@
 use mathlib.Core.Path.{_≡_, refl, sym, ap, subst, _∙_}
 use mathlib.Core.Bool.{false}
 use mathlib.Core.List.{List, _∷_}
-use Prim.Native.Nat.{ℕ, _+_, _*_, _≤_, _<_}
+use Prim.Native.Nat.{ℕ, _+_, _≤_, _<_}
 use native.Mathlib.Omega.{arith}
 use lib.Dec.{eqb}
 use lib.ListN.{length}
 use borrow.Author.Tests.{eq-eqb}
 use Rattle.semantics.specs.Arithmetic.{prime}
 use Rattle.semantics.specs.Answer.{good}
-use Rattle.semantics.specs.Sheet.{Record, Each, GoodRecord}
+use Rattle.semantics.specs.Sheet.{Record, place, Each, GoodRecord}
 use Rattle.semantics.specs.Check.{readSheet, check}
 use Rattle.semantics.specs.Value.{nodeOf}
 use Rattle.semantics.specs.Walk.{children, member}
@@ -17,6 +17,7 @@ use Rattle.semantics.specs.Graph as graph
 use Rattle.semantics.specs.Graph.{Built, setNum, takeIn, addRecord, build, find, intern}
 use Rattle.semantics.proofs.Basics.{cond-true}
 use Rattle.semantics.proofs.Members.{mem-here}
+use Rattle.semantics.proofs.Places.{place-most}
 use Rattle.semantics.proofs.Records.{LowRecord, each-low}
 use Rattle.records.specs.Access.{recordsOf}
 use Rattle.records.specs.Orders.{Order, There}
@@ -76,5 +77,7 @@ module _ (ws : List ℕ) (checked : check prime ws ≡ good (readSheet ws)) wher
         search-none = from-none q ns lows from f
 
       -- Room for its node.
-      pub room-more : (scratch out : List ℕ) (n : ℕ) → Holds ws done scratch out n → 4 + 5 * E ≤ length out → 4 + 5 * (n + 1) ≤ length out
-      room-more scratch out n h room = omega (arith, h .count-is, states.few-nodes ws checked done r o l new)
+      pub room-more : (scratch out : List ℕ) (n : ℕ) → Holds ws done scratch out n → place 5 E ≤ length out → place 5 (n + 1) ≤ length out
+      room-more scratch out n h room =
+          let few : n + 1 ≤ E = omega (arith, h .count-is, states.few-nodes ws checked done r o l new) in
+          omega (arith, place-most 5 (n + 1) E few)

@@ -2,14 +2,14 @@
 use mathlib.Core.Path.{_≡_, refl, sym, ap, _∙_}
 use mathlib.Core.Bool.{cond}
 use mathlib.Core.List.{List}
-use Prim.Native.Nat.{ℕ, suc, _+_, _*_, _-_, _≤_, _<_}
+use Prim.Native.Nat.{ℕ, suc, _+_, _-_, _≤_, _<_}
 use native.Mathlib.Omega.{arith}
 use lib.Dec.{eqb}
 use lib.ListN.{length, getD}
 use borrow.Author.Tests.{eqb-true, eqb-false}
 use Rattle.semantics.specs.Arithmetic.{prime}
 use Rattle.semantics.specs.Answer.{good}
-use Rattle.semantics.specs.Sheet.{Record}
+use Rattle.semantics.specs.Sheet.{Record, place}
 use Rattle.semantics.specs.Check.{readSheet, check}
 use Rattle.semantics.specs.Value.{Node, nodeOf, recordAt}
 use Rattle.semantics.specs.Walk.{childrenAt}
@@ -17,6 +17,7 @@ use Rattle.semantics.specs.Graph as graph
 use Rattle.semantics.specs.Graph.{Built, nodeFor, pick, addRule, subRule, negRule, mulRule}
 use Rattle.semantics.proofs.Basics.{by-test}
 use Rattle.semantics.proofs.Members.{Mem}
+use Rattle.semantics.proofs.Places.{place-below}
 use Rattle.semantics.proofs.Orders.{distinct-length}
 use Rattle.records.specs.declared.Record as declared
 use Rattle.records.specs.Access.{fiveWords, nodeIn, recordsOf}
@@ -92,14 +93,15 @@ module _ (ws : List ℕ) (checked : check prime ws ≡ good (readSheet ws)) (r :
         num-is : getD scratch c 0 ≡ suc (B .num c)
         num-is = states.scratch-num ws done scratch out n h c below (there c m)
 
-        pub child-there : 4 + 5 * length (recordsOf ws) ≤ length out
-            → (c < length scratch) × (0 < getD scratch c 0) × (4 + 5 * (getD scratch c 0 - 1) + 5 ≤ length out)
+        pub child-there : place 5 (length (recordsOf ws)) ≤ length out
+            → (c < length scratch) × (0 < getD scratch c 0) × (place 5 (getD scratch c 0 - 1) + 5 ≤ length out)
         child-there room =
             let few = states.kept ws checked done o .few in
-            let d = distinct-length (length (recordsOf ws)) done (o .distinct) (o .below) in (
+            let d = distinct-length (length (recordsOf ws)) done (o .distinct) (o .below) in
+            let small : getD scratch c 0 - 1 < length (recordsOf ws) = omega (arith, num-is, states.num-below ws checked done o c (there c m)) in (
               omega (arith, below, states.scratch-length ws done scratch out n h),
               omega (arith, num-is),
-              omega (arith, num-is, states.num-below ws checked done o c (there c m)),
+              omega (arith, place-below 5 _ _ small),
             )
 
         module _ (x : Child) (f : Reads scratch out c x) where

@@ -1,9 +1,10 @@
 -- Adding the records that some words name.
 use mathlib.Core.Path.{_≡_, refl, sym, subst, _∙_}
 use mathlib.Core.List.{List, [], _++_}
-use Prim.Native.Nat.{ℕ, suc, _+_, _*_, _≤_, _<_}
+use Prim.Native.Nat.{ℕ, suc, _+_, _≤_, _<_}
 use native.Mathlib.Omega.{arith}
 use lib.ListN.{length, getD}
+use Rattle.semantics.specs.Sheet.{place}
 use Rattle.semantics.specs.Walk.{childrenAt, foldLeft, visit}
 use Rattle.semantics.proofs.Members.{Below}
 use Rattle.records.specs.Access.{recordsOf, part, messageLength, countAt, fieldsAt, rootWords, NamesInside, RootsInside, AllRootsInside}
@@ -35,7 +36,7 @@ module _ (ws : List ℕ) where
       → Walks ws roots s o n s₁ o₁ n₁ → Walking ws s₁ o₁ n₁
   walking-after roots b s o n s₁ o₁ n₁ p k f = record {
     checked = p .checked;
-    room = subst (λ (j : ℕ). 4 + 5 * E ≤ j) (sym k) (p .room);
+    room = subst (λ (j : ℕ). place 5 E ≤ j) (sym k) (p .room);
     done = foldLeft (visit (childrenAt (recordsOf ws)) E) (p .done) roots;
     order = order-walk ws (p .checked) roots b (p .done) (p .order);
     holds = f (p .done) (p .order) (p .holds);

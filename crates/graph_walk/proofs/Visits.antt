@@ -2,7 +2,7 @@
 use mathlib.Core.Path.{_≡_, refl, sym, ap, subst, _∙_}
 use mathlib.Core.Bool.{false}
 use mathlib.Core.List.{List, [], _∷_}
-use Prim.Native.Nat.{ℕ, zero, suc, _+_, _*_, _≤_, _<_}
+use Prim.Native.Nat.{ℕ, zero, suc, _+_, _≤_, _<_}
 use native.Mathlib.Omega.{arith}
 use native.Mathlib.Numerals.{add-one}
 use lib.Dec.{eqb}
@@ -10,6 +10,7 @@ use lib.ListN.{length, getD}
 use borrow.Author.Tests.{eqb-true, eqb-false}
 use Rattle.semantics.specs.Arithmetic.{prime}
 use Rattle.semantics.specs.Answer.{good}
+use Rattle.semantics.specs.Sheet.{place}
 use Rattle.semantics.specs.Check.{readSheet, check}
 use Rattle.semantics.specs.Walk.{childrenAt, member, visit}
 use Rattle.semantics.proofs.Basics.{by-test}
@@ -119,7 +120,7 @@ module _ (ws : List ℕ) (r : ℕ) (s₀ o₀ : List ℕ) (n : ℕ) (p : Ready w
       ready-again = record {
         checked = p .checked;
         inside = p .inside;
-        room = subst (λ (j : ℕ). 4 + 5 * length (recordsOf ws) ≤ j) (sym (h .out-length)) (p .room);
+        room = subst (λ (j : ℕ). place 5 (length (recordsOf ws)) ≤ j) (sym (h .out-length)) (p .room);
         done = soFar ws r i (p .done);
         order = order-far ws (p .checked) r (p .inside) k i (p .done) (p .order);
         holds = h .visits (p .done) (p .order) (p .holds);

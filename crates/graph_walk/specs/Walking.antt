@@ -2,11 +2,11 @@
 use mathlib.Core.Path.{_≡_}
 use mathlib.Core.Bool.{false, cond}
 use mathlib.Core.List.{List}
-use Prim.Native.Nat.{ℕ, _+_, _*_, _≤_, _<_}
+use Prim.Native.Nat.{ℕ, _≤_, _<_}
 use lib.Dec.{eqb}
 use lib.ListN.{length}
 use Rattle.semantics.specs.Answer.{good}
-use Rattle.semantics.specs.Sheet.{Record}
+use Rattle.semantics.specs.Sheet.{Record, place}
 use Rattle.semantics.specs.Check.{primeOf, readSheet, check}
 use Rattle.semantics.specs.Walk.{member}
 use Rattle.semantics.specs.Value.{nodeOf, recordAt}
@@ -19,7 +19,7 @@ use Rattle.nodes.specs.Memory.{builtOf, Holds}
 pub record Ready (ws : List ℕ) (r : ℕ) (scratch out : List ℕ) (n : ℕ) : Type 0 where
   pub checked : check (primeOf ws) ws ≡ good (readSheet ws)
   pub inside : r < length (recordsOf ws)
-  pub room : 4 + 5 * length (recordsOf ws) ≤ length out
+  pub room : place 5 (length (recordsOf ws)) ≤ length out
   pub done : List ℕ
   pub order : Order ws done
   pub holds : Holds ws done scratch out n
@@ -40,7 +40,7 @@ childOf m i = cond (eqb i 0) (m .a) (cond (eqb (m .kind) 8) (m .a) (m .b))
 -- What adding records asks when none is said: a checked sheet, and room for as many nodes as records.
 pub record Walking (ws scratch out : List ℕ) (n : ℕ) : Type 0 where
   pub checked : check (primeOf ws) ws ≡ good (readSheet ws)
-  pub room : 4 + 5 * length (recordsOf ws) ≤ length out
+  pub room : place 5 (length (recordsOf ws)) ≤ length out
   pub done : List ℕ
   pub order : Order ws done
   pub holds : Holds ws done scratch out n

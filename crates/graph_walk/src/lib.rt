@@ -2,10 +2,11 @@
 ghost use mathlib.Core.Path.{_≡_};
 ghost use mathlib.Core.Bool.{false, cond};
 ghost use mathlib.Core.List.{List, _∷_, _++_};
-ghost use Prim.Native.Nat.{ℕ, suc, _+_, _-_, _*_, _≤_, _<_};
+ghost use Prim.Native.Nat.{ℕ, suc, _+_, _-_, _≤_, _<_};
 ghost use lib.Dec.{eqb};
 ghost use lib.ListN.{length, getD};
 ghost use Rattle.semantics.specs.Arithmetic.{prime};
+ghost use Rattle.semantics.specs.Sheet.{place};
 ghost use Rattle.semantics.specs.Graph.{addRule, subRule, mulRule};
 ghost use Rattle.semantics.specs.Walk.{member, visit, childrenAt};
 ghost use Rattle.records.specs.Access.{nodeIn, recordsOf, part, fieldsAt, countAt, rootWords, NamesInside, RootsInside, AllRootsInside};
@@ -19,7 +20,7 @@ use nodes::rules::Pick;
 
 // What the rules look at in the node of a record that is added.
 fn built_child(scratch: &[u32], out: &[u32], c: usize) -> Child
-    requires { ⌜ (c < length (now scratch)) × (0 < getD (now scratch) c 0) × (4 + 5 * (getD (now scratch) c 0 - 1) + 5 ≤ length (now out)) ⌝ }
+    requires { ⌜ (c < length (now scratch)) × (0 < getD (now scratch) c 0) × (place 5 (getD (now scratch) c 0 - 1) + 5 ≤ length (now out)) ⌝ }
     ensures { λ x. ⌜ (x .number ≡ getD (now (scratch .entry)) c 0 - 1) × (x .kind ≡ nodeIn (now (out .entry)) (getD (now (scratch .entry)) c 0 - 1) .kind) × (x .a ≡ nodeIn (now (out .entry)) (getD (now (scratch .entry)) c 0 - 1) .a) ⌝ }
 {
     nodes::child(out, scratch[c] - 1)
@@ -80,7 +81,7 @@ fn add_record(sheet: &[u32], scratch: &mut [u32], out: &mut [u32], r: usize, n: 
 
 // The child to which the walk goes from a record with children: left at first, then right; a Neg's only one both times, which changes nothing the second time.
 fn child_at(sheet: &[u32], r: usize, i: usize) -> usize
-    requires { ⌜ 4 + 5 * r + 5 ≤ length (now sheet) ⌝ }
+    requires { ⌜ place 5 r + 5 ≤ length (now sheet) ⌝ }
     ensures { λ x. ⌜ x ≡ childOf (nodeIn (now (sheet .entry)) r) i ⌝ }
 {
     if i == 0 {

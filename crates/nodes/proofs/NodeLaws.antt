@@ -3,20 +3,19 @@ use mathlib.Core.Path.{_≡_, refl, sym, _∙_, ap, subst}
 use mathlib.Core.Logic.{⊎-elim}
 use mathlib.Core.Bool.{Bool, true, false}
 use mathlib.Core.List.{List, [], _∷_, _++_, flatMap, append-assoc, append-nil}
-use Prim.Native.Nat.{ℕ, zero, suc, _+_, _*_, _-_, _≤_, _<_}
-use native.Mathlib.Nat.{eq-or-lt-of-le, sub-zero}
+use Prim.Native.Nat.{ℕ, zero, suc, _+_, _-_, _≤_, _<_}
+use native.Mathlib.Nat.{eq-or-lt-of-le, sub-zero, add-zero}
 use native.Mathlib.Omega.{arith}
 use lib.Dec.{ltb}
 use lib.ListN.{length, getD, drop, replicate, length-append, length-replicate}
-use lib.Seq.{getD-append-add, drop-append-add, take-at, sets, sets-eq}
+use lib.Seq.{drop-append-add, take-at, sets, sets-eq}
 use borrow.Author.Tests.{ltb-true, ltb-false, lt-ltb, le-ltb}
-use Rattle.semantics.specs.Sheet.{Record, recordOf, recordWords}
+use Rattle.semantics.specs.Sheet.{Record, recordOf, recordWords, place}
 use Rattle.semantics.specs.Value.{nodeOf, noRecord, recordAt}
 use Rattle.semantics.specs.Graph.{equalRecords, find, intern}
 use Rattle.semantics.specs.Call.{zeros, padded}
 use Rattle.semantics.proofs.Basics.{cond-true, cond-false}
-use Rattle.semantics.proofs.Encoding.{records-length}
-use Rattle.semantics.proofs.Access.{word-at}
+use Rattle.semantics.proofs.Places.{place-next, place-word, record-wide, records-end}
 use Rattle.records.specs.Access.{nodeIn}
 use Rattle.nodes.specs.declared.rules.Child.{Child}
 use Rattle.nodes.specs.Picks.{viewOf}
@@ -25,29 +24,29 @@ use Rattle.nodes.specs.Nodes.{NoneBefore, FirstEqual}
 use Rattle.nodes.proofs.RuleLaws.{seen}
 
 -- Where the words of the nodes stand.
-record-wide : (r : Record) → length (recordWords r) ≡ 5
-unfolding recordWords
-record-wide r = refl
+four : length (zeros 4) ≡ 4
+unfolding zeros
+four = refl
 
 module _ (ws : List ℕ) (lent : ℕ) (ns : List Record) (e : ws ≡ nodesOut lent ns) (i : ℕ) (h : i < length ns) where
-  node-word : (j k : ℕ) → 4 + (5 * i + j) ≡ k → j < 5 → getD ws k 0 ≡ getD (recordWords (recordAt ns i)) j 0
-  unfolding nodesOut padded zeros recordAt
-  node-word j k q l =
-      let rest : List ℕ = replicate (lent - length (replicate 4 0 ++ flatMap recordWords ns)) 0 in
-      ap (λ (n : ℕ). getD ws n 0) (sym q)
-      ∙ ap (λ (u : List ℕ). getD u (4 + (5 * i + j)) 0) e
-      ∙ getD-append-add (replicate 4 0) (flatMap recordWords ns ++ rest) (5 * i + j) 0
-      ∙ word-at recordWords 5 record-wide ns rest noRecord i j h l
+  node-word : (j : ℕ) → j < 5 → getD ws (place 5 i + j) 0 ≡ getD (recordWords (recordAt ns i)) j 0
+  unfolding nodesOut padded recordAt
+  node-word j l =
+      let behind : List ℕ = zeros (lent - length (zeros 4 ++ flatMap recordWords ns)) in
+      ap (λ (u : List ℕ). getD u (place 5 i + j) 0) (e ∙ append-assoc (zeros 4) (flatMap recordWords ns) behind)
+      ∙ place-word recordWords 5 record-wide (zeros 4) four ns behind noRecord i j h l
+
+  first-word : getD ws (place 5 i) 0 ≡ getD (recordWords (recordAt ns i)) 0 0
+  first-word = ap (λ (n : ℕ). getD ws n 0) (sym (add-zero (place 5 i))) ∙ node-word 0 (omega arith)
 
   pub node-in : nodeIn ws i ≡ recordAt ns i
   unfolding recordWords
   node-in =
-      let k = node-word 0 (4 + 5 * i) (omega arith) (omega arith) in
-      let a = node-word 1 (4 + 5 * i + 1) (omega arith) (omega arith) in
-      let b = node-word 2 (4 + 5 * i + 2) (omega arith) (omega arith) in
-      let c = node-word 3 (4 + 5 * i + 3) (omega arith) (omega arith) in
-      let d = node-word 4 (4 + 5 * i + 4) (omega arith) (omega arith) in
-      λ t. record { kind = k t; a = a t; b = b t; c = c t; d = d t }
+      let a = node-word 1 (omega arith) in
+      let b = node-word 2 (omega arith) in
+      let c = node-word 3 (omega arith) in
+      let d = node-word 4 (omega arith) in
+      λ t. record { kind = first-word t; a = a t; b = b t; c = c t; d = d t }
 
   -- A child that holds the node's kind and its word a is as good as the node to the rules.
   pub child-sees : (x : Child) → x .kind ≡ nodeIn ws i .kind → x .a ≡ nodeIn ws i .a → viewOf x ≡ seen (recordAt ns i)
@@ -76,12 +75,13 @@ pad-more ws vs lent n e h =
     ∙ drop-zeros (length vs) (lent - length ws) ∙ ap (λ (j : ℕ). replicate j 0) m in
     sets-eq vs (ws ++ zs) n (simp (length-append, length-replicate) (omega arith)) ∙ λ i. (take-at ws zs n e i ++ vs) ++ d i
 
-pub nodes-more : (lent : ℕ) (ns : List Record) (q : Record) → 4 + 5 * (length ns + 1) ≤ lent
-    → sets (nodesOut lent ns) (4 + 5 * length ns) (recordWords q) ≡ nodesOut lent (ns ++ (q ∷ []))
+pub nodes-more : (lent : ℕ) (ns : List Record) (q : Record) → place 5 (length ns + 1) ≤ lent
+    → sets (nodesOut lent ns) (place 5 (length ns)) (recordWords q) ≡ nodesOut lent (ns ++ (q ∷ []))
 unfolding nodesOut
 nodes-more lent ns q h =
     let ws : List ℕ = zeros 4 ++ flatMap recordWords ns in
-    pad-more ws (recordWords q) lent (4 + 5 * length ns) (length-append (zeros 4) (flatMap recordWords ns) ∙ unfold zeros in (omega (arith, records-length ns))) (omega (arith, record-wide q))
+    pad-more ws (recordWords q) lent (place 5 (length ns))
+    (length-append (zeros 4) (flatMap recordWords ns) ∙ omega (arith, four, records-end ns)) (omega (arith, record-wide q, place-next 5 (length ns)))
     ∙ ap (λ (l : List ℕ). padded l lent) (append-assoc (zeros 4) (flatMap recordWords ns) (recordWords q) ∙ ap (λ (l : List ℕ). zeros 4 ++ l) (sym (flat-snoc ns q)))
 
 -- The first equal node is what `find` says.
@@ -120,12 +120,13 @@ module _ (ws : List ℕ) (ns : List Record) (e : ws ≡ nodesOut (length ws) ns)
       (found-is, e ∙ ap (nodesOut (length ws)) same, z ∙ ap length same)
 
   -- It is not, and is written behind the others.
-  pub is-new : n ≤ x → 4 + 5 * (n + 1) ≤ length ws → (ws′ : List ℕ) → ws′ ≡ sets ws (4 + 5 * n) (recordWords q)
+  pub is-new : n ≤ x → place 5 (n + 1) ≤ length ws → (ws′ : List ℕ) → ws′ ≡ sets ws (place 5 n) (recordWords q)
       → (n ≡ find q ns) × (ws′ ≡ nodesOut (length ws) (intern q ns)) × (n + 1 ≡ length (intern q ns))
   unfolding intern
   is-new h room ws′ w =
       let more : ns ++ (q ∷ []) ≡ intern q ns = sym (cond-false (ltb (find q ns) (length ns)) ns (ns ++ (q ∷ [])) (le-ltb (find q ns) (length ns) (omega (arith, found-is)))) in (
         omega (arith, found-is, f .inside),
-        w ∙ (λ i. sets (e i) (4 + 5 * z i) (recordWords q)) ∙ nodes-more (length ws) ns q (omega arith) ∙ ap (nodesOut (length ws)) more,
+        w ∙ (λ i. sets (e i) (place 5 (z i)) (recordWords q))
+        ∙ nodes-more (length ws) ns q (omega (arith, ap (λ (k : ℕ). place 5 (k + 1)) z)) ∙ ap (nodesOut (length ws)) more,
         ap (λ (k : ℕ). k + 1) z ∙ sym (length-append ns (q ∷ [])) ∙ ap length more,
       )

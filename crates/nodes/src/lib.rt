@@ -1,9 +1,10 @@
 // The nodes in the output, which are the records of the graph.
 ghost use mathlib.Core.Path.{_≡_};
 ghost use mathlib.Core.List.{List};
-ghost use Prim.Native.Nat.{_+_, _*_, _≤_};
+ghost use Prim.Native.Nat.{_+_, _≤_};
 ghost use lib.ListN.{length};
 ghost use Rattle.semantics.specs.Sheet as semantics;
+ghost use Rattle.semantics.specs.Sheet.{place};
 ghost use Rattle.semantics.specs.Value.{nodeOf};
 ghost use Rattle.semantics.specs.Walk.{children};
 ghost use Rattle.semantics.specs.Graph.{find, intern};
@@ -24,7 +25,7 @@ pub struct Interned {
 
 // What the rules look at in a node.
 pub fn child(out: &[u32], number: u32) -> Child
-    requires { ⌜ 4 + 5 * number + 5 ≤ length (now out) ⌝ }
+    requires { ⌜ place 5 number + 5 ≤ length (now out) ⌝ }
     ensures { λ x. ⌜ (x .number ≡ number) × (x .kind ≡ nodeIn (now (out .entry)) number .kind) × (x .a ≡ nodeIn (now (out .entry)) number .a) ⌝ }
 {
     let m = records::record_at(out, answers::wide(number));
@@ -56,7 +57,7 @@ pub fn search_from(r: Record) -> usize
 
 // The first node from `from` on that is equal, or the number of nodes.
 fn find_node(out: &[u32], n: usize, from: usize, r: Record) -> usize
-    requires { ⌜ (from ≤ n) × (4 + 5 * n ≤ length (now out)) ⌝ }
+    requires { ⌜ (from ≤ n) × (place 5 n ≤ length (now out)) ⌝ }
     ensures { λ x. ⌜ FirstEqual (now (out .entry)) n from (fiveWords r) x ⌝ }
 {
     let mut i = from;
@@ -71,7 +72,7 @@ fn find_node(out: &[u32], n: usize, from: usize, r: Record) -> usize
 
 // The node equal to r, which no node below `from` is; appended where there is none.
 pub fn intern_node(out: &mut [u32], n: usize, from: usize, r: Record) -> Interned
-    requires { ⌜ (from ≤ n) × (4 + 5 * (n + 1) ≤ length (now out)) ⌝ }
+    requires { ⌜ (from ≤ n) × (place 5 (n + 1) ≤ length (now out)) ⌝ }
     ensures { λ x. ⌜ ((ns : List semantics.Record) → now (out .entry) ≡ nodesOut (length (now (out .entry))) ns → n ≡ length ns → NoneBefore from (fiveWords r) ns → (x .index ≡ find (fiveWords r) ns) × (now (out .exit) ≡ nodesOut (length (now (out .entry))) (intern (fiveWords r) ns)) × (x .count ≡ length (intern (fiveWords r) ns))) ⌝ }
 {
     let at = find_node(out, n, from, r);

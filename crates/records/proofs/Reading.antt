@@ -10,7 +10,8 @@ use Rattle.semantics.specs.Arithmetic.{prime}
 use Rattle.semantics.specs.Answer.{good}
 use Rattle.semantics.specs.Sheet.{Sheet, Interaction, Each, GoodInteraction, headWords, recordWords, interactionWords}
 use Rattle.semantics.specs.Check.{readSheet, check}
-use Rattle.semantics.proofs.Encoding.{records-length, head-limits, check-sound, sheet-back}
+use Rattle.semantics.proofs.Places.{place-head, records-end, records-limit}
+use Rattle.semantics.proofs.Encoding.{head-limits, check-sound, sheet-back}
 use Rattle.semantics.proofs.Access.{spare, words-are, words-count, count-words, constraint-word, interactions-from}
 use Rattle.semantics.proofs.Members.{mem-getD}
 use Rattle.semantics.proofs.GraphSheets.{named-below, interaction-facts}
@@ -141,11 +142,11 @@ roots-inside bound rest ws at (x ∷ xs) e k g =
 module _ (ws : List ℕ) (h : check prime ws ≡ good (readSheet ws)) where
   front-length : length (headWords (readSheet ws) ++ flatMap recordWords (readSheet ws .records)) ≡ constraintsAt ws
   unfolding headWords
-  front-length = simp records-length (omega arith)
+  front-length = simp length-append (omega (arith, records-end (recordsOf ws)))
 
   -- The head.
   pub head-inside : 4 ≤ length ws
-  head-inside = omega (arith, words-count prime ws (readSheet ws) h)
+  head-inside = omega (arith, words-count prime ws (readSheet ws) h, place-head 5 (length (recordsOf ws)))
 
   pub head-counts : (getD ws 1 0 ≡ length (recordsOf ws)) × (getD ws 2 0 ≡ length (readSheet ws .constraints)) × (getD ws 3 0 ≡ length (readSheet ws .interactions))
   head-counts = count-words prime ws (readSheet ws) h
@@ -161,6 +162,10 @@ module _ (ws : List ℕ) (h : check prime ws ≡ good (readSheet ws)) where
       (words-are prime ws (readSheet ws) h ∙ sym (append-assoc (headWords (readSheet ws)) (flatMap recordWords (readSheet ws .records)) _))
       ∙ ap (take (length cs)) (drop-at front _ (constraintsAt ws) front-length)
       ∙ take-append-seam cs _
+
+  -- The places that are computed from the counts are inside the words.
+  pub places-small : (constraintsAt ws ≤ 20484) × (interactionsAt ws ≤ 21508)
+  places-small = let r = records-limit (length (recordsOf ws)) (counts-small .0) in (r, omega (arith, counts-small))
 
   pub constraints-inside : NamesInside ws (constraintsAt ws) (length (readSheet ws .constraints))
   constraints-inside = record {

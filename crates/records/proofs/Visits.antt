@@ -2,14 +2,15 @@
 use mathlib.Core.Path.{_≡_, refl, sym, ap, subst, _∙_}
 use mathlib.Core.Bool.{Bool, true, false}
 use mathlib.Core.List.{List, [], _∷_}
-use Prim.Native.Nat.{ℕ, suc, _+_, _*_, _≤_, _<_}
+use Prim.Native.Nat.{ℕ, suc, _+_, _≤_, _<_}
+use native.Mathlib.Nat.{add-zero}
 use native.Mathlib.Omega.{arith}
 use lib.Dec.{eqb, leb}
 use lib.ListN.{length, getD}
 use borrow.Author.Tests.{eqb-true, eqb-false, leb-true}
 use Rattle.semantics.specs.Arithmetic.{prime}
 use Rattle.semantics.specs.Answer.{good}
-use Rattle.semantics.specs.Sheet.{Record, recordWords, GoodRecord}
+use Rattle.semantics.specs.Sheet.{Record, recordWords, place, GoodRecord}
 use Rattle.semantics.specs.Check.{readSheet, check}
 use Rattle.semantics.specs.Value.{Node, nodeOf, noRecord, recordAt}
 use Rattle.semantics.specs.Walk.{children, childrenAt, member, foldLeft, visit}
@@ -17,6 +18,7 @@ use Rattle.semantics.proofs.Basics.{by-test, and-true}
 use Rattle.semantics.proofs.Lists.{each-zero}
 use Rattle.semantics.proofs.Members.{Mem, mem-here, mem-there}
 use Rattle.semantics.proofs.Records.{isKind, kind-good}
+use Rattle.semantics.proofs.Places.{place-below}
 use Rattle.semantics.proofs.Access.{record-word, words-count}
 use Rattle.semantics.proofs.Walks.{visit-fuel}
 use Rattle.records.specs.declared.Record as declared
@@ -64,42 +66,35 @@ module _ (ws : List ℕ) (checked : check prime ws ≡ good (readSheet ws)) (r :
       (leb-true _ _ (t .0), leb-true _ _ (t .1))
 
   -- The record's words.
-  pub kind-word : getD ws (4 + (5 * r + 0)) 0 ≡ recordAt (recordsOf ws) r .kind
+  pub kind-word : getD ws (place 5 r) 0 ≡ recordAt (recordsOf ws) r .kind
   unfolding recordWords
-  kind-word = record-word prime ws (readSheet ws) checked r 0 l (omega arith)
+  kind-word = ap (λ (n : ℕ). getD ws n 0) (sym (add-zero (place 5 r))) ∙ record-word prime ws (readSheet ws) checked r 0 l (omega arith)
 
-  pub a-word : getD ws (4 + (5 * r + 1)) 0 ≡ recordAt (recordsOf ws) r .a
+  pub a-word : getD ws (place 5 r + 1) 0 ≡ recordAt (recordsOf ws) r .a
   unfolding recordWords
   a-word = record-word prime ws (readSheet ws) checked r 1 l (omega arith)
 
-  pub b-word : getD ws (4 + (5 * r + 2)) 0 ≡ recordAt (recordsOf ws) r .b
+  pub b-word : getD ws (place 5 r + 2) 0 ≡ recordAt (recordsOf ws) r .b
   unfolding recordWords
   b-word = record-word prime ws (readSheet ws) checked r 2 l (omega arith)
 
-  pub c-word : getD ws (4 + (5 * r + 3)) 0 ≡ recordAt (recordsOf ws) r .c
+  pub c-word : getD ws (place 5 r + 3) 0 ≡ recordAt (recordsOf ws) r .c
   unfolding recordWords
   c-word = record-word prime ws (readSheet ws) checked r 3 l (omega arith)
 
-  pub d-word : getD ws (4 + (5 * r + 4)) 0 ≡ recordAt (recordsOf ws) r .d
+  pub d-word : getD ws (place 5 r + 4) 0 ≡ recordAt (recordsOf ws) r .d
   unfolding recordWords
   d-word = record-word prime ws (readSheet ws) checked r 4 l (omega arith)
 
-  pub record-inside : 4 + 5 * r + 5 ≤ length ws
-  record-inside = omega (arith, words-count prime ws (readSheet ws) checked)
+  pub record-inside : place 5 r + 5 ≤ length ws
+  record-inside = omega (arith, words-count prime ws (readSheet ws) checked, place-below 5 r (length (recordsOf ws)) l)
 
   abbrev R : Record
   R = recordAt (recordsOf ws) r
 
   -- The record in the sheet.
   pub record-is : nodeIn ws r ≡ R
-  record-is =
-      let at : (j k : ℕ) → j ≡ k → getD ws j 0 ≡ getD ws k 0 = λ j k e. ap (λ (n : ℕ). getD ws n 0) e in
-      let k = at (4 + 5 * r) (4 + (5 * r + 0)) (omega arith) ∙ kind-word in
-      let a = at (4 + 5 * r + 1) (4 + (5 * r + 1)) (omega arith) ∙ a-word in
-      let b = at (4 + 5 * r + 2) (4 + (5 * r + 2)) (omega arith) ∙ b-word in
-      let c = at (4 + 5 * r + 3) (4 + (5 * r + 3)) (omega arith) ∙ c-word in
-      let d = at (4 + 5 * r + 4) (4 + (5 * r + 4)) (omega arith) ∙ d-word in
-      λ t. record { kind = k t; a = a t; b = b t; c = c t; d = d t }
+  record-is = λ t. record { kind = kind-word t; a = a-word t; b = b-word t; c = c-word t; d = d-word t }
 
   -- The five words that were read are the record's.
   module _ (q : declared.Record) (e : fiveWords q ≡ nodeIn ws r) where

@@ -1,9 +1,9 @@
 -- Where a sheet's records, constraints and interactions stand in its words (01, "The sheet").
 use mathlib.Core.List.{List, [], _++_}
-use Prim.Native.Nat.{ℕ, zero, suc, _+_, _*_, _≤_, _<_}
+use Prim.Native.Nat.{ℕ, zero, suc, _+_, _≤_, _<_}
 use lib.ListN.{length, getD, take, drop}
 use Rattle.semantics.specs.Sheet as semantics
-use Rattle.semantics.specs.Sheet.{recordOf}
+use Rattle.semantics.specs.Sheet.{recordOf, place}
 use Rattle.semantics.specs.Check.{readSheet}
 use Rattle.records.specs.declared.Record.{Record}
 use Rattle.records.specs.declared.Interaction as places
@@ -14,7 +14,7 @@ fiveWords r = recordOf (r .kind) (r .a) (r .b) (r .c) (r .d)
 
 -- The five words of record i.
 abbrev pub nodeIn : List ℕ → ℕ → semantics.Record
-nodeIn ws i = recordOf (getD ws (4 + 5 * i) 0) (getD ws (4 + 5 * i + 1) 0) (getD ws (4 + 5 * i + 2) 0) (getD ws (4 + 5 * i + 3) 0) (getD ws (4 + 5 * i + 4) 0)
+nodeIn ws i = recordOf (getD ws (place 5 i) 0) (getD ws (place 5 i + 1) 0) (getD ws (place 5 i + 2) 0) (getD ws (place 5 i + 3) 0) (getD ws (place 5 i + 4) 0)
 
 -- The records that the words say.
 abbrev pub recordsOf : List ℕ → List semantics.Record
@@ -22,7 +22,7 @@ recordsOf ws = readSheet ws .records
 
 -- Where the constraints start, and the interactions.
 abbrev pub constraintsAt : List ℕ → ℕ
-constraintsAt ws = 4 + 5 * length (recordsOf ws)
+constraintsAt ws = place 5 (length (recordsOf ws))
 
 abbrev pub interactionsAt : List ℕ → ℕ
 interactionsAt ws = constraintsAt ws + length (readSheet ws .constraints)

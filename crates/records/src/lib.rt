@@ -1,11 +1,11 @@
 // Record access: the one place that knows where a record's words, the constraints and the interactions stand in a sheet.
 ghost use mathlib.Core.Path.{_≡_};
 ghost use mathlib.Core.List.{[], _∷_};
-ghost use Prim.Native.Nat.{_+_, _*_, _^_, _≤_, _<_};
+ghost use Prim.Native.Nat.{_+_, _^_, _≤_, _<_};
 ghost use lib.ListN.{length, getD};
 ghost use lib.Seq.{sets};
 ghost use Rattle.semantics.specs.Answer.{good};
-ghost use Rattle.semantics.specs.Sheet.{recordWords};
+ghost use Rattle.semantics.specs.Sheet.{recordWords, place};
 ghost use Rattle.semantics.specs.Check.{primeOf, readSheet, check};
 ghost use Rattle.semantics.specs.Graph.{equalRecords};
 ghost use Rattle.records.specs.Access.{fiveWords, nodeIn, constraintsAt, interactionsAt, messageLength, interactionFrom};
@@ -21,15 +21,15 @@ pub struct Record {
 
 // Where the first n records end, and record n starts.
 pub fn records_end(n: usize) -> usize
-    requires { ⌜ 4 + 5 * n < 2 ^ 63 ⌝ }
-    ensures { λ r. ⌜ r ≡ 4 + 5 * n ⌝ }
+    requires { ⌜ place 5 n < 2 ^ 63 ⌝ }
+    ensures { λ r. ⌜ r ≡ place 5 n ⌝ }
 {
     4 + 5 * n
 }
 
 // The five words of record r.
 pub fn record_at(sheet: &[u32], r: usize) -> Record
-    requires { ⌜ 4 + 5 * r + 5 ≤ length (now sheet) ⌝ }
+    requires { ⌜ place 5 r + 5 ≤ length (now sheet) ⌝ }
     ensures { λ x. ⌜ fiveWords x ≡ nodeIn (now (sheet .entry)) r ⌝ }
 {
     let at = 4 + 5 * r;
@@ -44,7 +44,7 @@ pub fn record_at(sheet: &[u32], r: usize) -> Record
 
 // The kind of record r.
 pub fn kind_at(sheet: &[u32], r: usize) -> u32
-    requires { ⌜ 4 + 5 * r + 5 ≤ length (now sheet) ⌝ }
+    requires { ⌜ place 5 r + 5 ≤ length (now sheet) ⌝ }
     ensures { λ x. ⌜ x ≡ nodeIn (now (sheet .entry)) r .kind ⌝ }
 {
     sheet[4 + 5 * r]
@@ -52,7 +52,7 @@ pub fn kind_at(sheet: &[u32], r: usize) -> u32
 
 // Its left child, which is a Neg's only one.
 pub fn left_at(sheet: &[u32], r: usize) -> usize
-    requires { ⌜ 4 + 5 * r + 5 ≤ length (now sheet) ⌝ }
+    requires { ⌜ place 5 r + 5 ≤ length (now sheet) ⌝ }
     ensures { λ x. ⌜ x ≡ nodeIn (now (sheet .entry)) r .a ⌝ }
 {
     answers::wide(sheet[4 + 5 * r + 1])
@@ -60,7 +60,7 @@ pub fn left_at(sheet: &[u32], r: usize) -> usize
 
 // Its right child.
 pub fn right_at(sheet: &[u32], r: usize) -> usize
-    requires { ⌜ 4 + 5 * r + 5 ≤ length (now sheet) ⌝ }
+    requires { ⌜ place 5 r + 5 ≤ length (now sheet) ⌝ }
     ensures { λ x. ⌜ x ≡ nodeIn (now (sheet .entry)) r .b ⌝ }
 {
     answers::wide(sheet[4 + 5 * r + 2])
@@ -68,7 +68,7 @@ pub fn right_at(sheet: &[u32], r: usize) -> usize
 
 // Whether record r is equal to q in all five words.
 pub fn same_record(out: &[u32], r: usize, q: Record) -> bool
-    requires { ⌜ 4 + 5 * r + 5 ≤ length (now out) ⌝ }
+    requires { ⌜ place 5 r + 5 ≤ length (now out) ⌝ }
     ensures { λ x. ⌜ x ≡ equalRecords (fiveWords q) (nodeIn (now (out .entry)) r) ⌝ }
 {
     let m = record_at(out, r);
@@ -89,8 +89,8 @@ pub fn same_record(out: &[u32], r: usize, q: Record) -> bool
 
 // Writes q as record r.
 pub fn put_record(out: &mut [u32], r: usize, q: Record)
-    requires { ⌜ 4 + 5 * r + 5 ≤ length (now out) ⌝ }
-    ensures { λ _. ⌜ now (out .exit) ≡ sets (now (out .entry)) (4 + 5 * r) (recordWords (fiveWords q)) ⌝ }
+    requires { ⌜ place 5 r + 5 ≤ length (now out) ⌝ }
+    ensures { λ _. ⌜ now (out .exit) ≡ sets (now (out .entry)) (place 5 r) (recordWords (fiveWords q)) ⌝ }
 {
     let at = records_end(r);
     out[at] = q.kind;

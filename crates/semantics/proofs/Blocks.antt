@@ -14,6 +14,7 @@ use Rattle.semantics.specs.Check.{check}
 use Rattle.semantics.specs.Call.{Result, Accepted, handedBack, needs, result, readerCall, onSheet, writerCall}
 use Rattle.semantics.specs.Block.{wordBytes, wordAt, wordsOf, checkWord, blockGood, badLength, readBlocks, blockBytes, firstWords, writeBlocks, blocksFor}
 use Rattle.semantics.proofs.Basics.{cond-true, cond-false}
+use Rattle.semantics.proofs.Places.{place-head}
 use Rattle.semantics.proofs.Encoding.{check-sound, check-complete, check-inside, sheet-length, length-limit}
 use Rattle.semantics.proofs.Calls.{needs-met, handed-back, accepted}
 
@@ -195,7 +196,7 @@ unfolding blocksFor
 sheet-blocks p s h =
     let l = length-limit p s h in
     let e = sheet-length s in
-    (omega arith, omega arith)
+    (omega (arith, place-head 5 (length (s .records))), omega arith)
 
 pub written-read : (p : ℕ) (ws : List ℕ) (s : Sheet) (out out′ : ℕ) → check p ws ≡ good s → Words (encode s)
     → 512 * blocksFor (lengthOf s) ≤ out → 127 * blocksFor (lengthOf s) ≤ out′

@@ -10,10 +10,11 @@ use lib.ListN.{length, getD, take, drop, replicate, length-append, length-map, l
 use lib.Seq.{take-append-seam, drop-append-seam, drop-at, drop-drop}
 use borrow.Author.Tests.{eqb-true, leb-true}
 use Rattle.semantics.specs.Answer.{Answer, good, refused}
-use Rattle.semantics.specs.Sheet.{Record, Interaction, Sheet, Inside, Each, GoodRecord, GoodInteraction, recordWords, interactionWords, headWords, encode, lengthOf, table, row, fits, recordTests, interactionTests, headTests, names, passes}
+use Rattle.semantics.specs.Sheet.{Record, Interaction, Sheet, Inside, Each, GoodRecord, GoodInteraction, recordWords, interactionWords, headWords, encode, lengthOf, place, table, row, fits, recordTests, interactionTests, headTests, names, passes}
 use Rattle.semantics.specs.Check.{Scan, reading, stopped, scanWords, scanPart, scanParts, scanSpare, scanSheet, readRecord, readRecords, readInteraction, readInteractions, readSheet, judged, check}
 use Rattle.semantics.proofs.Basics.{and-true, true-and, cond-true, tests}
 use Rattle.semantics.proofs.Lists.{each-at, one-by-one}
+use Rattle.semantics.proofs.Places.{records-end, records-limit}
 
 -- The words still to read, and that the scan has not stopped.
 abbrev rest : Scan → List ℕ
@@ -213,15 +214,10 @@ words-then : (s : Sheet) (vs : List ℕ) → encode s ++ vs ≡ wordsThen s vs
 unfolding encode
 words-then s vs = simp append-assoc
 
-pub records-length : (rs : List Record) → length (flatMap recordWords rs) ≡ 5 * length rs
-unfolding flatMap recordWords
-records-length [] = refl
-records-length (r ∷ rs) = omega (arith, records-length rs)
-
 pub sheet-length : (s : Sheet)
-    → lengthOf s ≡ 4 + 5 * length (s .records) + length (s .constraints) + length (flatMap interactionWords (s .interactions))
+    → lengthOf s ≡ place 5 (length (s .records)) + length (s .constraints) + length (flatMap interactionWords (s .interactions))
 unfolding lengthOf encode headWords
-sheet-length s = simp (length-append, records-length) (omega arith)
+sheet-length s = simp length-append (omega (arith, records-end (s .records)))
 
 -- The words of a sheet give the sheet back, whatever stands behind them.
 pub sheet-back : (s : Sheet) (vs : List ℕ) → readSheet (encode s ++ vs) ≡ s
@@ -238,12 +234,12 @@ sheet-back s vs = ap readSheet (words-then s vs) ∙ λ i. record {
     I : List ℕ
     I = flatMap interactionWords (s .interactions) ++ vs
 
-    skip : drop (4 + 5 * length (s .records)) (wordsThen s vs) ≡ s .constraints ++ I
-    skip = drop-at R (s .constraints ++ I) (4 + 5 * length (s .records)) (omega (arith, records-length (s .records)))
+    skip : drop (place 5 (length (s .records))) (wordsThen s vs) ≡ s .constraints ++ I
+    skip = drop-at R (s .constraints ++ I) (place 5 (length (s .records))) (omega (arith, records-end (s .records)))
 
-    skip′ : drop (4 + 5 * length (s .records) + length (s .constraints)) (wordsThen s vs) ≡ I
+    skip′ : drop (place 5 (length (s .records)) + length (s .constraints)) (wordsThen s vs) ≡ I
     skip′ =
-        sym (drop-drop (length (s .constraints)) (4 + 5 * length (s .records)) (wordsThen s vs))
+        sym (drop-drop (length (s .constraints)) (place 5 (length (s .records))) (wordsThen s vs))
         ∙ ap (drop (length (s .constraints))) skip
         ∙ drop-append-seam (s .constraints) I
 
@@ -271,14 +267,14 @@ scan-spare-only (suc room) (reading i (w ∷ ws)) j vs h =
 module _ (p : ℕ) (s : Sheet) (h : Inside p s) (vs : List ℕ) where
   pub scan-to-interactions : scanWords 6 (replicate (length (s .constraints)) (names (length (s .records))))
       (scanParts 5 (recordTests p) (length (s .records)) 0 (scanWords 3 headTests (reading 0 (encode s ++ vs))))
-      ≡ reading (4 + 5 * length (s .records) + length (s .constraints)) (flatMap interactionWords (s .interactions) ++ vs)
+      ≡ reading (place 5 (length (s .records)) + length (s .constraints)) (flatMap interactionWords (s .interactions) ++ vs)
   unfolding headWords
   scan-to-interactions =
       ap (λ (ws : List ℕ). scanC (scanR (scanWords 3 headTests (reading 0 ws)))) (words-then s vs)
       ∙ ap (λ (t : Scan). scanC (scanR t)) (scan-words 3 headTests (headWords s) _ 0 (h .head))
       ∙ ap scanC (scan-records p 5 0 (s .records) _ _ (h .records))
       ∙ scan-words 6 (replicate (length (s .constraints)) (names (length (s .records)))) (s .constraints) _ _ (h .constraints)
-      ∙ ap (λ (n : ℕ). reading n (flatMap interactionWords (s .interactions) ++ vs)) (omega (arith, records-length (s .records)))
+      ∙ ap (λ (n : ℕ). reading n (flatMap interactionWords (s .interactions) ++ vs)) (omega (arith, records-end (s .records)))
     where
       scanR : Scan → Scan
       scanR t = scanParts 5 (recordTests p) (length (s .records)) 0 t
@@ -432,4 +428,5 @@ interactions-limit n own (x ∷ xs) h =
 
 pub length-limit : (p : ℕ) (s : Sheet) → Inside p s → lengthOf s ≤ 90116
 length-limit p s h =
-    omega (arith, sheet-length s, head-limits s (h .head), interactions-limit (length (s .records)) 0 (s .interactions) (h .interactions))
+    let l = head-limits s (h .head) in
+    omega (arith, sheet-length s, l, records-limit (length (s .records)) (l .0), interactions-limit (length (s .records)) 0 (s .interactions) (h .interactions))

@@ -8,7 +8,7 @@ use native.Mathlib.Omega.{arith}
 use lib.Dec.{ltb, leb}
 use lib.ListN.{length, getD, replicate, length-append, length-map}
 use borrow.Author.Tests.{ltb-true, ltb-false, leb-true, lt-ltb, le-leb}
-use Rattle.semantics.specs.Sheet.{Interaction, Sheet, interactionWords, headWords, lengthOf, names, interactionTests, headTests, passes, Each, Named, GoodInteraction, Inside}
+use Rattle.semantics.specs.Sheet.{Interaction, Sheet, interactionWords, headWords, lengthOf, place, names, interactionTests, headTests, passes, Each, Named, GoodInteraction, Inside}
 use Rattle.semantics.specs.Value.{Leaf, valueAt}
 use Rattle.semantics.specs.Walk.{order}
 use Rattle.semantics.specs.Graph.{graphRoots, built, insertOnce, sortedOnce, renamed, graphOf}
@@ -16,6 +16,7 @@ use Rattle.semantics.specs.Demand.{Assignment, noInteraction, constraint
 use Rattle.semantics.proofs.Basics.{by-test, and-true, true-and}
 use Rattle.semantics.proofs.Members.{Mem, mem-here, mem-there, mem-cases, not-in, mem-left, mem-right, mem-either, mem-getD, Below, cons-below, append-below, flat-mem, flat-below, place-of, mem-map, map-below}
 use Rattle.semantics.proofs.Lists.{getD-map}
+use Rattle.semantics.proofs.Places.{place-most}
 use Rattle.semantics.proofs.Encoding.{sheet-length, head-limits}
 use Rattle.semantics.proofs.Records.{each-low}
 use Rattle.semantics.proofs.Orders.{order-closed, order-roots, order-below, order-distinct, distinct-length}
@@ -291,8 +292,11 @@ module _ (p : ℕ) (big : 1 < p) (s : Sheet) (w : Inside p s) where
 
   pub graph-shorter : lengthOf (graphOf p s) ≤ lengthOf s
   graph-shorter =
-      omega (arith, sheet-length (graphOf p s), sheet-length s, graph-few, few-constraints, same-words)
+      omega (arith, sheet-length (graphOf p s), sheet-length s, few-records, few-constraints, same-words)
     where
+      few-records : place 5 (length (graphOf p s .records)) ≤ place 5 (length (s .records))
+      few-records = place-most 5 _ _ graph-few
+
       same-words : length (flatMap interactionWords (graphOf p s .interactions)) ≡ length (flatMap interactionWords (s .interactions))
       same-words = unfold graphOf in (renamed-length (built p s .num) (s .interactions))
 

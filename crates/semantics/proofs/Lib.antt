@@ -13,6 +13,7 @@ pub mod Records
 pub mod Orders
 pub mod Rules
 pub mod Graphs
+pub mod Places
 pub mod Encoding
 pub mod GraphSheets
 pub mod Expansions

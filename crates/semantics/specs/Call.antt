@@ -7,7 +7,7 @@ use Prim.Native.Nat.{ℕ, suc, _+_, _*_, _-_, _/_, max}
 use lib.Dec.{eqb, leb}
 use lib.ListN.{length, getD, take, replicate}
 use Rattle.semantics.specs.Answer.{Answer, good, refused, andThen}
-use Rattle.semantics.specs.Sheet.{Record, Interaction, Sheet, recordWords, encode, lengthOf}
+use Rattle.semantics.specs.Sheet.{Record, Interaction, Sheet, recordWords, encode, lengthOf, place}
 use Rattle.semantics.specs.Check.{check}
 use Rattle.semantics.specs.Block.{badLength, readBlocks, writeBlocks, blocksFor, blockCheck}
 use Rattle.semantics.specs.Packing.{packRecord, pack, unpack}
@@ -111,7 +111,7 @@ checkCall p ws =
     outcome [] []
     (onSheet p ws (λ s. result [] (
     length (s .records) ∷ length (s .constraints) ∷ length (s .interactions) ∷ lengthOf s
-    ∷ (4 + 5 * length (s .records) + length (s .constraints)) ∷ [])))
+    ∷ (place 5 (length (s .records)) + length (s .constraints)) ∷ [])))
 
 -- The builder: "Scratch E words; output L words."
 unfoldable pub builderCall : (p : ℕ) (ws : List ℕ) (scratch out : ℕ) → Outcome

@@ -1,12 +1,12 @@
 -- The sheet check (01: "words are read from the front and the first that fails decides").
 use mathlib.Core.Bool.{Bool, cond}
 use mathlib.Core.List.{List, [], _∷_}
-use Prim.Native.Nat.{ℕ, zero, suc, _+_, _*_}
+use Prim.Native.Nat.{ℕ, zero, suc, _+_}
 use lib.Dec.{eqb}
 use lib.ListN.{getD, take, drop, replicate}
 use Rattle.semantics.specs.Arithmetic.{prime}
 use Rattle.semantics.specs.Answer.{Answer, good, refused}
-use Rattle.semantics.specs.Sheet.{Record, Interaction, Sheet, recordOf, recordTests, interactionTests, headTests, names}
+use Rattle.semantics.specs.Sheet.{Record, Interaction, Sheet, recordOf, place, recordTests, interactionTests, headTests, names}
 
 -- So far: the index of the next word and the words from there on, or the refusal with its number and place.
 pub data Scan : Type 0 where
@@ -73,8 +73,8 @@ readInteractions (suc n) ws = readInteraction ws ∷ readInteractions n (drop (4
 unfoldable pub readSheet : List ℕ → Sheet
 readSheet ws = record {
   records = readRecords (getD ws 1 0) (drop 4 ws);
-  constraints = take (getD ws 2 0) (drop (4 + 5 * getD ws 1 0) ws);
-  interactions = readInteractions (getD ws 3 0) (drop (4 + 5 * getD ws 1 0 + getD ws 2 0) ws);
+  constraints = take (getD ws 2 0) (drop (place 5 (getD ws 1 0)) ws);
+  interactions = readInteractions (getD ws 3 0) (drop (place 5 (getD ws 1 0) + getD ws 2 0) ws);
 }
 
 -- The prime of a sheet, by its words.

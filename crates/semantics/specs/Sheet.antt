@@ -2,7 +2,7 @@
 use mathlib.Core.Path.{_≡_}
 use mathlib.Core.Bool.{Bool, true, false, cond, _&&_, _||_}
 use mathlib.Core.List.{List, [], _∷_, _++_, map, flatMap}
-use Prim.Native.Nat.{ℕ, suc, _-_}
+use Prim.Native.Nat.{ℕ, suc, _+_, _*_, _-_}
 use lib.Dec.{eqb, leb, ltb}
 use lib.ListN.{length, getD, replicate}
 
@@ -45,6 +45,10 @@ encode s = headWords s ++ (flatMap recordWords (s .records) ++ (s .constraints +
 -- "L is the sheet's length without spare words."
 unfoldable pub lengthOf : Sheet → ℕ
 lengthOf s = length (encode s)
+
+-- Where record n starts in a sheet whose records have w words each: behind the four words of the head.
+unfoldable pub place : (w n : ℕ) → ℕ
+place w n = 4 + w * n
 
 -- How a kind uses a word: not at all, as an entry, a part, an offset, any word, a constant, or a child's number.
 abbrev pub unused : ℕ

@@ -1,7 +1,7 @@
 -- What the answer of the check tells a caller.
 use mathlib.Core.Path.{_≡_, refl, sym, _∙_, ap}
 use mathlib.Core.List.{List, [], _∷_}
-use Prim.Native.Nat.{ℕ, _+_, _*_, _≤_}
+use Prim.Native.Nat.{ℕ, _+_, _≤_}
 use native.Mathlib.Omega.{arith}
 use lib.ListN.{length, getD, take}
 use lib.Seq.{take-at}
@@ -22,7 +22,7 @@ headOf t = record {
   records = length (t .records);
   constraints = length (t .constraints);
   interactions = length (t .interactions);
-  start = 4 + 5 * length (t .records) + length (t .constraints);
+  start = semantics.place 5 (length (t .records)) + length (t .constraints);
   words = semantics.lengthOf t;
 }
 
@@ -37,7 +37,7 @@ check-told p ws = go (check p ws)
   where
     go : (a : Answer semantics.Sheet) → told a ≡ outcome [] [] (andThen a (λ t. result [] (
         length (t .records) ∷ length (t .constraints) ∷ length (t .interactions) ∷ semantics.lengthOf t
-        ∷ (4 + 5 * length (t .records) + length (t .constraints)) ∷ [])))
+        ∷ (semantics.place 5 (length (t .records)) + length (t .constraints)) ∷ [])))
     go (good t) = refl
     go (refused n k) = refl
 

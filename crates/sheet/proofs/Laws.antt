@@ -2,7 +2,7 @@
 use mathlib.Core.Path.{_≡_, refl, sym, ap, subst, _∙_}
 use mathlib.Core.Bool.{Bool, true, false, cond, true≢false, _&&_, _||_}
 use mathlib.Core.List.{List, [], _∷_, _++_, map}
-use Prim.Native.Nat.{ℕ, zero, suc, _+_, _*_, _-_, _≤_, _<_}
+use Prim.Native.Nat.{ℕ, zero, suc, _+_, _-_, _≤_, _<_}
 use native.Mathlib.Nat.{add-zero, sub-zero}
 use native.Mathlib.Numerals.{add-one}
 use native.Mathlib.Omega.{arith}
@@ -10,7 +10,7 @@ use lib.Dec.{leb}
 use lib.ListN.{length, getD, drop, replicate, drop-of-length-le}
 use lib.Seq.{drop-cons, getD-drop}
 use borrow.Author.Tests.{eq-eqb, ne-eqb, leb-true, lt-ltb, le-ltb}
-use Rattle.semantics.specs.Sheet.{Inside, encode, headWords, lengthOf, fits, row, recordTests, interactionTests, headTests, names}
+use Rattle.semantics.specs.Sheet.{Inside, encode, headWords, lengthOf, place, fits, row, recordTests, interactionTests, headTests, names}
 use Rattle.semantics.specs.Answer.{good}
 use Rattle.semantics.specs.Sheet as semantics
 use Rattle.semantics.specs.Check.{Scan, reading, stopped, scanWords, scanPart, scanParts, scanSpare, scanSheet, readSheet, judged, check}
@@ -425,7 +425,7 @@ module _ (p : ℕ) (ws : List ℕ) where
               let c₁ : getD ws 1 0 ≡ length (s .records) = ap (λ (u : List ℕ). getD u 1 0) w ∙ unfold encode headWords in refl in
               let c₂ : getD ws 2 0 ≡ length (s .constraints) = ap (λ (u : List ℕ). getD u 2 0) w ∙ unfold encode headWords in refl in
               let c₃ : getD ws 3 0 ≡ length (s .interactions) = ap (λ (u : List ℕ). getD u 3 0) w ∙ unfold encode headWords in refl in
-              let eb : b ≡ 4 + 5 * length (s .records) + length (s .constraints) =
+              let eb : b ≡ place 5 (length (s .records)) + length (s .constraints) =
               ap indexOf (at-b ∙ (λ i. scanWords 6 (replicate (c₂ i) (names (c₁ i))) (scanParts 5 (recordTests p) (c₁ i) 0 (scanWords 3 headTests (reading 0 (w i)))))
               ∙ scan-to-interactions p s h zs) in
               let el : l ≡ lengthOf s =

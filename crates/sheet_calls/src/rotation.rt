@@ -1,9 +1,10 @@
 // The largest offset.
 ghost use mathlib.Core.Path.{_≡_};
 ghost use mathlib.Core.Bool.{cond};
-ghost use Prim.Native.Nat.{_+_, _*_, _≤_};
+ghost use Prim.Native.Nat.{_≤_};
 ghost use lib.Dec.{eqb};
 ghost use lib.ListN.{length, drop};
+ghost use Rattle.semantics.specs.Sheet.{place};
 ghost use Rattle.semantics.specs.Check.{readRecords};
 ghost use Rattle.sheet_calls.specs.Replies.{largest};
 
@@ -19,7 +20,7 @@ fn offset_of(kind: u32, c: u32) -> usize
 
 // The largest offset of the records behind the head.
 pub fn largest_offset(s: &[u32], records: usize) -> usize
-    requires { ⌜ 4 + 5 * records ≤ length (now s) ⌝ }
+    requires { ⌜ place 5 records ≤ length (now s) ⌝ }
     ensures { λ r. ⌜ r ≡ largest (readRecords records (drop 4 (now (s .entry)))) ⌝ }
 {
     let mut most = 0;

@@ -2,8 +2,9 @@ use mathlib.Core.Path.{refl, _∙_}
 use Prim.Native.Nat.{_+_}
 use native.Mathlib.Omega.{arith}
 use borrow.Author.Needs.{needs}
-use Rattle.records.proofs.Steps.{few-records}
-use Rattle.graph_lists.proofs.Graphing.{constraints-named, nodes-small, lists-small, room-flagged, interactions-named, out₂-length, head-asks, end-is, graph-written}
+use Rattle.semantics.proofs.Places.{records-limit}
+use Rattle.records.proofs.Reading.{places-small}
+use Rattle.graph_lists.proofs.Graphing.{constraints-named, nodes-small, room-flagged, interactions-named, out₂-length, head-asks, end-is, graph-written}
 use Rattle.graph_lists.proofs.write_graph.Statement.{statement}
 use Rattle.graph_lists.proofs.write_graph.Tie as tie
 
@@ -17,7 +18,7 @@ records-end-requires : tie.Need-records-end-requires
 records-end-requires c κs =
     let a = c .before .before .before .before .before .before .before .args in
     let p = c .before .before .before .before .before .before .before .pre in
-    omega (arith, nodes-small (a .sheet .now) (a .scratch .now) (a .out .now) (a .n) (p .0))
+    omega (arith, records-limit (a .n) (nodes-small (a .sheet .now) (a .scratch .now) (a .out .now) (a .n) (p .0)))
 
 write-flagged-requires : tie.Need-write-flagged-requires
 write-flagged-requires c κs =
@@ -31,7 +32,7 @@ add-write-interactions : tie.Need-add-write-interactions
 add-write-interactions c =
     let a = c .before .before .before .before .before .before .before .before .before .before .before .before .before .before .before .args in
     let p = c .before .before .before .before .before .before .before .before .before .before .before .before .before .before .before .pre in
-    omega (arith, p .1, p .2, lists-small (a .sheet .now) (a .scratch .now) (a .out .now) (a .n) (p .0) .0, few-records (a .sheet .now) (p .0 .checked))
+    omega (arith, p .1, p .2, places-small (a .sheet .now) (p .0 .checked) .1)
 
 write-interactions-requires : tie.Need-write-interactions-requires
 write-interactions-requires c κs =

@@ -4,6 +4,7 @@ use native.Mathlib.Omega.{arith}
 use borrow.Author.Needs.{needs}
 use borrow.Fn.Kinds.{In}
 use borrow.Fn.PlainCycle.{Measures, is, falls, and}
+use Rattle.records.proofs.Steps.{few-records}
 use Rattle.records.proofs.Visits.{record-inside}
 use Rattle.records.proofs.Children.{none-read}
 use Rattle.records.proofs.kind_at.Reads as kind-at-reads
@@ -46,7 +47,9 @@ abbrev μ-loop : add-expr-lts.MeasureT-loop
 μ-loop sheet scratch₀ out₀ r n used₀ i₀ scratch out used i = 2 - i
 
 add-expr-mul-if1 : (t : ℕ) → add-expr-lts.Need-mul-if1 (claims t) (add-expr-at t) add-expr.Post Inv-loop μ-loop
-add-expr-mul-if1 t c = search needs
+add-expr-mul-if1 t c =
+    let s = c .before .before .before in
+    omega (arith, s .pre .1 .inside, few-records (s .args .sheet .now) (s .pre .1 .checked))
 
 add-expr-slice-read-if1 : (t : ℕ) → add-expr-lts.Need-slice-read-if1 (claims t) (add-expr-at t) add-expr.Post Inv-loop μ-loop
 add-expr-slice-read-if1 t c =

@@ -28,7 +28,9 @@ add-scratch c =
     omega (arith, present-small (a .sheet .now) (p .ready .checked) (a .r) (p .ready .inside) (p .ready .done) (p .ready .order) (p .new) (p .there) (k .given .0 .0) (sym (ap pickOf (k .given .1)) ∙ c .before .before .before .pick-node .ensures (p .ready .done) (p .ready .order) (p .there) (a .n) (p .ready .holds)), few-records (a .sheet .now) (p .ready .checked))
 
 mul-scratch : tie.Need-mul-scratch
-mul-scratch c = search needs
+mul-scratch c =
+    let s = c .before .before .before .before .before .before .before .before .before in
+    omega (arith, s .pre .ready .inside, few-records (s .args .sheet .now) (s .pre .ready .checked))
 
 slice-write-scratch : tie.Need-slice-write-scratch
 slice-write-scratch c =
@@ -69,7 +71,9 @@ add-scratch-2 c =
     omega (arith, i .0, made-small (a .sheet .now) (p .ready .checked) (a .r) (p .ready .inside) (p .ready .done) (p .ready .order) (p .new) (p .there) q e, few-records (a .sheet .now) (p .ready .checked))
 
 mul-scratch-2 : tie.Need-mul-scratch-2
-mul-scratch-2 c = search needs
+mul-scratch-2 c =
+    let s = c .before .before .before .before .before .before .before .before .before .before .before .before .before .before .before in
+    omega (arith, s .pre .ready .inside, few-records (s .args .sheet .now) (s .pre .ready .checked))
 
 slice-write-scratch-2 : tie.Need-slice-write-scratch-2
 slice-write-scratch-2 c =

@@ -1,6 +1,7 @@
 use mathlib.Core.Path.{_≡_, refl, ap, _∙_}
+use native.Mathlib.Omega.{arith}
 use borrow.Author.Needs.{needs}
-use Rattle.semantics.specs.Sheet.{Record}
+use Rattle.semantics.specs.Sheet.{Record, place}
 use Rattle.records.specs.Access.{fiveWords, nodeIn}
 use Rattle.nodes.proofs.child.Statement.{statement}
 use Rattle.nodes.proofs.child.Tie as tie
@@ -9,7 +10,7 @@ wide-requires : tie.Need-wide-requires
 wide-requires c κs = search needs
 
 record-at-requires : tie.Need-record-at-requires
-record-at-requires c κs = search needs
+record-at-requires c κs = omega (arith, ap (place 5) (c .wide .ensures), c .before .before .pre)
 
 returns : tie.Need-returns
 returns c =

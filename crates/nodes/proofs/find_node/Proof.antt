@@ -4,8 +4,8 @@ use Prim.Native.Nat.{ℕ, _-_, _≤_, _<_}
 use borrow.Author.Needs.{needs}
 use native.Mathlib.Omega.{arith}
 use Rattle.semantics.specs.Graph.{equalRecords}
-use Rattle.records.specs.Access.{fiveWords}
-use Rattle.records.specs.Access.{nodeIn}
+use Rattle.semantics.proofs.Places.{place-below}
+use Rattle.records.specs.Access.{fiveWords, nodeIn}
 use Rattle.nodes.proofs.NodeLaws.{skips}
 use Rattle.nodes.proofs.find_node.Statement.{statement}
 use Rattle.nodes.proofs.find_node.Tie as tie
@@ -20,7 +20,9 @@ loop-holds : tie.Need-loop-holds Inv-loop μ-loop
 loop-holds c = (omega arith, omega arith, λ k h l. absurd (omega arith))
 
 same-record-requires : tie.Need-same-record-requires Inv-loop μ-loop
-same-record-requires c κs = search needs
+same-record-requires c κs =
+    let n = c .before .before .before .args .n in
+    omega (arith, place-below 5 (c .before .loop .i) n (search needs))
 
 returns : tie.Need-returns Inv-loop μ-loop
 returns c =

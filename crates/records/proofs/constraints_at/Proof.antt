@@ -1,8 +1,8 @@
 use mathlib.Core.Path.{ap, _∙_}
-use Prim.Native.Nat.{ℕ, _+_, _*_}
 use native.Mathlib.Omega.{arith}
 use borrow.Author.Needs.{needs}
-use Rattle.records.proofs.Reading.{head-inside, head-counts, counts-small}
+use Rattle.semantics.specs.Sheet.{place}
+use Rattle.records.proofs.Reading.{head-inside, head-counts, places-small}
 use Rattle.records.proofs.constraints_at.Statement.{statement}
 use Rattle.records.proofs.constraints_at.Tie as tie
 
@@ -16,12 +16,12 @@ records-end-requires : tie.Need-records-end-requires
 records-end-requires c κs =
     let ws = c .before .before .before .args .sheet .now in
     let h = c .before .before .before .pre in
-    omega (arith, c .wide .ensures, head-counts ws h .0, counts-small ws h .0)
+    omega (arith, ap (place 5) (c .wide .ensures ∙ head-counts ws h .0), places-small ws h .0)
 
 returns : tie.Need-returns
 returns c =
-    c .records-end .ensures
-    ∙ ap (λ (n : ℕ). 4 + 5 * n) (c .before .wide .ensures ∙ head-counts (c .before .before .before .before .args .sheet .now) (c .before .before .before .before .pre) .0)
+    let s = c .before .before .before .before in
+    c .records-end .ensures ∙ ap (place 5) (c .before .wide .ensures ∙ head-counts (s .args .sheet .now) (s .pre) .0)
 
 pub constraints-at-spec : {M : Type 1} → statement M
 constraints-at-spec =

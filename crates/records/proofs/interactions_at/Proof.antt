@@ -1,4 +1,4 @@
-use Rattle.records.proofs.Reading.{counts-small}
+use Rattle.records.proofs.Reading.{places-small}
 use native.Mathlib.Omega.{arith}
 use borrow.Author.Needs.{needs}
 use Rattle.records.proofs.interactions_at.Statement.{statement}
@@ -11,7 +11,9 @@ num-constraints-requires : tie.Need-num-constraints-requires
 num-constraints-requires c κs = search needs
 
 add-result : tie.Need-add-result
-add-result c = omega (arith, c .num-constraints .ensures, c .before .constraints-at .ensures, counts-small (c .before .before .before .args .sheet .now) (c .before .before .before .pre))
+add-result c =
+    let s = c .before .before .before in
+    omega (arith, c .num-constraints .ensures, c .before .constraints-at .ensures, places-small (s .args .sheet .now) (s .pre) .1)
 
 returns : tie.Need-returns
 returns c = omega (arith, c .num-constraints .ensures, c .before .constraints-at .ensures)

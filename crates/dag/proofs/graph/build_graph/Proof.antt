@@ -6,7 +6,7 @@ use Prim.Native.Nat.{ℕ}
 use native.Mathlib.Omega.{arith}
 use borrow.Author.Needs.{needs}
 use lib.ListN.{length}
-use Rattle.records.proofs.Reading.{counts-small}
+use Rattle.records.proofs.Reading.{places-small}
 use Rattle.graph_lists.specs.Lists.{graphOut}
 use Rattle.dag.proofs.Starts.{Counted, start-walking, names-inside, walking-next, all-inside, finishing}
 use Rattle.dag.proofs.graph.build_graph.Statement.{statement}
@@ -94,7 +94,7 @@ add-names-requires c κs =
 add-add-interactions : tie.Need-add-add-interactions
 add-add-interactions c =
     let n = head (named c) in
-    omega (arith, counted n .located, counted n .constraints, counts-small (entry n .args .sheet .now) (entry n .pre .checked))
+    omega (arith, counted n .located, counted n .constraints, places-small (entry n .args .sheet .now) (entry n .pre .checked) .1)
 
 add-interactions-requires : tie.Need-add-interactions-requires
 add-interactions-requires c κs =

@@ -3,8 +3,10 @@ use mathlib.Core.Path.{ap, _∙_}
 use mathlib.Core.Bool.{cond}
 use Prim.Native.Nat.{_-_}
 use lib.Dec.{eqb}
+use native.Mathlib.Omega.{arith}
 use borrow.Author.Needs.{needs}
 use Rattle.semantics.specs.Sheet.{Record}
+use Rattle.semantics.proofs.Places.{place-below}
 use Rattle.sheet_calls.proofs.Offsets.{Largest, largest-none, largest-more, largest-all}
 use Rattle.sheet_calls.proofs.rotation.largest_offset.Statement.{statement}
 use Rattle.sheet_calls.proofs.rotation.largest_offset.Tie as tie
@@ -23,7 +25,9 @@ loop-holds : tie.Need-loop-holds Inv-loop μ-loop
 loop-holds c = largest-none (c .before .args .s .now) (c .before .args .records)
 
 record-at-requires : tie.Need-record-at-requires Inv-loop μ-loop
-record-at-requires c κs = search needs
+record-at-requires c κs =
+    let loop = c .before .loop in
+    omega (arith, place-below 5 (loop .i) (c .before .before .before .args .records) (search needs))
 
 offset-of-requires : tie.Need-offset-of-requires Inv-loop μ-loop
 offset-of-requires c κs = search needs
