@@ -7,6 +7,7 @@ use native.Mathlib.Nat.{add-zero, sub-zero}
 use native.Mathlib.Numerals.{add-one}
 use lib.ListN.{length, getD, take, drop, replicate, set, length-set, take-append-drop}
 use lib.Seq.{drop-drop, drop-at, getD-drop, length-take-le}
+use Rattle.slices.proofs.Lists.{flat-append}
 use Rattle.semantics.specs.Answer.{good}
 use Rattle.semantics.specs.Sheet.{Sheet, encode, lengthOf}
 use Rattle.semantics.specs.Check.{check}
@@ -33,11 +34,6 @@ word-put w o bs at h e =
     (put-next o at (at + 1) _ refl (omega arith) refl)))
     ∙ ap (λ (b : List ℕ). (((take at o ++ (getD b 0 0 ∷ [])) ++ (getD b 1 0 ∷ [])) ++ (getD b 2 0 ∷ [])) ++ (getD b 3 0 ∷ [])) e
     ∙ simp append-assoc
-
-flat-append : (f : ℕ → List ℕ) (us vs : List ℕ) → flatMap f (us ++ vs) ≡ flatMap f us ++ flatMap f vs
-unfolding flatMap
-flat-append f [] vs = refl
-flat-append f (u ∷ us) vs = ap (λ (l : List ℕ). f u ++ l) (flat-append f us vs) ∙ sym (append-assoc (f u) (flatMap f us) (flatMap f vs))
 
 words-append : (us vs : List ℕ) → Words us → Words vs → Words (us ++ vs)
 words-append [] vs h k = k

@@ -3,7 +3,7 @@ use mathlib.Core.Path.{_≡_, refl, sym, ap, subst, _∙_}
 use mathlib.Core.Logic.{_⊎_, inl, inr}
 use mathlib.Core.Bool.{Bool, true, false}
 use mathlib.Core.List.{List, [], _∷_, _++_, append-nil}
-use Prim.Native.Nat.{ℕ, zero, suc, _+_, _*_, _-_, _≤_, _<_}
+use Prim.Native.Nat.{ℕ, _+_, _*_, _-_, _≤_, _<_}
 use native.Mathlib.Omega.{arith}
 use lib.Dec.{eqb}
 use lib.ListN.{length, getD, set, take, drop, length-set, length-append, length-drop, take-append-drop, drop-of-length-le, List·getD-append}
@@ -27,11 +27,7 @@ use Rattle.expand.specs.Walking.{Kept, Holds, Expands, withList, Storing
 use Rattle.expand.specs.declared.Expanded.{Expanded}
 use Rattle.expand.specs.declared.Expanded.the-variants.{Used, Refused}
 use Rattle.monomial.proofs.ListLaws.{size-nil, size-cons, words-length}
-use Rattle.monomial.proofs.Sizes.{held-zero, held-suc}
-
-pub held-length : (n : ℕ) (ws : List ℕ) → length (held n ws) ≡ n
-held-length zero ws = ap length (held-zero ws)
-held-length (suc n) ws = ap length (held-suc n ws) ∙ ap suc (held-length n (drop 16 ws))
+use Rattle.monomial.proofs.Rows.{held-length}
 
 size-small : (ms : List Monomial) → All Fits ms → listSize ms ≤ 16 * length ms
 size-small [] k = omega (arith, size-nil)

@@ -15,10 +15,10 @@ use Rattle.semantics.proofs.Combining.{Asc}
 use Rattle.monomial.specs.Words.{held, listIn, readList, longestOf, insertAll, signed, Fits, ListFits, Summed}
 use Rattle.expand.specs.Making.{Makes}
 use Rattle.expand.specs.declared.kinds.Made.the-variants.{Held, Fault}
-use Rattle.monomial.proofs.Canons.{sum-append, sum-combine, fits-sum, asc-sum, fits-negative, fits-product, sort-length, small-of-fits}
+use Rattle.monomial.proofs.Canons.{sum-append, sum-combine, fits-sum, asc-sum, fits-negative, sort-length, small-of-fits}
 use Rattle.monomial.proofs.ListLaws.{list-zero, list-suc}
 use Rattle.monomial.proofs.Sizes.{held-zero, longest-cons, longest-nil}
-use Rattle.monomial.proofs.Products.{products-nil, products-cons}
+use Rattle.monomial.proofs.Products.{products-nil, products-cons, fits-row}
 
 pub read-length : (n : ℕ) (ws : List ℕ) → length (readList n ws) ≡ n
 read-length zero ws = ap length (list-zero ws)
@@ -130,13 +130,6 @@ mul-length : (x y : Monomial) → length (mulMonomial prime x y .vars) ≡ lengt
 unfolding mulMonomial
 mul-length x y = sort-length (x .vars ++ y .vars) ∙ length-append (x .vars) (y .vars)
 
--- One left monomial times all right ones.
-row-fits : (x : Monomial) (ys : List Monomial) → length (x .vars) + longestOf ys ≤ 14 → All Fits (map (mulMonomial prime x) ys)
-row-fits x [] h = tt
-row-fits x (y ∷ ys) h =
-    let e = longest-cons y ys in
-    (fits-product x y (omega arith), row-fits x ys (omega arith))
-
 row-longest : (x y : Monomial) (ys : List Monomial) → length (x .vars) + longestOf (y ∷ ys) ≤ longestOf (map (mulMonomial prime x) (y ∷ ys))
 row-longest x y [] = omega (arith, longest-cons y [], longest-cons (mulMonomial prime x y) [], longest-nil, mul-length x y)
 row-longest x y (z ∷ ys) =
@@ -154,7 +147,7 @@ products-fit [] ys h = subst (All Fits) (sym (products-nil prime ys)) tt
 products-fit (x ∷ xs) ys h =
     let e = longest-cons x xs in
     subst (All Fits) (sym (products-cons prime x xs ys))
-    (all-append Fits (map (mulMonomial prime x) ys) (products prime xs ys) (row-fits x ys (omega arith)) (products-fit xs ys (omega arith)))
+    (all-append Fits (map (mulMonomial prime x) ys) (products prime xs ys) (fits-row x ys (omega arith)) (products-fit xs ys (omega arith)))
 
 -- The longest product is as long as the two longest monomials.
 products-longest : (x : Monomial) (xs : List Monomial) (y : Monomial) (ys : List Monomial)

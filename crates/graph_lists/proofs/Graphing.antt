@@ -11,12 +11,12 @@ use Rattle.semantics.specs.Check.{readSheet}
 use Rattle.semantics.specs.Walk.{member}
 use Rattle.semantics.specs.Graph.{Built, built, graphRoots, graphOf, sortedOnce, renamed}
 use Rattle.semantics.proofs.Basics.{by-test}
-use Rattle.semantics.proofs.Members.{Mem, mem-left, mem-right, mem-getD, Below, map-below}
+use Rattle.semantics.proofs.Members.{Mem, mem-right, mem-getD, Below, map-below}
 use Rattle.semantics.proofs.Places.{place-head}
 use Rattle.semantics.proofs.Encoding.{sheet-length}
 use Rattle.semantics.proofs.Access.{constraint-word, words-count}
 use Rattle.semantics.proofs.Orders.{order-closed, order-roots, order-below, order-distinct, distinct-length}
-use Rattle.semantics.proofs.GraphSheets.{graph-roots, sorted-length}
+use Rattle.semantics.proofs.GraphSheets.{constraint-root, graph-roots, sorted-length}
 use Rattle.records.specs.Access.{recordsOf, constraintsAt, interactionsAt, part}
 use Rattle.records.specs.Orders.{Order}
 use Rattle.records.proofs.Steps.{inside, few-records, lows}
@@ -81,10 +81,6 @@ module _ (ws scratch out : List ℕ) (n : ℕ) (f : Finishing ws scratch out n) 
       (by-test (λ (k : ℕ). k < 65536) (member i (allAdded ws))
       (λ e. omega (arith, states.num-small ws (f .checked) (allAdded ws) ordered i e, few-records ws (f .checked))) (λ e. omega arith))
 
-  constraint-root : (c : ℕ) → Mem c (s .constraints) → Mem c (graphRoots s)
-  unfolding graphRoots
-  constraint-root c m = mem-left c (s .constraints) (roots (s .interactions)) m
-
   interaction-root : (c : ℕ) → Mem c (roots (s .interactions)) → Mem c (graphRoots s)
   unfolding graphRoots
   interaction-root c m = mem-right c (s .constraints) (roots (s .interactions)) m
@@ -97,7 +93,7 @@ module _ (ws scratch out : List ℕ) (n : ℕ) (f : Finishing ws scratch out n) 
     named = λ j l.
         let w : getD ws (at + j) 0 ≡ getD (s .constraints) j 0 = ap (λ (a : ℕ). getD ws (a + j) 0) e ∙ constraint-word prime ws s (f .checked) j (omega arith) in
         subst (λ (c : ℕ). (c < length scratch) × (0 < marksOf scratch c) × (marksOf scratch c ≤ length scratch)) (sym w)
-        (root-named (getD (s .constraints) j 0) (constraint-root (getD (s .constraints) j 0) (mem-getD (s .constraints) j (omega arith))));
+        (root-named (getD (s .constraints) j 0) (constraint-root s (getD (s .constraints) j 0) (mem-getD (s .constraints) j (omega arith))));
   }
 
   abbrev nums : List ℕ
@@ -106,13 +102,13 @@ module _ (ws scratch out : List ℕ) (n : ℕ) (f : Finishing ws scratch out n) 
   numbers-are : (at count : ℕ) → at ≡ constraintsAt ws → count ≡ length (s .constraints) → nodeNumbers (marksOf scratch) (part at count ws) ≡ nums
   numbers-are at count e k =
       (λ i. nodeNumbers (marksOf scratch) (part (e i) (k i) ws)) ∙ ap (nodeNumbers (marksOf scratch)) (constraints-are ws (f .checked))
-      ∙ map-same (λ (x : ℕ). pred (marksOf scratch x)) (B .num) (s .constraints) (λ c m. number-is c (constraint-root c m))
+      ∙ map-same (λ (x : ℕ). pred (marksOf scratch x)) (B .num) (s .constraints) (λ c m. number-is c (constraint-root s c m))
 
   nodes-count : n ≡ length (B .nodes)
   nodes-count = f .holds .count-is
 
   nums-below : Below n nums
-  nums-below = map-below n (B .num) (s .constraints) (λ c m. omega (arith, nodes-count, states.num-below ws (f .checked) (allAdded ws) ordered c (added c (constraint-root c m))))
+  nums-below = map-below n (B .num) (s .constraints) (λ c m. omega (arith, nodes-count, states.num-below ws (f .checked) (allAdded ws) ordered c (added c (constraint-root s c m))))
 
   pub nodes-few : n ≤ length scratch
   nodes-few =

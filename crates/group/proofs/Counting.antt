@@ -7,11 +7,12 @@ use Prim.Native.Nat.{ℕ, zero, suc, _+_, _*_, _-_, _≤_, _<_}
 use native.Mathlib.Numerals.{add-one}
 use native.Mathlib.Omega.{arith}
 use lib.ListN.{length, getD, take, drop, set, length-drop, length-set}
-use lib.Seq.{drop-set-lt, getD-set-other, getD-set-same, drop-drop, drop-at, length-take-le, getD-drop}
+use lib.Seq.{drop-set-lt, getD-set-other, getD-set-same, drop-drop, length-take-le, getD-drop}
+use Rattle.slices.proofs.Lists.{map-set}
 use Rattle.semantics.specs.Monomial.{beforeVars}
 use Rattle.semantics.specs.Group.{rows}
 use Rattle.semantics.specs.Call.{zeros}
-use Rattle.semantics.proofs.Sorting.{All}
+use Rattle.semantics.proofs.Sorting.{All, all-within}
 use Rattle.semantics.proofs.Order.{beforeVars-trans, beforeVars-total}
 use Rattle.monomial.specs.declared.vars.Order.{Order}
 use Rattle.monomial.specs.declared.vars.Order.the-variants.{Before, Same, After}
@@ -21,7 +22,6 @@ use Rattle.monomial.specs.Words.{readMonomial}
 use Rattle.monomial.specs.Orders.{chosen, orderOf}
 use Rattle.group.specs.Grouped.{Tally, tally, Ascends, total, none, tallyRow, tallied, RowInside, Rows, Spot, Between, Counted}
 use Rattle.group.proofs.Tallies.{once, again, tally-nil, tally-less, tally-more, tally-same, tally-ascends}
-use Rattle.group.proofs.Places.{all-at, zeros-add, zeros-long}
 use Rattle.group.proofs.Headers.{rows-length, rows-at, word-at, rows-set, tallied-length, tallied-at, vars-at, count-at, total-at}
 
 -- What an order says.
@@ -52,7 +52,7 @@ told-at n k H P v o p h e q =
 pub ascends-at : (gs : List Tally) (i j : ℕ) → Ascends gs → i < j → j < length gs → beforeVars (getD gs i none .vars) (getD gs j none .vars) ≡ true
 ascends-at [] i j a h l = absurd (omega arith)
 ascends-at (g ∷ gs) zero zero a h l = absurd (omega arith)
-ascends-at (g ∷ gs) zero (suc j) a h l = all-at (λ (x : Tally). beforeVars (g .vars) (x .vars) ≡ true) gs j (a .0) (omega arith)
+ascends-at (g ∷ gs) zero (suc j) a h l = all-within (λ (x : Tally). beforeVars (g .vars) (x .vars) ≡ true) gs j none (a .0) (omega arith)
 ascends-at (g ∷ gs) (suc i) zero a h l = absurd (omega arith)
 ascends-at (g ∷ gs) (suc i) (suc j) a h l = ascends-at gs i j (a .1) (omega arith) (omega arith)
 
@@ -113,7 +113,7 @@ pub tally-there : (v : List ℕ) (gs : List Tally) (k : ℕ) → Ascends gs → 
 tally-there v [] k a h e = absurd (omega arith)
 tally-there v (g ∷ gs) zero a h e = tally-same v g gs (sym e)
 tally-there v (g ∷ gs) (suc k) a h e =
-    let b = subst (λ (w : List ℕ). beforeVars (g .vars) w ≡ true) e (all-at (λ (x : Tally). beforeVars (g .vars) (x .vars) ≡ true) gs k (a .0) (omega arith)) in
+    let b = subst (λ (w : List ℕ). beforeVars (g .vars) w ≡ true) e (all-within (λ (x : Tally). beforeVars (g .vars) (x .vars) ≡ true) gs k none (a .0) (omega arith)) in
     tally-more v g gs b ∙ ap (λ (l : List Tally). g ∷ l) (tally-there v gs k (a .1) (omega arith) e)
 
 pub tally-missing : (v : List ℕ) (gs : List Tally) (k : ℕ) → Spot v gs (Missing k) → tally v gs ≡ take k gs ++ (once v ∷ drop k gs)
@@ -124,12 +124,6 @@ tally-missing v (g ∷ gs) (suc k) s =
     tally-more v g gs (s .1 0 (omega arith))
     ∙ ap (λ (l : List Tally). g ∷ l)
     (tally-missing v gs k (omega (arith, s .0), (λ i h. s .1 (suc i) (omega arith)), (λ i h l. s .2 (suc i) (omega arith) (omega arith))))
-
--- Lists of rows.
-pub map-set : {X Y : Type 0} (f : X → Y) (l : List X) (i : ℕ) (x : X) → map f (set l i x) ≡ set (map f l) i (f x)
-map-set f [] i x = refl
-map-set f (y ∷ l) zero x = refl
-map-set f (y ∷ l) (suc i) x = ap (λ t. f y ∷ t) (map-set f l i x)
 
 pub map-insert : {X Y : Type 0} (f : X → Y) (l : List X) (k : ℕ) (x : X) → map f (take k l ++ (x ∷ drop k l)) ≡ take k (map f l) ++ (f x ∷ drop k (map f l))
 map-insert f [] zero x = refl
@@ -218,12 +212,6 @@ module _ (n k : ℕ) (H P v : List ℕ) (r : Rows n H P) where
         },
         q,
       )
-
--- Words of zeros from a place on.
-pub zeros-drop : (m n : ℕ) → m ≤ n → drop m (zeros n) ≡ zeros (n - m)
-zeros-drop m n h =
-    let e : m + (n - m) ≡ n = omega arith in
-    ap (λ (i : ℕ). drop m (zeros i)) (sym e) ∙ ap (drop m) (zeros-add m (n - m)) ∙ drop-at (zeros m) (zeros (n - m)) m (zeros-long m)
 
 pub tally-once : (P : List ℕ) (at c : ℕ) → tallyRow P (at ∷ 0 ∷ c ∷ 1 ∷ []) ≡ once (take c (drop (at + 2) P))
 unfolding tallyRow

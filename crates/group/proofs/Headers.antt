@@ -7,7 +7,7 @@ use lib.ListN.{length, getD, take, drop, set, length-map, length-drop}
 use lib.Seq.{sets, take-set-lt, take-set-le, drop-set-lt, drop-set-add, getD-take, getD-drop, drop-drop, take-at, drop-at, length-take-le, take-add}
 use Rattle.semantics.specs.Group.{rows}
 use Rattle.semantics.proofs.Lists.{getD-map}
-use Rattle.semantics.proofs.Sorting.{All}
+use Rattle.semantics.proofs.Sorting.{all-within}
 use Rattle.group.specs.Grouped.{Tally, total, none, tallyRow, tallied, RowInside, Rows}
 
 pub rows-length : (n : ℕ) (H : List ℕ) → length (rows 4 n H) ≡ n
@@ -110,15 +110,10 @@ pub count-at : (n k : ℕ) (H P : List ℕ) → k < n → getD (tallied n H P) k
 unfolding tallyRow
 count-at n k H P h = ap (λ (g : Tally). g .count) (tallied-at n k H P h) ∙ word-at n k 3 H h (omega arith)
 
-row-all : (Q : List ℕ → Type 0) (l : List (List ℕ)) (k : ℕ) → All Q l → k < length l → Q (getD l k [])
-row-all Q [] k a h = absurd (omega arith)
-row-all Q (x ∷ l) zero a h = a .0
-row-all Q (x ∷ l) (suc k) a h = row-all Q l k (a .1) (omega arith)
-
 pub inside-at : (n k : ℕ) (H P : List ℕ) → Rows n H P → k < n
     → (getD H (4 * k) 0 + 2 + getD H (4 * k + 2) 0 ≤ length P) × (getD H (4 * k + 2) 0 ≤ 14)
 inside-at n k H P r h =
-    let a = row-all (RowInside P) (rows 4 n H) k (r .inside) (subst (λ (m : ℕ). k < m) (sym (rows-length n H)) h) in
+    let a = all-within (RowInside P) (rows 4 n H) k [] (r .inside) (subst (λ (m : ℕ). k < m) (sym (rows-length n H)) h) in
     let e : 4 * k + 0 ≡ 4 * k = omega arith in
     let x : getD (getD (rows 4 n H) k []) 0 0 ≡ getD H (4 * k) 0 = word-at n k 0 H h (omega arith) ∙ ap (λ (i : ℕ). getD H i 0) e in
     let y : getD (getD (rows 4 n H) k []) 2 0 ≡ getD H (4 * k + 2) 0 = word-at n k 2 H h (omega arith) in
@@ -136,9 +131,6 @@ row-sets H at a b c d =
     let f : at + 2 ≡ suc (suc at) = omega arith in
     let g : at + 3 ≡ suc (suc (suc at)) = omega arith in
     rw (e, f, g)
-
-pub two-sets : (H : List ℕ) (at a b : ℕ) → set (set H at a) (at + 1) b ≡ sets H at (a ∷ b ∷ [])
-two-sets H at a b = let e : at + 1 ≡ suc at = omega arith in rw e
 
 pub three-sets : (H : List ℕ) (at a b c : ℕ) → set (set (set H at a) (at + 1) b) (at + 2) c ≡ sets H at (a ∷ b ∷ c ∷ [])
 three-sets H at a b c =

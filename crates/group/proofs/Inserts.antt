@@ -11,13 +11,14 @@ use Rattle.semantics.specs.Monomial.{beforeVars}
 use Rattle.semantics.specs.Group.{rows}
 use Rattle.semantics.specs.Call.{zeros}
 use Rattle.semantics.proofs.Sorting.{All}
+use Rattle.semantics.proofs.Calls.{drop-zeros}
 use Rattle.group.specs.declared.Found.the-variants.{Missing}
 use Rattle.group.specs.declared.Tallied.the-variants.{Headers}
 use Rattle.group.specs.Grouped.{Tally, tally, tallyAll, tallyRow, tallied, Ascends, RowInside, Rows, Spot, Counted}
 use Rattle.group.specs.Waiting.{Inside, varsAt, Batch, batched}
 use Rattle.group.proofs.Tallies.{once, tally-ascends}
 use Rattle.group.proofs.Headers.{rows-front, rows-insert, tallied-length}
-use Rattle.group.proofs.Counting.{tally-missing, zeros-drop, map-insert, all-insert, tally-once, read-vars}
+use Rattle.group.proofs.Counting.{tally-missing, map-insert, all-insert, tally-once, read-vars}
 use Rattle.group.proofs.Waits.{waitingFrom, waiting-end, spot-from, tally-from, length-waiting, missing-le-missing, batched-is}
 
 -- A row put in.
@@ -146,7 +147,7 @@ module _ {n b : ℕ} {H₀ P pl fr : List ℕ} (t : Batch n b H₀ P pl fr) wher
         ascends = subst Ascends (sym q) (r .ascends);
         rest =
             drop-at (take (4 * n) H₀) Z (4 * n) lt ∙ sym (drop-drop (4 * b) (4 * n) H₀) ∙ ap (drop (4 * b)) (r .rest)
-            ∙ zeros-drop (4 * b) (length H₀ - 4 * n) (omega arith) ∙ ap zeros x;
+            ∙ drop-zeros (4 * b) (length H₀ - 4 * n) ∙ ap zeros x;
       } in
       record {
         upto = omega arith;

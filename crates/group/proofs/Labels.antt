@@ -2,19 +2,18 @@
 use mathlib.Core.Path.{_≡_, refl, sym, _∙_, ap, subst}
 use mathlib.Core.Logic.{_⊎_, inl, inr}
 use mathlib.Core.Bool.{true, false}
-use mathlib.Core.List.{List, [], _∷_, _++_, map, flatMap}
-use Prim.Native.Nat.{ℕ, zero, suc, _<_}
+use mathlib.Core.List.{List, [], _∷_, _++_, flatMap}
+use Prim.Native.Nat.{ℕ, suc, _<_}
 use native.Mathlib.Omega.{arith}
 use lib.Dec.{eqb}
-use lib.ListN.{length, getD}
-use Rattle.semantics.specs.Sheet.{Record, Interaction, Sheet}
-use Rattle.semantics.specs.Value.{Node, leaf, const, add, sub, neg, mul, nodeOf, fill}
-use Rattle.semantics.specs.Monomial.{Monomial, before, beforeVars, negMonomial, products, working, finished, recordList, lists, listAt}
+use lib.ListN.{length}
+use Rattle.semantics.specs.Sheet.{Interaction, Sheet}
+use Rattle.semantics.specs.Monomial.{Monomial, before, beforeVars}
 use Rattle.semantics.specs.Group.{Root, labelled, constraintRoots, countRoots, fieldRoots, Item, itemsOf, items, key, later, groups}
 use Rattle.semantics.proofs.Basics.{by-test, not-both}
 use Rattle.semantics.proofs.Order.{lex-head, lex-tail, beforeVars-irrefl}
 use Rattle.semantics.proofs.Sorting.{All, all-append}
-use Rattle.semantics.proofs.Combining.{Above, Asc, asc-combine}
+use Rattle.semantics.proofs.Combining.{Above, Asc}
 use Rattle.semantics.proofs.Grouping.{later-asym}
 use Rattle.group.proofs.Gathering.{Front, Steady, gathered, split-sort}
 
@@ -160,41 +159,3 @@ field-labels s =
 
     fields : ℕ → Interaction → List Root
     fields i x = labelled (one i) 0 (x .message)
-
--- Every record's list ascends.
-module _ (p : ℕ) where
-  above-neg : (v : List ℕ) (ms : List Monomial) → Above v ms → Above v (map (negMonomial p) ms)
-  unfolding negMonomial
-  above-neg v [] k = tt
-  above-neg v (m ∷ ms) k = (k .0, above-neg v ms (k .1))
-
-  asc-neg : (ms : List Monomial) → Asc ms → Asc (map (negMonomial p) ms)
-  unfolding negMonomial
-  asc-neg [] k = tt
-  asc-neg (m ∷ ms) k = (above-neg (m .vars) ms (k .0), asc-neg ms (k .1))
-
-  asc-node : (r : Record) (n : Node) (f : ℕ → List Monomial) → ((i : ℕ) → Asc (f i)) → Asc (finished p n (working p r n f))
-  unfolding finished working
-  asc-node r (leaf x) f k = (tt, tt)
-  asc-node r (const c) f k = (tt, tt)
-  asc-node r (add x y) f k = asc-combine p (f x ++ f y)
-  asc-node r (sub x y) f k = asc-combine p (f x ++ map (negMonomial p) (f y))
-  asc-node r (neg x) f k = asc-neg (f x) (k x)
-  asc-node r (mul x y) f k = asc-combine p (products p (f x) (f y))
-
-  asc-more : (done : List (List Monomial)) (x : List Monomial) → ((i : ℕ) → Asc (getD done i [])) → Asc x → (i : ℕ) → Asc (getD (done ++ (x ∷ [])) i [])
-  asc-more [] x h k zero = k
-  asc-more [] x h k (suc i) = tt
-  asc-more (d ∷ done) x h k zero = h 0
-  asc-more (d ∷ done) x h k (suc i) = asc-more done x (λ j. h (suc j)) k i
-
-  asc-fill : (done : List (List Monomial)) (rs : List Record) → ((i : ℕ) → Asc (getD done i [])) → (i : ℕ) → Asc (getD (fill (recordList p) [] done rs) i [])
-  unfolding fill recordList
-  asc-fill done [] h = h
-  asc-fill done (r ∷ rs) h =
-      asc-fill (done ++ (recordList p r (λ i. getD done i []) ∷ [])) rs
-      (asc-more done (recordList p r (λ i. getD done i [])) h (asc-node r (nodeOf r) (λ i. getD done i []) h))
-
-  pub list-ascends : (rs : List Record) (i : ℕ) → Asc (listAt p rs i)
-  unfolding listAt lists
-  list-ascends rs i = asc-fill [] rs (λ i. tt) i

@@ -9,6 +9,7 @@ use lib.Dec.{eqb}
 use lib.ListN.{length, getD, drop, set, length-append, length-set}
 use lib.Seq.{sets, length-sets, drop-set-lt, getD-set-other, getD-set-same}
 use borrow.Author.Tests.{eq-eqb, ne-eqb}
+use Rattle.slices.proofs.Lists.{map-set}
 use Rattle.semantics.specs.Monomial.{Monomial}
 use Rattle.semantics.specs.Group.{Item, itemsOf, constraintTerm, interactionTerm, rows}
 use Rattle.semantics.specs.Call.{zeros, padded}
@@ -16,16 +17,18 @@ use Rattle.semantics.proofs.Basics.{cond-true, cond-false}
 use Rattle.semantics.proofs.Sorting.{All}
 use Rattle.semantics.proofs.Grouping.{terms-length, constraint-wide, interaction-wide}
 use Rattle.semantics.proofs.Lists.{getD-map}
+use Rattle.semantics.proofs.Calls.{padded-is, padded-length}
 use Rattle.group.specs.declared.Found.the-variants.{There, Missing}
 use Rattle.monomial.specs.Words.{readMonomial, listIn, readList}
+use Rattle.monomial.proofs.ListLaws.{list-in-suc}
 use Rattle.group.specs.Grouped.{Tally, Ascends, countOf, total, none, tallied, tallyRow, RowInside, Rows, Spot, select, placed, cursors, Room, column}
 use Rattle.group.specs.Grouped.{Standing, termOf, widthOf, itemAt, itemsAt, Placing, ToPlace, Places}
 use Rattle.group.proofs.Gathering.{less-is, more-is}
-use Rattle.group.proofs.Places.{select-append, select-same, Fit, room-fit, padded-is, padded-length, spot, cursor-at, cursor-step, place-step}
+use Rattle.group.proofs.Places.{select-append, select-same, Fit, room-fit, spot, cursor-at, cursor-step, place-step}
 use Rattle.group.proofs.Headers.{rows-length, word-at, rows-set, tallied-length}
 use Rattle.group.proofs.RowTotals.{words, column-words}
-use Rattle.group.proofs.Counting.{map-set, all-set, all-row, row-long, tallyRow-cursor}
-use Rattle.group.proofs.PoolLists.{list-next, left-suc, standing-next}
+use Rattle.group.proofs.Counting.{all-set, all-row, row-long, tallyRow-cursor}
+use Rattle.group.proofs.PoolLists.{left-suc, standing-next}
 
 -- The two forms of a term.
 pub term-wide : (b : Bool) (t : Item) → length (termOf b t) ≡ widthOf b
@@ -292,7 +295,7 @@ module _ (b : Bool) (n : ℕ) (P : List ℕ) (index field at count : ℕ) (H₀ 
         ≡ itemsAt index field (readMonomial (drop place P) ∷ []) ++ itemsAt index field (listIn P (place + 2 + getD P place 0) (count - (i + 1)))
     next-list =
         ap (λ (m : ℕ). itemsAt index field (listIn P place m)) (left-suc count i h)
-        ∙ ap (itemsAt index field) (list-next P place (count - (i + 1)))
+        ∙ ap (itemsAt index field) (list-in-suc P place (count - (i + 1)))
         ∙ items-cons index field (readMonomial (drop place P)) (listIn P (place + 2 + getD P place 0) (count - (i + 1)))
 
     pub listing-asks : ToPlace b n H₀ P T₀ (itemsAt index field (listIn P at count)) → ToPlace b n H P T (itemsAt index field (readMonomial (drop place P) ∷ []))

@@ -5,13 +5,14 @@ use mathlib.Core.Bool.{true}
 use mathlib.Core.List.{List, [], _∷_, _++_, map, flatMap, append-assoc, append-nil}
 use Prim.Native.Nat.{ℕ, zero, suc, _+_, _*_, _-_, _≤_, _<_}
 use native.Mathlib.Omega.{arith}
-use lib.ListN.{length, getD, set, length-append, length-replicate, replicate-append-replicate}
+use lib.ListN.{length, getD, set, length-append}
 use lib.Seq.{sets, sets-eq, drop-at}
 use Rattle.semantics.specs.Monomial.{beforeVars}
 use Rattle.semantics.specs.Group.{Item, Group, terms}
 use Rattle.semantics.specs.Call.{zeros, padded}
-use Rattle.semantics.proofs.Sorting.{All}
+use Rattle.semantics.proofs.Sorting.{All, all-within}
 use Rattle.semantics.proofs.Grouping.{terms-length}
+use Rattle.semantics.proofs.Calls.{zeros-add, zeros-long, padded-is, padded-length}
 use Rattle.group.specs.Grouped.{byOrder, Tally, select, Ascends, countOf, total, placed, cursors, Room, none}
 use Rattle.group.proofs.Gathering.{Side, side, less-is, more-is, same-is}
 use Rattle.group.proofs.Tallies.{counted, Whole}
@@ -52,11 +53,6 @@ module _ (v : List ℕ) (t : Item) where
 
   pub select-more : (ts : List Item) → beforeVars (t .vars) v ≡ true → select v (ts ++ (t ∷ [])) ≡ select v ts
   select-more ts e = select-append v ts (t ∷ []) ∙ ap (λ (l : List Item). select v ts ++ l) (one-more e) ∙ append-nil (select v ts)
-
-pub all-at : (P : Tally → Type 0) (gs : List Tally) (k : ℕ) → All P gs → k < length gs → P (getD gs k none)
-all-at P [] k a h = absurd (omega arith)
-all-at P (g ∷ gs) zero a h = a .0
-all-at P (g ∷ gs) (suc k) a h = all-at P gs k (a .1) (omega arith)
 
 -- Room for items, group by group.
 abbrev pub Fit : List Tally → List Item → Type 0
@@ -106,25 +102,9 @@ sets-middle A M B vs e =
         let d : length M ≡ 0 + length vs = omega arith in
         sets-eq vs (M ++ B) 0 l ∙ ap (λ (t : List ℕ). vs ++ t) (drop-at M B (0 + length vs) d)
 
-pub zeros-add : (m n : ℕ) → zeros (m + n) ≡ zeros m ++ zeros n
-unfolding zeros
-zeros-add m n = sym (replicate-append-replicate m n 0)
-
-pub zeros-long : (n : ℕ) → length (zeros n) ≡ n
-unfolding zeros
-zeros-long n = length-replicate {A = ℕ} n 0
-
 zeros-none : zeros 0 ≡ []
 unfolding zeros
 zeros-none = refl
-
-pub padded-is : (ws : List ℕ) (n : ℕ) → padded ws n ≡ ws ++ zeros (n - length ws)
-unfolding padded
-padded-is ws n = refl
-
-pub padded-length : (ws : List ℕ) (n : ℕ) → length ws ≤ n → length (padded ws n) ≡ n
-padded-length ws n h =
-    ap length (padded-is ws n) ∙ length-append ws (zeros (n - length ws)) ∙ omega (arith, zeros-long (n - length ws))
 
 pub padded-full : (ws : List ℕ) (n : ℕ) → length ws ≡ n → padded ws n ≡ ws
 padded-full ws n h =
@@ -178,7 +158,7 @@ module _ (t : Item) (done : List Item) where
       ∙ ap (λ (l : List ℕ). (s + length (select (g .vars) (done ++ (t ∷ [])))) ∷ l)
       (sym (cursors-behind (s + g .count) gs (subst (λ (v : List ℕ). All (λ (h : Tally). beforeVars v (h .vars) ≡ true) gs) e (a .0))))
   cursor-step s (g ∷ gs) (suc k) a h e =
-      let b = subst (λ (v : List ℕ). beforeVars (g .vars) v ≡ true) e (all-at (λ (x : Tally). beforeVars (g .vars) (x .vars) ≡ true) gs k (a .0) (omega arith)) in
+      let b = subst (λ (v : List ℕ). beforeVars (g .vars) v ≡ true) e (all-within (λ (x : Tally). beforeVars (g .vars) (x .vars) ≡ true) gs k none (a .0) (omega arith)) in
       ap (λ (l : List ℕ). (s + length (select (g .vars) done)) ∷ l) (cursor-step (s + g .count) gs k (a .1) (omega arith) e)
       ∙ ap (λ (l : List Item). (s + length l) ∷ cursors (s + g .count) gs (done ++ (t ∷ []))) (sym (select-less (g .vars) t done b))
 
@@ -225,7 +205,7 @@ module _ (t : Item) (done : List Item) where
             go : (d : ℕ) → y ≡ suc x + d → w * x + w ≤ w * y
             go d q = rw q (omega arith)
     place-step (g ∷ gs) (suc k) Z a h e f =
-        let b = subst (λ (v : List ℕ). beforeVars (g .vars) v ≡ true) e (all-at (λ (x : Tally). beforeVars (g .vars) (x .vars) ≡ true) gs k (a .0) (omega arith)) in
+        let b = subst (λ (v : List ℕ). beforeVars (g .vars) v ≡ true) e (all-within (λ (x : Tally). beforeVars (g .vars) (x .vars) ≡ true) gs k none (a .0) (omega arith)) in
         let s = select-less (g .vars) t done b in
         let P : List ℕ = padded (flatMap term (select (g .vars) done)) (width * g .count) in
         let l = terms-length term width wide (select (g .vars) done) in

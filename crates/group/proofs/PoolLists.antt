@@ -1,19 +1,21 @@
 -- The lists of the pool, monomial by monomial: where they stand, and what is counted of them.
 use mathlib.Core.Path.{_≡_, refl, sym, _∙_, ap, subst}
 use mathlib.Core.Bool.{Bool, true, false, cond}
-use mathlib.Core.List.{List, [], _∷_, _++_, flatMap, append-nil}
+use mathlib.Core.List.{List, [], _∷_, _++_, append-assoc}
 use Prim.Native.Nat.{ℕ, suc, _+_, _*_, _-_, _≤_, _<_}
 use native.Mathlib.Omega.{arith}
 use lib.Dec.{eqb}
-use lib.ListN.{length, getD, take, drop, length-take, length-drop}
-use lib.Seq.{getD-drop, getD-take, drop-drop, take-at, drop-at, take-add, length-take-le}
+use lib.ListN.{length, getD, take, drop, take-append-drop}
+use lib.Seq.{getD-drop, drop-drop, take-at, drop-at}
 use borrow.Author.Tests.{eq-eqb, ne-eqb}
+use Rattle.slices.proofs.Lists.{getD-front}
 use Rattle.semantics.specs.Monomial.{Monomial}
 use Rattle.semantics.specs.Expand.{listSize}
 use Rattle.semantics.specs.Group.{Root, itemsOf}
 use Rattle.semantics.proofs.Basics.{by-test, cond-true, cond-false}
 use Rattle.semantics.proofs.Sorting.{All}
 use Rattle.monomial.specs.Words.{monomialWords, listWords, readMonomial, readList, listIn, Fits, Stored}
+use Rattle.monomial.proofs.ListLaws.{words-cons, size-cons, one-length, words-length, front-count, stored-list, list-in-suc}
 use Rattle.group.specs.Grouped.{Tally, tallyAll, nonZero, Standing, listOf, InPool}
 use Rattle.group.proofs.Tallies.{varsOf, tallyAll-append}
 
@@ -61,16 +63,6 @@ items-vars r (m ∷ ms) = go (eqb (m .coef) 0) (items-vars r ms)
     go true ih = ih
     go false ih = ap (λ (l : List (List ℕ)). m .vars ∷ l) ih
 
--- The next monomial of a list.
-pub list-next : (P : List ℕ) (place r : ℕ) → listIn P place (suc r) ≡ readMonomial (drop place P) ∷ listIn P (place + 2 + getD P place 0) r
-unfolding readList
-list-next P place r =
-    let z : place + 0 ≡ place = omega arith in
-    let e : getD (drop place P) 0 0 ≡ getD P place 0 = getD-drop place P 0 0 ∙ ap (λ (i : ℕ). getD P i 0) z in
-    let f : place + (2 + getD P place 0) ≡ place + 2 + getD P place 0 = omega arith in
-    ap (λ (l : List ℕ). readMonomial (drop place P) ∷ readList r l)
-    (drop-drop (2 + getD (drop place P) 0 0) place P ∙ ap (λ (i : ℕ). drop (place + (2 + i)) P) e ∙ ap (λ (i : ℕ). drop i P) f)
-
 pub left-suc : (count i : ℕ) → i < count → count - i ≡ suc (count - (i + 1))
 left-suc count i h = omega arith
 
@@ -87,99 +79,56 @@ left-next count i place P gs h =
     let m : Monomial = readMonomial (drop place P) in
     let l : List Monomial = listIn P (place + 2 + getD P place 0) r in
     let e : nonZero (listIn P place (count - i)) ≡ nonZero (m ∷ []) ++ nonZero l =
-    ap (λ (x : ℕ). nonZero (listIn P place x)) (left-suc count i h) ∙ ap nonZero (list-next P place r) ∙ nonZero-cons m l in
+    ap (λ (x : ℕ). nonZero (listIn P place x)) (left-suc count i h) ∙ ap nonZero (list-in-suc P place r) ∙ nonZero-cons m l in
     sym (tallyAll-append (nonZero (m ∷ [])) (nonZero l) gs) ∙ ap (λ (x : List (List ℕ)). tallyAll x gs) (sym e)
 
 pub left-none : (count i place : ℕ) (P : List ℕ) (gs : List Tally) → count ≤ i → tallyAll (nonZero (listIn P place (count - i))) gs ≡ gs
 unfolding nonZero tallyAll readList
 left-none count i place P gs h = let z : count - i ≡ 0 = omega arith in ap (λ (x : ℕ). tallyAll (nonZero (listIn P place x)) gs) z
 
--- The words of a monomial.
-words-length : (m : Monomial) → length (monomialWords m) ≡ 2 + length (m .vars)
-unfolding monomialWords
-words-length m = omega arith
-
-words-first : (m : Monomial) (r : List ℕ) → getD (monomialWords m ++ r) 0 0 ≡ length (m .vars)
-unfolding monomialWords
-words-first m r = refl
-
-read-one : (m : Monomial) (D : List ℕ) → take (2 + length (m .vars)) D ≡ monomialWords m → readMonomial D ≡ m
-unfolding readMonomial monomialWords
-read-one m D f =
-    let n : ℕ = length (m .vars) in
-    let l = sym (length-take (2 + n) D) ∙ ap length f in
-    let a : length (take 2 D) ≡ 2 = length-take-le 2 D (omega arith) in
-    let x : getD D 0 0 ≡ n = sym (getD-take (2 + n) D 0 0 (omega arith)) ∙ ap (λ (w : List ℕ). getD w 0 0) f in
-    let y : getD D 1 0 ≡ m .coef = sym (getD-take (2 + n) D 1 0 (omega arith)) ∙ ap (λ (w : List ℕ). getD w 1 0) f in
-    let z : take n (drop 2 D) ≡ m .vars = sym (drop-at (take 2 D) (take n (drop 2 D)) 2 a) ∙ ap (drop 2) (sym (take-add 2 n D) ∙ f) in
-    ap (λ (k : ℕ). record { vars = take k (drop 2 D); coef = getD D 1 0 }) x ∙ (λ j. record { vars = z j; coef = y j })
-
 -- A stored list, taken apart: its first monomial, and the rest.
 module _ (m : Monomial) (ms : List Monomial) (P : List ℕ) (at : ℕ)
     (w : take (listSize (m ∷ ms)) (drop at P) ≡ listWords (m ∷ ms)) (i : at + listSize (m ∷ ms) ≤ length P) where
-  size-is : listSize (m ∷ ms) ≡ 2 + length (m .vars) + listSize ms
-  unfolding listSize
-  size-is = refl
+  behind : List ℕ
+  behind = drop (listSize (m ∷ ms)) (drop at P)
 
-  both : take (2 + length (m .vars)) (drop at P) ++ take (listSize ms) (drop (2 + length (m .vars)) (drop at P)) ≡ monomialWords m ++ listWords ms
-  unfolding listWords flatMap
-  both = sym (take-add (2 + length (m .vars)) (listSize ms) (drop at P)) ∙ ap (λ (k : ℕ). take k (drop at P)) (sym size-is) ∙ w
-
-  long : length (take (2 + length (m .vars)) (drop at P)) ≡ 2 + length (m .vars)
-  long = let d = length-drop at P in let s = size-is in length-take-le (2 + length (m .vars)) (drop at P) (omega arith)
-
-  front-is : take (2 + length (m .vars)) (drop at P) ≡ monomialWords m
-  front-is =
-      sym (take-at (take (2 + length (m .vars)) (drop at P)) (take (listSize ms) (drop (2 + length (m .vars)) (drop at P))) (2 + length (m .vars)) long)
-      ∙ ap (take (2 + length (m .vars))) both ∙ take-at (monomialWords m) (listWords ms) (2 + length (m .vars)) (words-length m)
+  whole : drop at P ≡ monomialWords m ++ (listWords ms ++ behind)
+  unfolding behind
+  whole =
+      sym (take-append-drop (listSize (m ∷ ms)) (drop at P)) ∙ ap (λ (l : List ℕ). l ++ behind) (w ∙ words-cons m ms)
+      ∙ append-assoc (monomialWords m) (listWords ms) behind
 
   first-is : getD P at 0 ≡ length (m .vars)
-  first-is =
-      let z : at + 0 ≡ at = omega arith in
-      ap (λ (x : ℕ). getD P x 0) (sym z) ∙ sym (getD-drop at P 0 0) ∙ sym (getD-take (2 + length (m .vars)) (drop at P) 0 0 (omega arith))
-      ∙ ap (λ (x : List ℕ). getD x 0 0) (front-is ∙ sym (append-nil (monomialWords m))) ∙ words-first m []
-
-  next-is : at + (2 + length (m .vars)) ≡ at + 2 + getD P at 0
-  next-is = let e = first-is in omega arith
+  first-is = sym (getD-front P at) ∙ ap (λ (l : List ℕ). getD l 0 0) whole ∙ front-count m (listWords ms ++ behind)
 
   rest-is : take (listSize ms) (drop (at + 2 + getD P at 0) P) ≡ listWords ms
   rest-is =
-      ap (λ (k : ℕ). take (listSize ms) (drop k P)) (sym next-is)
-      ∙ ap (take (listSize ms)) (sym (drop-drop (2 + length (m .vars)) at P))
-      ∙ sym (drop-at (take (2 + length (m .vars)) (drop at P)) (take (listSize ms) (drop (2 + length (m .vars)) (drop at P))) (2 + length (m .vars)) long)
-      ∙ ap (drop (2 + length (m .vars))) both ∙ drop-at (monomialWords m) (listWords ms) (2 + length (m .vars)) (words-length m)
+      let n : at + 2 + getD P at 0 ≡ at + (2 + length (m .vars)) = omega (arith, first-is) in
+      ap (λ (k : ℕ). take (listSize ms) (drop k P)) n
+      ∙ ap (take (listSize ms))
+      (sym (drop-drop (2 + length (m .vars)) at P) ∙ ap (drop (2 + length (m .vars))) whole
+      ∙ drop-at (monomialWords m) (listWords ms ++ behind) (2 + length (m .vars)) (one-length m))
+      ∙ take-at (listWords ms) behind (listSize ms) (words-length ms)
 
   inside-is : at + 2 + getD P at 0 + listSize ms ≤ length P
-  inside-is = let e = first-is in let s = size-is in omega arith
+  inside-is = omega (arith, first-is, size-cons m ms)
 
--- A stored list stands in the pool, and reading gives it back.
+-- A stored list stands in the pool.
 list-standing : (l : List Monomial) (P : List ℕ) (at : ℕ) → All Fits l → take (listSize l) (drop at P) ≡ listWords l → at + listSize l ≤ length P
     → at + listSize l ≤ 4294967295 → Standing (length l) P at
 list-standing [] P at f w i b = tt
 list-standing (m ∷ ms) P at f w i b =
     let e = first-is m ms P at w i in
-    let s = size-is m ms P at w i in
+    let s = size-cons m ms in
     let few = f .0 .few in
     let j = inside-is m ms P at w i in
     (omega arith, omega arith, omega arith, list-standing ms P (at + 2 + getD P at 0) (f .1) (rest-is m ms P at w i) j (omega arith))
-
-read-back : (l : List Monomial) (P : List ℕ) (at : ℕ) → take (listSize l) (drop at P) ≡ listWords l → at + listSize l ≤ length P → listIn P at (length l) ≡ l
-unfolding readList
-read-back [] P at w i = refl
-read-back (m ∷ ms) P at w i =
-    list-next P at (length ms)
-    ∙ ap (λ (x : List Monomial). readMonomial (drop at P) ∷ x) (read-back ms P (at + 2 + getD P at 0) (rest-is m ms P at w i) (inside-is m ms P at w i))
-    ∙ ap (λ (x : Monomial). x ∷ ms) (read-one m (drop at P) (front-is m ms P at w i))
 
 pub stands : (P : List ℕ) (i : ℕ) → InPool P i → Standing (getD P (2 * i + 1) 0) P (getD P (2 * i) 0)
 stands P i s =
     let r = s .stored in
     subst (λ (m : ℕ). Standing m P (getD P (2 * i) 0)) (sym (r .count-is))
     (list-standing (listOf P i) P (getD P (2 * i) 0) (r .fit) (r .words-are) (r .inside) (s .low))
-
-pub stored-list : (P : List ℕ) (i : ℕ) (l : List Monomial) → Stored P i l → listOf P i ≡ l
-stored-list P i l r =
-    ap (λ (m : ℕ). listIn P (getD P (2 * i) 0) m) (r .count-is) ∙ read-back l P (getD P (2 * i) 0) (r .words-are) (r .inside)
 
 pub stored-in : (P : List ℕ) (i : ℕ) (l : List Monomial) → Stored P i l → getD P (2 * i) 0 + listSize l ≤ 4294967295 → InPool P i
 stored-in P i l r b =

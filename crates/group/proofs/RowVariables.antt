@@ -6,6 +6,7 @@ use native.Mathlib.Numerals.{add-one}
 use native.Mathlib.Omega.{arith}
 use lib.ListN.{length, getD, take, drop, length-append, length-drop, take-append-drop, drop-of-length-le}
 use lib.Seq.{drop-drop, take-all, take-at, take-suc, drop-append-add, length-take-le}
+use Rattle.slices.proofs.Lists.{flat-append}
 use Rattle.group.specs.Grouped.{Tally, tallied, none, Rows, varsIn}
 use Rattle.group.proofs.Headers.{vars-at, inside-at}
 
@@ -43,9 +44,8 @@ unfolding varsIn flatMap
 vars-cons g gs = refl
 
 vars-append : (gs hs : List Tally) → varsIn (gs ++ hs) ≡ varsIn gs ++ varsIn hs
-unfolding varsIn flatMap
-vars-append [] hs = refl
-vars-append (g ∷ gs) hs = ap (λ (l : List ℕ). g .vars ++ l) (vars-append gs hs) ∙ sym (append-assoc (g .vars) (varsIn gs) (varsIn hs))
+unfolding varsIn
+vars-append = flat-append (λ (g : Tally). g .vars)
 
 vars-nil : varsIn [] ≡ []
 unfolding varsIn flatMap

@@ -10,7 +10,7 @@ use lib.ListN.{length}
 use Rattle.semantics.specs.Monomial.{beforeVars}
 use Rattle.semantics.specs.Group.{Item, Group}
 use Rattle.semantics.proofs.Order.{beforeVars-trans}
-use Rattle.semantics.proofs.Sorting.{All}
+use Rattle.semantics.proofs.Sorting.{All, all-imply}
 use Rattle.group.specs.Grouped.{byOrder, Tally, tally, tallyAll, select, Ascends, countOf, total}
 use Rattle.group.proofs.Gathering.{Side, side, less-is, more-is, same-is, alone, joined, gather, gathered}
 
@@ -128,17 +128,12 @@ above-tally u v (g ∷ gs) h k = go (side v (g .vars)) (above-tally u v gs h (k 
     go (inr (inl e)) ih = rw (tally-more v g gs e) (k .0, ih)
     go (inr (inr e)) ih = rw (tally-same v g gs e) k
 
-pub above-trans : (u v : List ℕ) (gs : List Tally) → beforeVars u v ≡ true → All (λ (g : Tally). beforeVars v (g .vars) ≡ true) gs
-    → All (λ (g : Tally). beforeVars u (g .vars) ≡ true) gs
-above-trans u v [] h k = tt
-above-trans u v (g ∷ gs) h k = (beforeVars-trans u v (g .vars) h (k .0), above-trans u v gs h (k .1))
-
 pub tally-ascends : (v : List ℕ) (gs : List Tally) → Ascends gs → Ascends (tally v gs)
 tally-ascends v [] k = rw (tally-nil v) (tt, tt)
 tally-ascends v (g ∷ gs) k = go (side v (g .vars)) (tally-ascends v gs (k .1))
   where
     go : Side v (g .vars) → Ascends (tally v gs) → Ascends (tally v (g ∷ gs))
-    go (inl e) ih = rw (tally-less v g gs e) ((e, above-trans v (g .vars) gs e (k .0)), k)
+    go (inl e) ih = rw (tally-less v g gs e) ((e, all-imply (λ (x : Tally). beforeVars (g .vars) (x .vars) ≡ true) (λ (x : Tally). beforeVars v (x .vars) ≡ true) (λ x. beforeVars-trans v (g .vars) (x .vars) e) gs (k .0)), k)
     go (inr (inl e)) ih = rw (tally-more v g gs e) (above-tally (g .vars) v gs e (k .0), ih)
     go (inr (inr e)) ih = rw (tally-same v g gs e) k
 

@@ -11,7 +11,7 @@ use lib.Seq.{getD-set-same, getD-set-other, getD-take, drop-cons, take-suc-set, 
 use borrow.Author.Tests.{ltb-true, ltb-false}
 use Rattle.semantics.specs.Monomial.{beforeVars}
 use Rattle.semantics.proofs.Order.{beforeVars-trans, beforeVars-irrefl}
-use Rattle.semantics.proofs.Sorting.{All}
+use Rattle.semantics.proofs.Sorting.{All, all-within}
 use Rattle.monomial.specs.declared.vars.Order.{Order}
 use Rattle.monomial.specs.declared.vars.Order.the-variants.{After}
 use Rattle.monomial.specs.Orders.{orderOf}
@@ -19,7 +19,6 @@ use Rattle.group.specs.declared.Found.the-variants.{There, Missing}
 use Rattle.group.specs.Grouped.{Tally, tally, tallyAll, tallied, none, Ascends, Rows, Spot}
 use Rattle.group.specs.Waiting.{Inside, varsAt, Pending, Batch, batched, MayFollow}
 use Rattle.group.proofs.Tallies.{once, again, tally-more, tallyAll-tally, tallyAll-append, above-tally}
-use Rattle.group.proofs.Places.{all-at}
 use Rattle.group.proofs.Counting.{Told, order-told, tally-there, tally-missing, count-more, read-vars}
 
 -- Every tally stands behind v.
@@ -32,7 +31,7 @@ spot-above v (g ∷ gs) s =
     (s .2 0 (omega arith) (omega arith), spot-above v gs (omega arith, (λ i h. absurd (omega arith)), (λ i h l. s .2 (suc i) (omega arith) (omega arith))))
 
 above-spot : (v : List ℕ) (gs : List Tally) → Above v gs → Spot v gs (Missing 0)
-above-spot v gs a = (omega arith, (λ i h. absurd (omega arith)), (λ i h l. all-at (λ (g : Tally). beforeVars v (g .vars) ≡ true) gs i a l))
+above-spot v gs a = (omega arith, (λ i h. absurd (omega arith)), (λ i h l. all-within (λ (g : Tally). beforeVars v (g .vars) ≡ true) gs i none a l))
 
 spot-later : (v : List ℕ) (g : Tally) (gs : List Tally) (k : ℕ) → beforeVars (g .vars) v ≡ true → Spot v gs (Missing k) → Spot v (g ∷ gs) (Missing (suc k))
 spot-later v g gs k e s = (omega (arith, s .0), front, behind)

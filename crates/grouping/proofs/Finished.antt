@@ -11,10 +11,11 @@ use Rattle.semantics.specs.Monomial.{Monomial}
 use Rattle.semantics.specs.Group.{Root, Item, itemsOf, rows}
 use Rattle.semantics.specs.Call.{zeros, padded}
 use Rattle.semantics.proofs.Sorting.{All}
+use Rattle.semantics.proofs.Calls.{zeros-add, zeros-long, padded-is}
 use Rattle.group.specs.Grouped.{Tally, tallyAll, Ascends, total, tallyRow, tallied, RowInside, Rows, column, sum, totalled, cursors, select, placed}
 use Rattle.group.specs.Grouped.{itemsAt, termOf, widthOf, Placing, varsIn, headersOf, Vacant, Rooted, varsNamed}
 use Rattle.group.proofs.Tallies.{total-all, length-all}
-use Rattle.group.proofs.Places.{placed-none, padded-is, zeros-add, zeros-long}
+use Rattle.group.proofs.Places.{placed-none}
 use Rattle.group.proofs.Headers.{rows-length, tallied-length}
 use Rattle.group.proofs.RowTotals.{words, column-words}
 use Rattle.group.proofs.Counting.{tallyRow-cursor, row-count}

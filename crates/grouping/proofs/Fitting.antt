@@ -17,7 +17,11 @@ use Rattle.semantics.specs.Call.{zeros, padded, firstShort}
 use Rattle.semantics.proofs.Basics.{cond-true, cond-false}
 use Rattle.semantics.proofs.Sorting.{All}
 use Rattle.semantics.proofs.Grouping.{headers-length, terms-length}
+use Rattle.semantics.proofs.HeaderSizes.{constraints-few, counts-few, fields-few}
+use Rattle.semantics.proofs.Calls.{padded-is}
+use Rattle.semantics.proofs.RecordLists.{lists-ascend}
 use Rattle.records.specs.Access.{recordsOf}
+use Rattle.records.proofs.Steps.{inside}
 use Rattle.group.specs.declared.Tallied.{Tallied}
 use Rattle.group.specs.declared.Tallied.the-variants.{Headers, Full}
 use Rattle.grouping.specs.declared.families.Family.{Family}
@@ -29,13 +33,14 @@ use Rattle.group.specs.Grouped.{Tally, tallyAll, total, tallied, Rows, Counted,
 use Rattle.grouping.specs.Families.{rootsOf, nodesOf, ToTally, ToPlaceRoots, Standing, Grouping, groupsOf, Measured, Front, Laid}
 use Rattle.group.proofs.Gathering.{gathered}
 use Rattle.group.proofs.Tallies.{counted, counted-gathered, gathered-whole, count-all}
-use Rattle.group.proofs.Labels.{Labels, constraint-labels, count-labels, field-labels, groups-gathered, list-ascends}
-use Rattle.group.proofs.Places.{placed-all, padded-is}
+use Rattle.group.proofs.Labels.{Labels, constraint-labels, count-labels, field-labels, groups-gathered}
+use Rattle.group.proofs.Places.{placed-all}
 use Rattle.group.proofs.Headers.{tallied-length}
-use Rattle.group.proofs.PoolLists.{stored-list, stored-in}
+use Rattle.group.proofs.PoolLists.{stored-in}
 use Rattle.group.proofs.Placements.{term-wide}
 use Rattle.grouping.proofs.Finished.{total-is, vars-total, total-nil, family-small}
-use Rattle.grouping.proofs.RootItems.{items-named, constraints-few, counts-few, fields-few}
+use Rattle.grouping.proofs.RootItems.{items-named}
+use Rattle.monomial.proofs.ListLaws.{stored-list}
 
 -- Groups as tallies.
 headers-are : (v t : ℕ) (gs : List Group) → headersOf v t (map counted gs) ≡ headers v t gs
@@ -125,9 +130,9 @@ pub record Started (ws P : List ℕ) (roots : List Root) (b : Bool) (n : ℕ) (H
 
 -- Each family of a checked sheet.
 pub known : (f : Family) {ws P : List ℕ} → Grouping ws P (rootsOf f (readSheet ws)) → Known ws P (rootsOf f (readSheet ws))
-known Constraints {ws} g = record { grouping = g; labels = constraint-labels (readSheet ws); few = constraints-few ws (g .checked) }
-known Counts {ws} g = record { grouping = g; labels = count-labels (readSheet ws); few = counts-few ws (g .checked) }
-known Fields {ws} g = record { grouping = g; labels = field-labels (readSheet ws); few = fields-few ws (g .checked) }
+known Constraints {ws} g = record { grouping = g; labels = constraint-labels (readSheet ws); few = omega (arith, constraints-few prime (readSheet ws) (inside ws (g .checked))) }
+known Counts {ws} g = record { grouping = g; labels = count-labels (readSheet ws); few = omega (arith, counts-few prime (readSheet ws) (inside ws (g .checked))) }
+known Fields {ws} g = record { grouping = g; labels = field-labels (readSheet ws); few = omega (arith, fields-few prime (readSheet ws) (inside ws (g .checked))) }
 
 module _ {ws P : List ℕ} {roots : List Root} (f : Known ws P roots) where
   abbrev list : ℕ → List Monomial
@@ -171,7 +176,7 @@ module _ {ws P : List ℕ} {roots : List Root} (f : Known ws P roots) where
   tallies = tallyAll (varsNamed P (nodesOf roots)) []
 
   groups-are : groups list roots ≡ gathered (items (listOf P) roots)
-  groups-are = groups-gathered list (list-ascends prime (recordsOf ws)) roots (f .labels) ∙ ap gathered agree
+  groups-are = groups-gathered list (lists-ascend prime (recordsOf ws)) roots (f .labels) ∙ ap gathered agree
 
   counted-are : map counted (groups list roots) ≡ tallies
   counted-are =

@@ -1,10 +1,11 @@
 -- Counting the lists of records that words name: what is left to count gives the whole.
 use mathlib.Core.Path.{_≡_, refl, sym, ap, subst, _∙_}
-use mathlib.Core.List.{List, [], _∷_, _++_, flatMap, append-assoc, append-nil}
+use mathlib.Core.List.{List, [], _∷_, _++_, flatMap, append-nil}
 use Prim.Native.Nat.{ℕ, suc, _+_, _*_, _-_, _≤_, _<_}
 use native.Mathlib.Omega.{arith}
 use lib.ListN.{length, getD, take, drop, length-append}
 use lib.Seq.{drop-cons}
+use Rattle.slices.proofs.Lists.{flat-append}
 use Rattle.semantics.proofs.Sorting.{All}
 use Rattle.records.specs.declared.Interaction.{Interaction}
 use Rattle.records.specs.Access.{recordsOf, part, eachWords, RootsInside, AllRootsInside}
@@ -86,11 +87,8 @@ each-end one ws from count i h = let z : count - i ≡ 0 = omega arith in ap (ea
 
 module _ (P : List ℕ) where
   pub vars-append : (xs ys : List ℕ) → varsNamed P (xs ++ ys) ≡ varsNamed P xs ++ varsNamed P ys
-  unfolding varsNamed flatMap
-  vars-append [] ys = refl
-  vars-append (x ∷ xs) ys =
-      ap (λ (l : List (List ℕ)). nonZero (listOf P x) ++ l) (vars-append xs ys)
-      ∙ sym (append-assoc (nonZero (listOf P x)) (varsNamed P xs) (varsNamed P ys))
+  unfolding varsNamed
+  vars-append = flat-append (λ (i : ℕ). nonZero (listOf P i))
 
   pub vars-one : (i : ℕ) → varsNamed P (i ∷ []) ≡ nonZero (listOf P i)
   unfolding varsNamed flatMap

@@ -1,14 +1,15 @@
 -- Placing the terms of roots: what is left to place gives the whole; the roots that the words name.
 use mathlib.Core.Path.{_≡_, refl, sym, ap, subst, _∙_}
 use mathlib.Core.Bool.{Bool}
-use mathlib.Core.List.{List, [], _∷_, _++_, flatMap, append-assoc, append-nil}
-use Prim.Native.Nat.{ℕ, suc, _+_, _*_, _-_, _≤_, _<_}
+use mathlib.Core.List.{List, [], _∷_, _++_, flatMap, append-assoc, append-nil, map-append}
+use Prim.Native.Nat.{ℕ, suc, _+_, _-_, _≤_, _<_}
 use native.Mathlib.Omega.{arith}
 use native.Mathlib.Numerals.{add-one}
-use lib.ListN.{length, getD, drop, length-append}
+use lib.ListN.{length, getD, drop}
+use Rattle.slices.proofs.Lists.{flat-append}
 use Rattle.semantics.specs.Arithmetic.{prime}
 use Rattle.semantics.specs.Answer.{good}
-use Rattle.semantics.specs.Sheet.{Interaction, Each, GoodInteraction, interactionWords}
+use Rattle.semantics.specs.Sheet.{Interaction, interactionWords}
 use Rattle.semantics.specs.Check.{readSheet, check}
 use Rattle.semantics.specs.Monomial.{Monomial}
 use Rattle.semantics.specs.Group.{Root, labelled, constraintRoots, countRoots, fieldRoots, Item, itemsOf, items}
@@ -17,7 +18,7 @@ use Rattle.records.specs.declared.Interaction as places
 use Rattle.records.specs.Access.{recordsOf, constraintsAt, interactionsAt, part, countAt, fieldsAt, countWords, fieldWords, RootsInside, AllRootsInside}
 use Rattle.records.proofs.Reading.{count-word, message-is, next-stands, first-stands, counts-small, constraints-are, constraints-inside, interactions-stand, interactions-inside, counts-are, fields-are}
 use Rattle.records.proofs.Steps.{inside}
-use Rattle.semantics.proofs.GraphSheets.{interaction-facts}
+use Rattle.semantics.proofs.Demands as demands
 use Rattle.group.specs.Grouped.{Room, listOf, InPool, itemsAt, Placing, ToPlace, Places, varsNamed}
 use Rattle.grouping.specs.declared.families.Family.{Family}
 use Rattle.grouping.specs.declared.families.Family.the-variants.{Constraints, Counts, Fields}
@@ -31,26 +32,19 @@ use Rattle.records.proofs.Takings.{Taken, count-taken, fields-taken, taken-word
 
 module _ (list : ℕ → List Monomial) where
   pub items-append : (rs ss : List Root) → items list (rs ++ ss) ≡ items list rs ++ items list ss
-  unfolding items flatMap
-  items-append [] ss = refl
-  items-append (r ∷ rs) ss =
-      ap (λ (l : List Item). itemsOf r (list (r .node)) ++ l) (items-append rs ss)
-      ∙ sym (append-assoc (itemsOf r (list (r .node))) (items list rs) (items list ss))
+  unfolding items
+  items-append = flat-append (λ (r : Root). itemsOf r (list (r .node)))
 
   pub items-one : (r : Root) → items list (r ∷ []) ≡ itemsAt (r .index) (r .field) (list (r .node))
   unfolding items flatMap
   items-one r = append-nil (itemsOf r (list (r .node))) ∙ items-label r (list (r .node))
 
 -- The variables of the items of roots are those of the lists of the roots' records.
-vars-append : (ts us : List Item) → varsOf (ts ++ us) ≡ varsOf ts ++ varsOf us
-vars-append [] us = refl
-vars-append (t ∷ ts) us = ap (λ (l : List (List ℕ)). t .vars ∷ l) (vars-append ts us)
-
 pub items-named : (P : List ℕ) (rs : List Root) → varsOf (items (listOf P) rs) ≡ varsNamed P (nodesOf rs)
 unfolding items flatMap varsNamed nodesOf
 items-named P [] = refl
 items-named P (r ∷ rs) =
-    vars-append (itemsOf r (listOf P (r .node))) (items (listOf P) rs)
+    map-append (λ (t : Item). t .vars) (itemsOf r (listOf P (r .node))) (items (listOf P) rs)
     ∙ (λ i. items-vars r (listOf P (r .node)) i ++ items-named P rs i)
 
 -- One list of items after another.
@@ -270,86 +264,29 @@ module _ (ws : List ℕ) (checked : check prime ws ≡ good (readSheet ws)) wher
       (λ i at x tail e. ap (labelled (fieldRoot i) 0) (message-is ws at x tail e))
       0 (interactionsAt ws) (readSheet ws .interactions) (interactions-stand ws checked .1))
 
--- The records of labelled roots.
-nodes-append : (rs ss : List Root) → nodesOf (rs ++ ss) ≡ nodesOf rs ++ nodesOf ss
-unfolding nodesOf
-nodes-append [] ss = refl
-nodes-append (r ∷ rs) ss = ap (λ (l : List ℕ). r .node ∷ l) (nodes-append rs ss)
-
-nodes-labelled : {X : Type 0} (f : ℕ → X → List Root) (g : X → List ℕ) → ((n : ℕ) (x : X) → nodesOf (f n x) ≡ g x) → (n : ℕ) (xs : List X)
-    → nodesOf (labelled f n xs) ≡ flatMap g xs
-unfolding labelled flatMap nodesOf
-nodes-labelled f g same n [] = refl
-nodes-labelled f g same n (x ∷ xs) =
-    nodes-append (f n x) (labelled f (suc n) xs) ∙ (λ i. same n x i ++ nodes-labelled f g same (suc n) xs i)
-
-nodes-each : (f : ℕ → ℕ → List Root) → ((n c : ℕ) → nodesOf (f n c) ≡ c ∷ []) → (n : ℕ) (xs : List ℕ) → nodesOf (labelled f n xs) ≡ xs
-unfolding labelled nodesOf
-nodes-each f same n [] = refl
-nodes-each f same n (x ∷ xs) = nodes-append (f n x) (labelled f (suc n) xs) ∙ (λ i. same n x i ++ nodes-each f same (suc n) xs i)
-
+-- The records of a family's roots, as the words name them.
 module _ (ws : List ℕ) (checked : check prime ws ≡ good (readSheet ws)) where
   pub constraint-nodes : nodesOf (constraintRoots (readSheet ws)) ≡ part (constraintsAt ws) (length (readSheet ws .constraints)) ws
-  unfolding constraintRoots nodesOf
-  constraint-nodes = nodes-each constraintRoot (λ n c. refl) 0 (readSheet ws .constraints) ∙ sym (constraints-are ws checked)
+  unfolding nodesOf
+  constraint-nodes = demands.constraint-nodes (readSheet ws) ∙ sym (constraints-are ws checked)
 
   pub count-nodes : nodesOf (countRoots (readSheet ws)) ≡ countWords ws (interactionsAt ws) (length (readSheet ws .interactions))
-  unfolding countRoots nodesOf
+  unfolding nodesOf
   count-nodes =
-      nodes-labelled (λ i (x : Interaction). record { node = x .count; index = i; field = 0 } ∷ []) (λ (x : Interaction). x .count ∷ []) (λ n x. refl) 0
-      (readSheet ws .interactions)
+      demands.count-nodes (readSheet ws)
       ∙ sym (counts-are (interactions-stand ws checked .0) ws (interactionsAt ws) (readSheet ws .interactions) (interactions-stand ws checked .1))
 
   pub field-nodes : nodesOf (fieldRoots (readSheet ws)) ≡ fieldWords ws (interactionsAt ws) (length (readSheet ws .interactions))
-  unfolding fieldRoots
+  unfolding nodesOf
   field-nodes =
-      nodes-labelled (λ i (x : Interaction). labelled (fieldRoot i) 0 (x .message)) (λ (x : Interaction). x .message)
-      (λ n x. nodes-each (fieldRoot n) (λ m c. unfold nodesOf in refl) 0 (x .message)) 0 (readSheet ws .interactions)
+      demands.field-nodes (readSheet ws)
       ∙ sym (fields-are (interactions-stand ws checked .0) ws (interactionsAt ws) (readSheet ws .interactions) (interactions-stand ws checked .1))
-
--- How many roots a family has.
-labelled-length : {X : Type 0} (f : ℕ → X → List Root) (k : ℕ) (P : ℕ → X → Type 0) → ((n m : ℕ) (x : X) → P m x → length (f n x) ≤ k)
-    → (n m : ℕ) (xs : List X) → Each P m xs → length (labelled f n xs) ≤ k * length xs
-unfolding labelled
-labelled-length f k P h n m [] e = omega arith
-labelled-length f k P h n m (x ∷ xs) e =
-    let l = length-append (f n x) (labelled f (suc n) xs) in
-    let a = h n m x (e .0) in
-    let ih = labelled-length f k P h (suc n) (suc m) xs (e .1) in
-    omega arith
-
-each-any : {X : Type 0} (m : ℕ) (xs : List X) → Each (λ (n : ℕ) (x : X). Unit {0}) m xs
-each-any m [] = tt
-each-any m (x ∷ xs) = (tt, each-any (suc m) xs)
-
-one-each : (f : ℕ → ℕ → Root) (n : ℕ) (xs : List ℕ) → length (labelled (λ i c. f i c ∷ []) n xs) ≤ length xs
-one-each f n xs = omega (arith, labelled-length (λ i c. f i c ∷ []) 1 (λ (m : ℕ) (x : ℕ). Unit {0}) (λ n m x u. omega arith) n 0 xs (each-any 0 xs))
 
 -- The roots of a family that is known.
 roots-as : (ws : List ℕ) {f g : Family} → f ≡ g → rootsOf g (readSheet ws) ≡ rootsOf f (readSheet ws)
 roots-as ws k = ap (λ (f : Family). rootsOf f (readSheet ws)) (sym k)
 
 module _ (ws : List ℕ) (checked : check prime ws ≡ good (readSheet ws)) where
-  pub constraints-few : length (constraintRoots (readSheet ws)) ≤ 65536
-  unfolding constraintRoots
-  constraints-few =
-      omega (arith, one-each (λ i c. record { node = c; index = i; field = 0 }) 0 (readSheet ws .constraints), counts-small ws checked .1)
-
-  pub counts-few : length (countRoots (readSheet ws)) ≤ 65536
-  unfolding countRoots
-  counts-few =
-      let l = labelled-length (λ i (x : Interaction). record { node = x .count; index = i; field = 0 } ∷ []) 1 (λ (m : ℕ) (x : Interaction). Unit {0})
-      (λ n m x u. omega arith) 0 0 (readSheet ws .interactions) (each-any 0 (readSheet ws .interactions)) in
-      omega (arith, counts-small ws checked .2)
-
-  pub fields-few : length (fieldRoots (readSheet ws)) ≤ 65536
-  unfolding fieldRoots
-  fields-few =
-      let l = labelled-length (λ i (x : Interaction). labelled (fieldRoot i) 0 (x .message)) 63 (λ i. GoodInteraction (length (recordsOf ws)))
-      (λ n m x u. omega (arith, one-each (λ j c. record { node = c; index = n; field = j }) 0 (x .message), interaction-facts (length (recordsOf ws)) x u .short))
-      0 0 (readSheet ws .interactions) (inside ws checked .interactions) in
-      omega (arith, counts-small ws checked .2)
-
   -- The words of the constraints, from where they start on.
   module _ {at count : ℕ} (a : at ≡ constraintsAt ws) (c : count ≡ length (readSheet ws .constraints)) where
     pub constraint-span : (at + count ≤ length ws) × (count ≤ 4294967295)

@@ -1,5 +1,5 @@
 -- What an expansion lays out: each header stands inside its lists, and how many bytes the lists take.
-use mathlib.Core.Path.{_≡_, refl, sym, ap, subst, _∙_}
+use mathlib.Core.Path.{_≡_, sym, ap, subst, _∙_}
 use mathlib.Core.List.{List, [], _∷_, _++_, map, flatMap}
 use Prim.Native.Nat.{ℕ, zero, suc, _+_, _*_, _≤_, _<_}
 use native.Mathlib.Omega.{arith}
@@ -9,16 +9,11 @@ use lib.Seq.{drop-drop}
 use Rattle.semantics.specs.Arithmetic.{prime}
 use Rattle.semantics.specs.Group.{Item, Group, headers, variables, terms, listed}
 use Rattle.semantics.specs.Sheetlist.{headerLines}
-use Rattle.semantics.proofs.Grouping.{shown, listed-layout}
+use Rattle.semantics.proofs.Grouping.{shown, listed-layout, headers-length}
 use Rattle.listing.specs.declared.headers.Family.{Family}
 use Rattle.listing.specs.declared.headers.Family.the-variants.{Constraints, Numerators, Denominators}
 use Rattle.listing.specs.Families.{letterOf, widthOf, lineOf, headerLine, familyLines, HeadersInside}
 use Rattle.listing.proofs.Lengths.{flat-length, flat-most, header-length, t-most, u-most, w-most}
-
-headers-length : (vo to : ℕ) (gs : List Group) → length (headers vo to gs) ≡ 4 * length gs
-unfolding headers
-headers-length vo to [] = refl
-headers-length vo to (g ∷ gs) = ap (λ (n : ℕ). suc (suc (suc (suc n)))) (headers-length _ _ gs) ∙ omega arith
 
 -- The number of terms of all groups.
 unfoldable count : List Group → ℕ

@@ -7,7 +7,8 @@ use lib.Dec.{leb}
 use borrow.Author.Tests.{leb-true, leb-false}
 use native.Mathlib.Omega.{arith}
 use lib.ListN.{drop-of-length-le, length, getD, take, drop, length-append, length-take, length-drop, take-append-drop}
-use lib.Seq.{take-append-seam, drop-at, drop-drop, getD-drop}
+use lib.Seq.{take-append-seam, drop-at, drop-drop}
+use Rattle.slices.proofs.Lists.{flat-append, getD-front}
 use Rattle.semantics.specs.Monomial.{Monomial}
 use Rattle.semantics.specs.Expand.{listSize}
 use Rattle.semantics.proofs.Sorting.{All}
@@ -22,10 +23,8 @@ unfolding listWords flatMap
 words-cons m ms = refl
 
 pub words-append : (ms ns : List Monomial) → listWords (ms ++ ns) ≡ listWords ms ++ listWords ns
-words-append ms ns = elim ms [
-  | [] ↦ rw words-nil
-  | m ∷ (t → ih) ↦ words-cons m (t ++ ns) ∙ rw (ih, words-cons) (sym (append-assoc (monomialWords m) (listWords t) (listWords ns)))
-]
+unfolding listWords
+words-append = flat-append monomialWords
 
 pub size-cons : (m : Monomial) (ms : List Monomial) → listSize (m ∷ ms) ≡ 2 + length (m .vars) + listSize ms
 unfolding listSize
@@ -55,7 +54,7 @@ pub read-front : (m : Monomial) (rest : List ℕ) → readMonomial (monomialWord
 unfolding monomialWords readMonomial
 read-front m rest = λ i. record { vars = take-append-seam (m .vars) rest i; coef = m .coef }
 
-front-count : (m : Monomial) (rest : List ℕ) → getD (monomialWords m ++ rest) 0 0 ≡ length (m .vars)
+pub front-count : (m : Monomial) (rest : List ℕ) → getD (monomialWords m ++ rest) 0 0 ≡ length (m .vars)
 unfolding monomialWords
 front-count m rest = refl
 
@@ -100,11 +99,6 @@ stored-list pool i ms s = list-fits-at pool (getD pool (2 * i) 0) (getD pool (2 
 
 pub stored-fits : (pool : List ℕ) (i : ℕ) (ms : List Monomial) → Stored pool i ms → ListFits pool (getD pool (2 * i) 0) (getD pool (2 * i + 1) 0)
 stored-fits pool i ms s = list-fits-at pool (getD pool (2 * i) 0) (getD pool (2 * i + 1) 0) ms (s .words-are) (s .count-is) (s .inside) (s .fit) .0
-
-pub getD-front : (words : List ℕ) (at : ℕ) → getD (drop at words) 0 0 ≡ getD words at 0
-getD-front words at =
-    let z : at + 0 ≡ at = omega arith in
-    getD-drop at words 0 0 ∙ ap (λ (k : ℕ). getD words k 0) z
 
 -- The first monomial of a list in the words.
 pub list-in-suc : (words : List ℕ) (at n : ℕ) → listIn words at (suc n) ≡ readMonomial (drop at words) ∷ listIn words (at + 2 + getD words at 0) n

@@ -1,11 +1,11 @@
 -- The order of two variable lists, found number by number.
 use mathlib.Core.Path.{_≡_, refl, sym, ap, subst, _∙_}
 use mathlib.Core.Bool.{Bool, true, false}
-use mathlib.Core.List.{List, [], _∷_, _++_}
-use Prim.Native.Nat.{ℕ, zero, suc, _+_, _≤_, _<_}
+use mathlib.Core.List.{List, [], _∷_}
+use Prim.Native.Nat.{ℕ, zero, suc, _≤_, _<_}
 use native.Mathlib.Omega.{arith}
 use lib.ListN.{length, getD, take}
-use lib.Seq.{take-suc, take-take, getD-take, length-take-le}
+use lib.Seq.{take-take, getD-take, length-take-le}
 use Rattle.semantics.specs.Monomial.{before, beforeVars}
 use Rattle.semantics.proofs.Order.{lex-head, lex-tail, beforeVars-irrefl, beforeVars-asym, beforeVars-total}
 use Rattle.monomial.specs.declared.vars.Order.the-variants.{Before, Same, After}
@@ -63,11 +63,6 @@ lex-at (x ∷ xs) (y ∷ ys) (suc i) h k e l = lex-tail x y xs ys (cc) (lex-at x
 differs : (xs ys : List ℕ) (i : ℕ) → length xs ≡ length ys → i < length xs → take i xs ≡ take i ys → getD xs i 0 < getD ys i 0 → beforeVars xs ys ≡ true
 unfolding beforeVars
 differs xs ys i q h e l = lex-tail (length xs) (length ys) xs ys q (lex-at xs ys i h (omega arith) e l)
-
-pub alike-more : (s d : List ℕ) (i : ℕ) → i < length s → i < length d → take i s ≡ take i d → getD s i 0 ≡ getD d i 0 → take (i + 1) s ≡ take (i + 1) d
-alike-more s d i h k e q =
-    let n : i + 1 ≡ suc i = omega arith in
-    ap (λ (m : ℕ). take m s) n ∙ take-suc s i 0 h ∙ (λ t. e t ++ (q t ∷ [])) ∙ sym (take-suc d i 0 k) ∙ ap (λ (m : ℕ). take m d) (sym n)
 
 -- The first n of one list, and the first m of another.
 module _ (s d : List ℕ) (n m : ℕ) (hs : n ≤ length s) (hd : m ≤ length d) where

@@ -32,7 +32,7 @@ module _ (pool : List ℕ) (from n i bound : ℕ) (h : i < n) (b : longestOf (li
 pub short-all : (pool : List ℕ) (at n : ℕ) → longestOf (listIn pool at (n - 0)) ≤ longestOf (listIn pool at n)
 short-all pool at n = let z : n - 0 ≡ n = omega arith in omega (arith, ap (λ (k : ℕ). longestOf (listIn pool at k)) z)
 
-fits-row : (x : Monomial) (ys : List Monomial) → length (x .vars) + longestOf ys ≤ 14 → All Fits (map (mulMonomial prime x) ys)
+pub fits-row : (x : Monomial) (ys : List Monomial) → length (x .vars) + longestOf ys ≤ 14 → All Fits (map (mulMonomial prime x) ys)
 fits-row x [] h = tt
 fits-row x (y ∷ ys) h =
     let e = longest-cons y ys in

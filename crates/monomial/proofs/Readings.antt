@@ -1,24 +1,12 @@
 -- A monomial read from the words, which may end within its variables.
 use mathlib.Core.Path.{_≡_, refl, sym, _∙_, ap}
-use mathlib.Core.List.{List, [], _∷_, _++_, map}
-use Prim.Native.Nat.{ℕ, zero, suc, _+_, _<_}
-use native.Mathlib.Numerals.{add-one}
-use lib.ListN.{length, getD, take, drop, set}
-use lib.Seq.{drop-drop, getD-drop, take-suc, take-suc-set}
+use mathlib.Core.List.{List, [], _∷_}
+use Prim.Native.Nat.{ℕ, zero, suc, _+_}
+use lib.ListN.{length, getD, take, drop}
+use lib.Seq.{drop-drop, getD-drop}
 use Rattle.semantics.specs.Monomial.{Monomial}
 use Rattle.monomial.specs.Words.{readMonomial}
 use Rattle.monomial.proofs.ListLaws.{varsIn}
-
-pub map-put : {X Y : Type 0} (f : X → Y) (l : List X) (i : ℕ) (x : X) → map f (set l i x) ≡ set (map f l) i (f x)
-map-put f [] i x = refl
-map-put f (y ∷ l) zero x = refl
-map-put {Y = Y} f (y ∷ l) (suc i) x = ap (λ (t : List Y). f y ∷ t) (map-put f l i x)
-
--- One more element is the same.
-pub alike-more : (s d : List ℕ) (i v : ℕ) → i < length s → i < length d → take i s ≡ take i d → v ≡ getD d i 0 → take (i + 1) (set s i v) ≡ take (i + 1) d
-alike-more s d i v h k e q =
-    ap (λ (m : ℕ). take m (set s i v)) (add-one i) ∙ take-suc-set s i v h ∙ ap (λ (l : List ℕ). l ++ (v ∷ [])) e
-    ∙ ap (λ (x : ℕ). take i d ++ (x ∷ [])) q ∙ sym (take-suc d i 0 k) ∙ ap (λ (m : ℕ). take m d) (sym (add-one i))
 
 take-taken : (n : ℕ) (l : List ℕ) → take (length (take n l)) l ≡ take n l
 take-taken zero l = refl

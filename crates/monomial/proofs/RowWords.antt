@@ -1,15 +1,16 @@
 -- Words copied, and the rows of the work list written one after another.
 use mathlib.Core.Path.{_≡_, refl, sym, _∙_, ap}
 use mathlib.Core.List.{List, [], _∷_, _++_, append-assoc, append-nil}
-use Prim.Native.Nat.{ℕ, zero, suc, _+_, _*_, _-_, _≤_, _<_, min}
+use Prim.Native.Nat.{ℕ, suc, _+_, _*_, _-_, _≤_, _<_, min}
 use native.Mathlib.Numerals.{add-one}
 use native.Mathlib.Omega.{arith}
 use lib.ListN.{length, getD, take, drop, set, length-set, length-take, length-drop}
-use lib.Seq.{take-at, drop-at, drop-drop, take-nil, take-add, getD-drop, getD-take, drop-set-lt, take-suc-set, drop-append-add, paste, paste-zero, paste-suc}
+use lib.Seq.{take-at, drop-at, drop-drop, take-add, getD-drop, getD-take, drop-set-lt, take-suc-set, drop-append-add, paste, paste-zero, paste-suc}
+use Rattle.slices.proofs.Lists.{take-min, getD-front}
 use Rattle.semantics.specs.Monomial.{Monomial}
 use Rattle.semantics.specs.Expand.{listSize}
 use Rattle.monomial.specs.Words.{monomialWords, listWords, readMonomial, held}
-use Rattle.monomial.proofs.ListLaws.{words-nil, words-cons, words-append, words-length, size-append, size-nil, getD-front}
+use Rattle.monomial.proofs.ListLaws.{words-nil, words-cons, words-append, words-length, size-append, size-nil}
 use Rattle.monomial.proofs.Sizes.{rowOf, held-zero, held-more, held-parts, row-count, size-more}
 
 -- The first i words copied.
@@ -60,14 +61,6 @@ head-copied out out₁ vs at v w n h e =
     ∙ ap (λ (x : List ℕ). (take at out ++ (v ∷ w ∷ [])) ++ (vs ++ x)) d
     ∙ append-assoc (take at out) (v ∷ w ∷ []) (vs ++ drop (at + 2 + n) out)
 
-take-both : (a b : ℕ) (l : List ℕ) → take a (take b l) ≡ take (min a b) l
-take-both zero b l = let z : 0 ≡ min 0 b = omega arith in ap (λ (n : ℕ). take n l) z
-take-both (suc a) zero l = let z : 0 ≡ min (suc a) 0 = omega arith in ap (λ (n : ℕ). take n l) z
-take-both (suc a) (suc b) [] = sym (take-nil (min (suc a) (suc b)))
-take-both (suc a) (suc b) (x ∷ l) =
-    let z : suc (min a b) ≡ min (suc a) (suc b) = omega arith in
-    ap (λ (t : List ℕ). x ∷ t) (take-both a b l) ∙ ap (λ (n : ℕ). take n (x ∷ l)) z
-
 -- The words of a row's monomial.
 row-vars : (work : List ℕ) (k s : ℕ) → 16 * k + 16 ≤ length work → s ≡ min (getD work (16 * k) 0) 14 → rowOf work k .vars ≡ take s (drop (16 * k + 2) work)
 unfolding rowOf readMonomial
@@ -76,7 +69,7 @@ row-vars work k s h e =
     let c : getD (take 16 D) 0 0 ≡ getD work (16 * k) 0 = getD-take 16 D 0 0 (omega arith) ∙ getD-front work (16 * k) in
     let t : length (take 2 D) ≡ 2 = omega (arith, length-take 2 D, length-drop (16 * k) work) in
     let d : drop 2 (take 16 D) ≡ take 14 (drop 2 D) = ap (drop 2) (take-add 2 14 D) ∙ drop-at (take 2 D) (take 14 (drop 2 D)) 2 t in
-    ap (take (getD (take 16 D) 0 0)) d ∙ ap (λ (n : ℕ). take n (take 14 (drop 2 D))) c ∙ take-both (getD work (16 * k) 0) 14 (drop 2 D)
+    ap (take (getD (take 16 D) 0 0)) d ∙ ap (λ (n : ℕ). take n (take 14 (drop 2 D))) c ∙ take-min (getD work (16 * k) 0) 14 (drop 2 D)
     ∙ ap (λ (n : ℕ). take n (drop 2 D)) (sym e) ∙ ap (take s) (drop-drop 2 (16 * k) work)
 
 row-coef : (work : List ℕ) (k : ℕ) → rowOf work k .coef ≡ getD work (16 * k + 1) 0

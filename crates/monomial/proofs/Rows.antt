@@ -4,7 +4,7 @@ use mathlib.Core.List.{List, [], _∷_, _++_, map, append-assoc, append-nil}
 use Prim.Native.Nat.{ℕ, zero, suc, _+_, _*_, _-_, _≤_, _<_}
 use native.Mathlib.Omega.{arith}
 use lib.ListN.{length, getD, take, drop, set, length-append, length-drop, length-map, take-append-drop}
-use lib.Seq.{take-suc, take-suc-set, take-append-le, drop-append-le, take-at, drop-at, drop-drop, getD-drop, getD-append-add, take-all, length-take-le, take-set-le, drop-set-add, set-append-left, paste, paste-suc, sets-eq}
+use lib.Seq.{take-append-le, drop-append-le, take-at, drop-at, drop-drop, getD-drop, getD-append-add, take-all, length-take-le, take-set-le, drop-set-add, set-append-left, paste, paste-suc, sets-eq}
 use Rattle.semantics.specs.Monomial as semantics
 use Rattle.semantics.specs.Group.{rows}
 use Rattle.packed_var.proofs.PackedVar as packed
@@ -14,17 +14,6 @@ use Rattle.monomial.specs.Words.{readMonomial, held}
 -- The variables of a monomial by value stand in fourteen places.
 pub fourteen : (vs : List PackedVar) → length (map (packed.the-type .to) vs) ≡ 14 → length vs ≡ 14
 fourteen vs e = sym (length-map vs (packed.the-type .to)) ∙ e
-
-pub map-set : {X Y : Type 0} (f : X → Y) (l : List X) (i : ℕ) (x : X) → map f (set l i x) ≡ set (map f l) i (f x)
-map-set f [] i x = refl
-map-set f (y ∷ l) zero x = refl
-map-set {Y = Y} f (y ∷ l) (suc i) x = ap (λ (t : List Y). f y ∷ t) (map-set f l i x)
-
--- A list filled from another: one more element.
-pub filled-more : (s d : List ℕ) (i v : ℕ) → i < length s → i < length d → take i s ≡ take i d → v ≡ getD d i 0 → take (i + 1) (set s i v) ≡ take (i + 1) d
-filled-more s d i v h k e q =
-    let n : i + 1 ≡ suc i = omega arith in
-    ap (λ (m : ℕ). take m (set s i v)) n ∙ take-suc-set s i v h ∙ (λ t. e t ++ (q t ∷ [])) ∙ sym (take-suc d i 0 k) ∙ ap (λ (m : ℕ). take m d) (sym n)
 
 -- A list stored in place: one more element.
 pub stored : (ws vs us : List ℕ) (at i v : ℕ) → us ≡ paste ws at vs i → v ≡ getD vs i 0 → at + i < length ws → i < length vs
@@ -173,6 +162,6 @@ held-more ws vs rest k n c h e =
     rows-after 16 readMonomial k 1 ws ((n ∷ c ∷ vs) ++ rest) h
     ∙ ap (λ (r : List semantics.Monomial). held k ws ++ r) (rows-cons 16 readMonomial 0 (n ∷ c ∷ vs) rest (omega arith) ∙ unfold rows readMonomial in refl)
 
-pub held-count : (n : ℕ) (ws : List ℕ) → length (held n ws) ≡ n
+pub held-length : (n : ℕ) (ws : List ℕ) → length (held n ws) ≡ n
 unfolding held
-held-count n ws = rows-count 16 readMonomial n ws
+held-length n ws = rows-count 16 readMonomial n ws

@@ -1,15 +1,14 @@
 -- The search for a monomial in a list that ascends.
 use mathlib.Core.Path.{_≡_, refl, sym, ap, subst, _∙_}
 use mathlib.Core.Logic.{⊎-elim}
-use mathlib.Core.Bool.{Bool, true, false}
+use mathlib.Core.Bool.{true}
 use mathlib.Core.List.{List, [], _∷_}
 use Prim.Native.Nat.{ℕ, zero, suc, _+_, _*_, _≤_, _<_, min}
 use native.Mathlib.Nat.{eq-or-lt-of-le}
 use native.Mathlib.Omega.{arith}
-use lib.Dec.{leb}
-use lib.ListN.{length, getD, take, drop, length-take}
-use lib.Seq.{take-take, take-all, getD-take, getD-drop, drop-drop}
-use borrow.Author.Tests.{leb-true, leb-false}
+use lib.ListN.{length, getD, take, drop}
+use lib.Seq.{take-all, getD-take, getD-drop, drop-drop}
+use Rattle.slices.proofs.Lists.{take-min}
 use Rattle.semantics.specs.Monomial.{Monomial, beforeVars}
 use Rattle.semantics.proofs.Order.{beforeVars-trans}
 use Rattle.semantics.proofs.Combining.{Above, Asc}
@@ -18,7 +17,7 @@ use Rattle.monomial.specs.declared.vars.Order.{Order}
 use Rattle.monomial.specs.declared.vars.Order.the-variants.{Before, Same, After}
 use Rattle.monomial.specs.Orders.{orderOf}
 use Rattle.monomial.specs.Places.{one, varsAt, FirstBefore, RestAfter}
-use Rattle.monomial.proofs.Rows.{row-at, held-count}
+use Rattle.monomial.proofs.Rows.{row-at, held-length}
 use Rattle.monomial.proofs.Orderings.{from-before, from-after, from-same}
 
 above-at : (v : List ℕ) (ms : List Monomial) → Above v ms → (j : ℕ) → j < length ms → beforeVars v (varsAt ms j) ≡ true
@@ -55,15 +54,6 @@ drop-two n l = let m : 2 + n ≡ suc (suc n) = omega arith in ap (λ (k : ℕ). 
     go (x ∷ []) = sym (take-all n [] (omega arith))
     go (x ∷ y ∷ t) = refl
 
-take-min : (n m : ℕ) (l : List ℕ) → take n (take m l) ≡ take (min n m) l
-take-min n m l = go (leb n m) refl
-  where
-    go : (t : Bool) → leb n m ≡ t → take n (take m l) ≡ take (min n m) l
-    go true h = let e : n ≡ min n m = omega (arith, leb-true n m h) in take-take n m l (leb-true n m h) ∙ ap (λ (k : ℕ). take k l) e
-    go false h =
-        let e : m ≡ min n m = omega (arith, leb-false n m h) in
-        take-all n (take m l) (omega (arith, length-take m l, leb-false n m h)) ∙ ap (λ (k : ℕ). take k l) e
-
 pub slot-vars : (ws : List ℕ) (k n : ℕ) → k < n → 16 * n ≤ length ws → varsAt (held n ws) k ≡ take (min (getD ws (16 * k) 0) 14) (drop (16 * k + 2) ws)
 unfolding held readMonomial
 slot-vars ws k n h l =
@@ -84,10 +74,10 @@ module _ (x : Monomial) (ws : List ℕ) (k n : ℕ) (h : k < n) (l : 16 * n ≤ 
 
   pub found-after : Asc (held n ws) → o ≡ After → FirstBefore x (held n ws) (k + 1)
   found-after a s =
-      lower-half x (held n ws) a k (omega (arith, held-count n ws))
+      lower-half x (held n ws) a k (omega (arith, held-length n ws))
       (ap (λ (v : List ℕ). beforeVars v (x .vars)) slot-is ∙ from-after (x .vars) (take c (drop (16 * k + 2) ws)) (sym q ∙ s))
 
   pub found-before : Asc (held n ws) → o ≡ Before → RestAfter x (held n ws) k
   found-before a s =
-      upper-half x (held n ws) a k (omega (arith, held-count n ws))
+      upper-half x (held n ws) a k (omega (arith, held-length n ws))
       (ap (beforeVars (x .vars)) slot-is ∙ from-before (x .vars) (take c (drop (16 * k + 2) ws)) (sym q ∙ s))

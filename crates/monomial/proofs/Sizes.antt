@@ -5,11 +5,12 @@ use Prim.Native.Nat.{ℕ, zero, suc, _+_, _*_, _-_, _≤_, _<_, min, max}
 use native.Mathlib.Omega.{arith}
 use lib.ListN.{length, getD, take, drop, length-take, length-drop}
 use lib.Seq.{drop-drop, getD-take}
+use Rattle.slices.proofs.Lists.{getD-front}
 use Rattle.semantics.specs.Monomial.{Monomial}
 use Rattle.semantics.specs.Expand.{listSize}
 use Rattle.semantics.specs.Group.{rows}
 use Rattle.monomial.specs.Words.{readMonomial, listIn, longestOf, held, ListFits}
-use Rattle.monomial.proofs.ListLaws.{size-nil, size-cons, size-append, getD-front, varsIn, left-cons, left-rest, left-all, none-left}
+use Rattle.monomial.proofs.ListLaws.{size-nil, size-cons, size-append, varsIn, left-cons, left-rest, left-all, none-left}
 
 pub longest-cons : (m : Monomial) (ms : List Monomial) → longestOf (m ∷ ms) ≡ max (length (m .vars)) (longestOf ms)
 unfolding longestOf

@@ -4,7 +4,7 @@ use mathlib.Core.Logic.{⊎-elim}
 use mathlib.Core.Bool.{Bool, true, false}
 use mathlib.Core.List.{List, [], _∷_, _++_, flatMap, append-assoc, append-nil}
 use Prim.Native.Nat.{ℕ, zero, suc, _+_, _-_, _≤_, _<_}
-use native.Mathlib.Nat.{eq-or-lt-of-le, sub-zero, add-zero}
+use native.Mathlib.Nat.{eq-or-lt-of-le, add-zero}
 use native.Mathlib.Omega.{arith}
 use lib.Dec.{ltb}
 use lib.ListN.{length, getD, drop, replicate, length-append, length-replicate}
@@ -16,6 +16,7 @@ use Rattle.semantics.specs.Graph.{equalRecords, find, intern}
 use Rattle.semantics.specs.Call.{zeros, padded}
 use Rattle.semantics.proofs.Basics.{cond-true, cond-false}
 use Rattle.semantics.proofs.Places.{place-next, place-word, record-wide, records-end}
+use Rattle.semantics.proofs.Calls.{drop-zeros}
 use Rattle.records.specs.Access.{nodeIn}
 use Rattle.nodes.specs.declared.rules.Child.{Child}
 use Rattle.nodes.specs.Picks.{viewOf}
@@ -57,12 +58,6 @@ flat-snoc : (ns : List Record) (q : Record) → flatMap recordWords (ns ++ (q �
 unfolding flatMap
 flat-snoc [] q = append-nil (recordWords q)
 flat-snoc (m ∷ ns) q = ap (λ (l : List ℕ). recordWords m ++ l) (flat-snoc ns q) ∙ sym (append-assoc (recordWords m) (flatMap recordWords ns) (recordWords q))
-
-drop-zeros : (j m : ℕ) → drop j (zeros m) ≡ zeros (m - j)
-unfolding zeros
-drop-zeros zero m = ap zeros (sym (sub-zero m))
-drop-zeros (suc j) zero = let e : 0 ≡ 0 - suc j = omega arith in ap zeros e
-drop-zeros (suc j) (suc m) = let e : m - j ≡ suc m - suc j = omega arith in drop-zeros j m ∙ ap zeros e
 
 -- Words written behind others take the place of zeros.
 pad-more : (ws vs : List ℕ) (lent n : ℕ) → length ws ≡ n → n + length vs ≤ lent → sets (padded ws lent) n vs ≡ padded (ws ++ vs) lent

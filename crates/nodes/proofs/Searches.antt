@@ -15,7 +15,7 @@ use Rattle.semantics.proofs.Basics.{by-test}
 use Rattle.semantics.proofs.Members.{Mem, mem-here, mem-there}
 use Rattle.semantics.proofs.Records.{LowRecord}
 use Rattle.semantics.proofs.Orders.{low}
-use Rattle.semantics.proofs.Graphs.{equal-is}
+use Rattle.semantics.proofs.Graphs.{equal-is, find-le}
 use Rattle.records.proofs.Visits.{kind-two, kind-neg, kind-flat}
 use Rattle.nodes.specs.Nodes.{NoneBefore, aboveAll}
 
@@ -52,11 +52,6 @@ none-found q (m ∷ ns) zero h =
 none-found q (m ∷ ns) (suc i) h =
     by-test (λ (k : ℕ). suc i < k → equalRecords q (getD ns i noRecord) ≡ false) (equalRecords q m)
     (λ e l. absurd (omega arith)) (λ e l. none-found q ns i (omega arith)) h
-
-find-le : (q : Record) (ns : List Record) → find q ns ≤ length ns
-unfolding find
-find-le q [] = omega arith
-find-le q (m ∷ ns) = let h = find-le q ns in by-test (λ (k : ℕ). k ≤ suc (length ns)) (equalRecords q m) (λ e. omega arith) (λ e. omega arith)
 
 -- The node that is found, or appended, is the one.
 found-at : (q : Record) (ns : List Record) → recordAt (ns ++ (q ∷ [])) (find q ns) ≡ q

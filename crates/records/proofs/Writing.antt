@@ -4,7 +4,6 @@ use mathlib.Core.Bool.{Bool, true, false, _&&_, true≢false}
 use mathlib.Core.List.{List, [], _∷_}
 use Prim.Native.Nat.{ℕ, suc, _+_}
 use native.Mathlib.Omega.{arith}
-use native.Mathlib.Numerals.{add-one}
 use lib.Dec.{eqb}
 use lib.ListN.{set}
 use lib.Seq.{sets}
@@ -31,10 +30,6 @@ equal-words q m = simp and-assoc
 
 pub equal-read : (q m n : Record) → m ≡ n → eqb (q .kind) (m .kind) && (eqb (q .a) (m .a) && (eqb (q .b) (m .b) && (eqb (q .c) (m .c) && eqb (q .d) (m .d)))) ≡ equalRecords q n
 equal-read q m n e = sym (equal-words q m) ∙ ap (equalRecords q) e
-
--- Stores one behind the other: of two words, and of a record's.
-pub two-stores : (ws : List ℕ) (at a b : ℕ) → set (set ws at a) (at + 1) b ≡ sets ws at (a ∷ b ∷ [])
-two-stores ws at a b = ap (λ (k : ℕ). set (set ws at a) k b) (add-one at)
 
 pub five-stores : (ws : List ℕ) (at k a b c d : ℕ)
     → set (set (set (set (set ws at k) (at + 1) a) (at + 2) b) (at + 3) c) (at + 4) d ≡ sets ws at (k ∷ a ∷ b ∷ c ∷ d ∷ [])

@@ -2,14 +2,38 @@
 use mathlib.Core.Path.{_≡_, refl, sym, _∙_, ap}
 use mathlib.Core.List.{List, [], _∷_, _++_, map, map-append}
 use Prim.Native.Nat.{ℕ, zero, suc, _+_, _-_, _≤_, _<_}
+use native.Mathlib.Nat.{sub-zero}
 use native.Mathlib.Omega.{arith}
 use lib.Dec.{leb}
-use lib.ListN.{length, getD, take, replicate, length-append, length-map, length-replicate, List·getD-map}
+use lib.ListN.{length, getD, take, drop, replicate-append-replicate, length-append, length-map, length-replicate, List·getD-map}
 use lib.Seq.{take-append-seam, getD-append-add}
 use borrow.Author.Tests.{le-leb, lt-leb}
 use Rattle.semantics.specs.Answer.{Answer, good, refused}
 use Rattle.semantics.specs.Call.{Result, Accepted, zeros, padded, paddedAll, outcome, handedBack, needs}
 use Rattle.semantics.proofs.Basics.{cond-true, cond-false}
+
+-- Zeros, and words padded with them.
+pub zeros-add : (m n : ℕ) → zeros (m + n) ≡ zeros m ++ zeros n
+unfolding zeros
+zeros-add m n = sym (replicate-append-replicate m n 0)
+
+pub zeros-long : (n : ℕ) → length (zeros n) ≡ n
+unfolding zeros
+zeros-long n = length-replicate {A = ℕ} n 0
+
+pub drop-zeros : (j m : ℕ) → drop j (zeros m) ≡ zeros (m - j)
+unfolding zeros
+drop-zeros zero m = ap zeros (sym (sub-zero m))
+drop-zeros (suc j) zero = let e : 0 ≡ 0 - suc j = omega arith in ap zeros e
+drop-zeros (suc j) (suc m) = let e : m - j ≡ suc m - suc j = omega arith in drop-zeros j m ∙ ap zeros e
+
+pub padded-is : (ws : List ℕ) (n : ℕ) → padded ws n ≡ ws ++ zeros (n - length ws)
+unfolding padded
+padded-is ws n = refl
+
+pub padded-length : (ws : List ℕ) (n : ℕ) → length ws ≤ n → length (padded ws n) ≡ n
+padded-length ws n h =
+    ap length (padded-is ws n) ∙ length-append ws (zeros (n - length ws)) ∙ omega (arith, zeros-long (n - length ws))
 
 -- A slice long enough is no reason to refuse.
 pub needs-met : {X : Type 0} (number needed lent : ℕ) (rest : Answer X) → needed ≤ lent → needs number needed lent rest ≡ rest
@@ -62,9 +86,8 @@ zeros-zero zero = tt
 zeros-zero (suc n) = (refl, zeros-zero n)
 
 zeros-length : (lent : List ℕ) → map length (map zeros lent) ≡ lent
-unfolding zeros
 zeros-length [] = refl
-zeros-length (n ∷ ns) = λ i. length-replicate {A = ℕ} n 0 i ∷ zeros-length ns i
+zeros-length (n ∷ ns) = λ i. zeros-long n i ∷ zeros-length ns i
 
 pub refused-zeros : (scratch lent : List ℕ) (n k : ℕ)
     → AllZeros (outcome scratch lent (refused n k) .slices) × (map length (outcome scratch lent (refused n k) .slices) ≡ scratch ++ lent)
@@ -82,19 +105,15 @@ Room [] (n ∷ ns) = ⊥
 Room (w ∷ ws) [] = ⊥
 Room (w ∷ ws) (n ∷ ns) = (length w ≤ n) × Room ws ns
 
-padded-length : (ws : List (List ℕ)) (lent : List ℕ) → Room ws lent → map length (paddedAll ws lent) ≡ lent
-unfolding paddedAll padded zeros
-padded-length [] [] h = refl
-padded-length [] (n ∷ ns) h = absurd h
-padded-length (w ∷ ws) [] h = absurd h
-padded-length (w ∷ ws) (n ∷ ns) h =
-    λ i. one i ∷ padded-length ws ns (h .1) i
-  where
-    one : length (w ++ replicate (n - length w) 0) ≡ n
-    one = simp (length-append, length-replicate) (omega (arith, h .0))
+padded-lengths : (ws : List (List ℕ)) (lent : List ℕ) → Room ws lent → map length (paddedAll ws lent) ≡ lent
+unfolding paddedAll
+padded-lengths [] [] h = refl
+padded-lengths [] (n ∷ ns) h = absurd h
+padded-lengths (w ∷ ws) [] h = absurd h
+padded-lengths (w ∷ ws) (n ∷ ns) h = λ i. padded-length w n (h .0) i ∷ padded-lengths ws ns (h .1) i
 
 pub accepted-lengths : (scratch lent : List ℕ) (r : Result) → Room (r .outputs) lent
     → map length (outcome scratch lent (good r) .slices) ≡ scratch ++ lent
 unfolding outcome
 accepted-lengths scratch lent r h =
-    map-append length (map zeros scratch) (paddedAll (r .outputs) lent) ∙ (λ i. zeros-length scratch i ++ padded-length (r .outputs) lent h i)
+    map-append length (map zeros scratch) (paddedAll (r .outputs) lent) ∙ (λ i. zeros-length scratch i ++ padded-lengths (r .outputs) lent h i)

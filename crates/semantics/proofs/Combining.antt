@@ -10,7 +10,7 @@ use Rattle.semantics.specs.Monomial.{Monomial, beforeVars, keep, plus, i
 use Rattle.semantics.proofs.Basics.{by-test}
 use Rattle.semantics.proofs.Arithmetic.{addM-lt, zero-addM, zero-mulM, addM-mulM, sums}
 use Rattle.semantics.proofs.Order.{beforeVars-trans, beforeVars-total}
-use Rattle.semantics.proofs.Sorting.{All}
+use Rattle.semantics.proofs.Sorting.{All, all-imply}
 use Rattle.semantics.proofs.Monomials.{one, val, val-cons, val-one, val-lt}
 
 -- What holds of an insertion, by the three cases of its first step.
@@ -54,8 +54,7 @@ module _ (p : ℕ) (big : 1 < p) (w : List ℕ → ℕ) where
 
 -- Every monomial of a list stands after `v`; a list ascends strictly; it has no coefficient 0.
 abbrev pub Above : List ℕ → List Monomial → Type 0
-Above v [] = Unit {0}
-Above v (x ∷ xs) = (beforeVars v (x .vars) ≡ true) × Above v xs
+Above v xs = All (λ (x : Monomial). beforeVars v (x .vars) ≡ true) xs
 
 abbrev pub Asc : List Monomial → Type 0
 Asc [] = Unit {0}
@@ -66,8 +65,9 @@ NoZero [] = Unit {0}
 NoZero (x ∷ xs) = (x .coef ≡ 0 → ⊥) × NoZero xs
 
 pub above-trans : (u v : List ℕ) (xs : List Monomial) → beforeVars u v ≡ true → Above v xs → Above u xs
-above-trans u v [] h k = tt
-above-trans u v (x ∷ xs) h k = (beforeVars-trans u v (x .vars) h (k .0), above-trans u v xs h (k .1))
+above-trans u v xs h =
+    all-imply (λ (x : Monomial). beforeVars v (x .vars) ≡ true) (λ (x : Monomial). beforeVars u (x .vars) ≡ true)
+    (λ x. beforeVars-trans u v (x .vars) h) xs
 
 pub above-keep : (v : List ℕ) (m : Monomial) (xs : List Monomial) → beforeVars v (m .vars) ≡ true → Above v xs → Above v (keep m xs)
 unfolding keep

@@ -35,7 +35,7 @@ equal-is r s h =
     let d = eqb-true _ _ (h4 .1) in
     λ i. record { kind = k i; a = a i; b = b i; c = c i; d = d i }
 
-find-le : (r : Record) (ns : List Record) → find r ns ≤ length ns
+pub find-le : (r : Record) (ns : List Record) → find r ns ≤ length ns
 unfolding find
 find-le r [] = omega arith
 find-le r (x ∷ xs) = let ih = find-le r xs in by-test (λ (k : ℕ). k ≤ suc (length xs)) (equalRecords r x) (λ e. omega arith) (λ e. omega arith)

@@ -4,9 +4,8 @@ use mathlib.Core.Bool.{Bool, true, false, cond}
 use mathlib.Core.List.{List, [], _∷_, _++_, flatMap, map-append}
 use Prim.Native.Nat.{ℕ, suc, _+_, _*_, _/_, _≤_}
 use native.Mathlib.Omega.{arith}
-use lib.Dec.{eqb, leb}
+use lib.Dec.{eqb}
 use lib.ListN.{length, length-append, length-map}
-use borrow.Author.Tests.{leb-true}
 use Rattle.semantics.specs.Answer.{good}
 use Rattle.semantics.specs.Sheet.{Interaction, Sheet, Inside, Each, GoodInteraction}
 use Rattle.semantics.specs.Walk.{order}
@@ -15,15 +14,15 @@ use Rattle.semantics.specs.Expand.{expandAll}
 use Rattle.semantics.specs.Group.{Root, constraintRoots, countRoots, fieldRoots, Item, itemsOf, items, later, Group, push, split, groups, headers, layout, rows}
 use Rattle.semantics.specs.Call.{Outcome, handedBack, family, constraintOutputs, constraintCall, interactionOutputs, maxFieldsLen, interactionCall}
 use Rattle.semantics.specs.Refusals.{SmallHeaders, headersOf, HeaderSizes}
-use Rattle.semantics.proofs.Basics.{by-test, and-true}
+use Rattle.semantics.proofs.Basics.{by-test}
 use Rattle.semantics.proofs.Order.{sameVars, same-vars, same-not, same-is}
 use Rattle.semantics.proofs.Sorting.{All, all-imply, sort-all, sort-same}
 use Rattle.semantics.proofs.Combining.{Above, Asc}
 use Rattle.semantics.proofs.Members.{Mem, mem-here, mem-there, mem-left, mem-right, Below}
 use Rattle.semantics.proofs.Records.{each-low}
 use Rattle.semantics.proofs.Orders.{order-below, order-roots}
-use Rattle.semantics.proofs.Encoding.{check-inside}
-use Rattle.semantics.proofs.GraphSheets.{interaction-facts, head-is}
+use Rattle.semantics.proofs.Encoding.{check-inside, head-limits}
+use Rattle.semantics.proofs.GraphSheets.{interaction-facts}
 use Rattle.semantics.proofs.Expansions.{walk-fine}
 use Rattle.semantics.proofs.RecordLists.{lists-ascend, Few, list-few}
 use Rattle.semantics.proofs.Grouping.{headers-length, push-by, items-all}
@@ -137,12 +136,6 @@ module _ (list : ℕ → List Monomial) (roots : List Root) (asc : (c : ℕ) →
       rw q groups-rows
 
 -- How many roots a sheet inside the limits has.
-head-limits : (p : ℕ) (s : Sheet) → Inside p s → (length (s .constraints) ≤ 1024) × (length (s .interactions) ≤ 1024)
-head-limits p s w =
-    let u = and-true (leb (length (s .records)) 4096) _ (sym (head-is s) ∙ w .head) in
-    let v = and-true (leb (length (s .constraints)) 1024) _ (u .1) in
-    (leb-true _ _ (v .0), leb-true _ _ (and-true (leb (length (s .interactions)) 1024) _ (v .1) .0))
-
 nodes-length : (roots : List Root) (ns : List ℕ) → nodes roots ≡ ns → length roots ≡ length ns
 nodes-length roots ns e = sym (length-map roots (λ (r : Root). r .node)) ∙ ap length e
 
@@ -159,15 +152,16 @@ counts-length [] = refl
 counts-length (x ∷ xs) = ap suc (counts-length xs)
 
 module _ (p : ℕ) (s : Sheet) (w : Inside p s) where
-  constraints-few : length (constraintRoots s) ≤ 64512
-  constraints-few = omega (arith, nodes-length (constraintRoots s) (s .constraints) (constraint-nodes s), head-limits p s w .0)
+  pub constraints-few : length (constraintRoots s) ≤ 64512
+  constraints-few = omega (arith, nodes-length (constraintRoots s) (s .constraints) (constraint-nodes s), head-limits s (w .head) .1)
 
-  counts-few : length (countRoots s) ≤ 64512
-  counts-few = omega (arith, nodes-length (countRoots s) _ (count-nodes s), counts-length (s .interactions), head-limits p s w .1)
+  pub counts-few : length (countRoots s) ≤ 64512
+  counts-few = omega (arith, nodes-length (countRoots s) _ (count-nodes s), counts-length (s .interactions), head-limits s (w .head) .2)
 
-  fields-few : length (fieldRoots s) ≤ 64512
+  pub fields-few : length (fieldRoots s) ≤ 64512
   fields-few =
-      omega (arith, nodes-length (fieldRoots s) _ (field-nodes s), messages-short (length (s .records)) 0 (s .interactions) (w .interactions), head-limits p s w .1)
+      let l = messages-short (length (s .records)) 0 (s .interactions) (w .interactions) in
+      omega (arith, nodes-length (fieldRoots s) _ (field-nodes s), head-limits s (w .head) .2)
 
 -- The lists of the roots of an accepted walk have at most 14 variables to a monomial.
 module _ (p : ℕ) (s : Sheet) (w : Inside p s) (roots : List ℕ) (named : Below (length (s .records)) roots)

@@ -2,8 +2,9 @@
 use mathlib.Core.Path.{_≡_, refl, _∙_, ap, subst}
 use mathlib.Core.Bool.{Bool, true, false}
 use mathlib.Core.List.{List, [], _∷_, _++_, map}
-use Prim.Native.Nat.{ℕ, zero, suc}
-use lib.ListN.{getD}
+use Prim.Native.Nat.{ℕ, zero, suc, _<_}
+use native.Mathlib.Omega.{arith}
+use lib.ListN.{length, getD}
 use Rattle.semantics.specs.Monomial.{insertSorted, sort}
 use Rattle.semantics.proofs.Basics.{by-test, not-both}
 
@@ -21,6 +22,11 @@ pub all-at : {X : Type 0} (P : X → Type 0) (xs : List X) (i : ℕ) (d : X) →
 all-at P [] i d h k = h
 all-at P (x ∷ xs) zero d h k = k .0
 all-at P (x ∷ xs) (suc i) d h k = all-at P xs i d h (k .1)
+
+pub all-within : {X : Type 0} (P : X → Type 0) (xs : List X) (i : ℕ) (d : X) → All P xs → i < length xs → P (getD xs i d)
+all-within P [] i d k h = absurd (omega arith)
+all-within P (x ∷ xs) zero d k h = k .0
+all-within P (x ∷ xs) (suc i) d k h = all-within P xs i d (k .1) (omega arith)
 
 pub all-imply : {X : Type 0} (P Q : X → Type 0) → ((x : X) → P x → Q x) → (xs : List X) → All P xs → All Q xs
 all-imply P Q h [] k = tt

@@ -1,5 +1,6 @@
-use Rattle.expand.proofs.Storing.{held-length, tail-written}
+use Rattle.expand.proofs.Storing.{tail-written}
 use Rattle.monomial.specs.Words.{held, listWords}
+use Rattle.monomial.proofs.Rows.{held-length}
 use Rattle.semantics.specs.Monomial as semantics
 use Rattle.semantics.specs.Expand.{listSize}
 use lib.ListN.{length-set}

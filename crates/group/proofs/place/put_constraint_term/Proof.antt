@@ -1,8 +1,8 @@
 use Prim.Native.Nat.{_*_}
 use native.Mathlib.Omega.{arith}
 use lib.ListN.{length-set}
-use Rattle.group.proofs.Headers.{two-sets}
 use borrow.Author.Needs.{needs}
+use Rattle.slices.proofs.Lists.{two-sets}
 use Rattle.group.proofs.place.put_constraint_term.Statement.{statement}
 use Rattle.group.proofs.place.put_constraint_term.Tie as tie
 

@@ -4,7 +4,8 @@ use native.Mathlib.Omega.{arith}
 use borrow.Author.Needs.{needs}
 use lib.ListN.{take, drop, length-drop}
 use lib.Seq.{getD-drop}
-use Rattle.monomial.proofs.Orderings.{alike-more, at-shorter, at-longer, at-same, at-less, at-more}
+use Rattle.slices.proofs.Lists.{alike-more}
+use Rattle.monomial.proofs.Orderings.{at-shorter, at-longer, at-same, at-less, at-more}
 use Rattle.group.proofs.search.order_in.Statement.{statement}
 use Rattle.group.proofs.search.order_in.Tie as tie
 

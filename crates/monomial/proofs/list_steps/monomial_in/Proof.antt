@@ -5,10 +5,11 @@ use borrow.Author.Needs.{needs}
 use lib.ListN.{length, getD, take, drop, length-set}
 use lib.ListN.{length-map, length-drop}
 use lib.Seq.{getD-drop}
+use Rattle.slices.proofs.Lists.{map-set, filled-more}
 use Rattle.packed_var.specs.declared.PackedVar.{PackedVar}
 use Rattle.monomial.specs.Words.{num, nums}
 use Rattle.monomial.proofs.ListLaws.{vars-in-is}
-use Rattle.monomial.proofs.Readings.{map-put, alike-more, read-in}
+use Rattle.monomial.proofs.Readings.{read-in}
 use Rattle.monomial.proofs.list_steps.monomial_in.Statement.{statement}
 use Rattle.monomial.proofs.list_steps.monomial_in.Tie as tie
 
@@ -62,8 +63,8 @@ loop-again c =
       h .1,
       h .2,
       length-set (b .vars) (b .i) x ∙ h .3,
-      ap (take (b .i + 1)) (map-put num (b .vars) (b .i) x)
-          ∙ alike-more (nums (b .vars)) (drop (a .at + 2) (a .words .now)) (b .i) (num x) (omega arith) (omega arith) (h .4) (sym (getD-drop (a .at + 2) (a .words .now) (b .i) 0)),
+      ap (take (b .i + 1)) (map-set num (b .vars) (b .i) x)
+          ∙ filled-more (nums (b .vars)) (drop (a .at + 2) (a .words .now)) (b .i) (num x) (omega arith) (omega arith) (h .4) (sym (getD-drop (a .at + 2) (a .words .now) (b .i) 0)),
     )
 
 add-t18 : tie.Need-add-t18 Inv-loop μ-loop

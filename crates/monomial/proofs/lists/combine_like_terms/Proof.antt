@@ -7,7 +7,7 @@ use Rattle.semantics.specs.Arithmetic.{prime}
 use Rattle.semantics.specs.Monomial as semantics
 use Rattle.monomial.specs.Words.{monomialOf, held}
 use Rattle.monomial.specs.Places.{Stands}
-use Rattle.monomial.proofs.Rows.{held-count}
+use Rattle.monomial.proofs.Rows.{held-length}
 use Rattle.monomial.proofs.Inserting.{insert-gap, insert-at}
 use Rattle.monomial.proofs.lists.combine_like_terms.Statement.{statement}
 use Rattle.monomial.proofs.lists.combine_like_terms.Tie as tie
@@ -22,7 +22,7 @@ sum-at-requires : tie.Need-sum-at-requires
 sum-at-requires c κs =
     let a = c .before .before .before .before .before .before .before .args in
     let s = subst (Stands (monomialOf (a .m)) (held (a .count) (a .work .now))) (c .before .before .found .given .1) (c .before .before .before .before .find-monomial .ensures) in
-    (omega (arith, s .0, held-count (a .count) (a .work .now)), omega arith, c .before .before .before .before .before .before .before .pre .1 .room)
+    (omega (arith, s .0, held-length (a .count) (a .work .now)), omega arith, c .before .before .before .before .before .before .before .pre .1 .room)
 
 enum-known-found-2 : tie.Need-enum-known-found-2
 enum-known-found-2 c = search needs
@@ -31,7 +31,7 @@ insert-at-requires : tie.Need-insert-at-requires
 insert-at-requires c κs =
     let a = c .before .before .before .before .before .before .before .args in
     let s = subst (Stands (monomialOf (a .m)) (held (a .count) (a .work .now))) (c .before .before .found2 .given .1) (c .before .before .before .before .find-monomial .ensures) in
-    (omega (arith, s .0, held-count (a .count) (a .work .now)), omega arith, c .before .before .before .before .before .before .before .pre .1 .room, omega arith)
+    (omega (arith, s .0, held-length (a .count) (a .work .now)), omega arith, c .before .before .before .before .before .before .before .pre .1 .room, omega arith)
 
 same-length : tie.Need-same-length
 same-length c = search needs

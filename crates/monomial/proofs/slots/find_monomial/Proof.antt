@@ -4,7 +4,7 @@ use borrow.Author.Needs.{needs}
 use lib.ListN.{take}
 use Rattle.monomial.specs.Words.{nums, monomialOf, held}
 use Rattle.monomial.specs.Places.{FirstBefore, RestAfter}
-use Rattle.monomial.proofs.Rows.{held-count}
+use Rattle.monomial.proofs.Rows.{held-length}
 use Rattle.monomial.proofs.Searches.{found-same, found-after, found-before}
 use Rattle.monomial.proofs.slots.find_monomial.Statement.{statement}
 use Rattle.monomial.proofs.slots.find_monomial.Tie as tie
@@ -18,7 +18,7 @@ abbrev μ-loop : tie.MeasureT-loop
 loop-holds : tie.Need-loop-holds Inv-loop μ-loop
 loop-holds c =
     let a = c .before .before .args in
-    (omega arith, omega arith, λ i h. absurd (omega arith), λ i h k. absurd (omega (arith, held-count (a .count) (a .work .now))))
+    (omega arith, omega arith, λ i h. absurd (omega arith), λ i h k. absurd (omega (arith, held-length (a .count) (a .work .now))))
 
 add-k : tie.Need-add-k Inv-loop μ-loop
 add-k c = search needs
@@ -42,7 +42,7 @@ returns : tie.Need-returns Inv-loop μ-loop
 returns c =
     let a = c .before .before .before .before .before .before .before .before .args in
     let b = c .before .before .before .before .before .loop in
-    let l = held-count (a .count) (a .work .now) in (
+    let l = held-length (a .count) (a .work .now) in (
       omega arith,
       found-same (monomialOf (a .m)) (a .work .now) ((b .low + b .high) / 2) (a .count) (omega arith) (omega arith) (c .before .before .before .slot-count .result) (c .before .before .before .slot-count .ensures)
           (c .before .before .order-at .result) (c .before .before .order-at .ensures) (c .enum-told .given .1),
@@ -92,7 +92,7 @@ returns-2 c =
     let a = c .before .before .before .before .args in
     let b = c .before .loop in
     let h = b .inv in
-    let l = held-count (a .count) (a .work .now) in
+    let l = held-length (a .count) (a .work .now) in
     (omega arith, h .2, λ i k m. h .3 i (omega arith) m)
 
 pub find-monomial-spec : {M : Type 1} → statement M

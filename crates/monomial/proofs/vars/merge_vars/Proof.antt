@@ -4,9 +4,9 @@ use Prim.Native.Nat.{ℕ, _+_, _-_, _≤_}
 use native.Mathlib.Omega.{arith}
 use borrow.Author.Needs.{needs}
 use lib.ListN.{length, length-map, length-set}
+use Rattle.slices.proofs.Lists.{map-set}
 use Rattle.packed_var.specs.declared.PackedVar.{PackedVar}
 use Rattle.monomial.specs.Words.{num, nums}
-use Rattle.monomial.proofs.Rows.{map-set}
 use Rattle.monomial.proofs.Merging.{Merging, merging-none, merging-more, merging-all}
 use Rattle.monomial.proofs.vars.merge_vars.Statement.{statement}
 use Rattle.monomial.proofs.vars.merge_vars.Tie as tie

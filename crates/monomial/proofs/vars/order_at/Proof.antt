@@ -8,8 +8,9 @@ use borrow.Author.Tests.{ltb-true, ltb-false}
 use lib.Dec.{ltb}
 use lib.ListN.{length, getD, take, drop, length-map, length-drop, List·getD-map}
 use lib.Seq.{getD-drop}
+use Rattle.slices.proofs.Lists.{alike-more}
 use Rattle.monomial.specs.Words.{num, nums}
-use Rattle.monomial.proofs.Orderings.{alike-more, at-shorter, at-longer, at-same, at-less, at-more}
+use Rattle.monomial.proofs.Orderings.{at-shorter, at-longer, at-same, at-less, at-more}
 use Rattle.monomial.proofs.vars.order_at.Statement.{statement}
 use Rattle.monomial.proofs.vars.order_at.Tie as tie
 
