@@ -1,5 +1,5 @@
 -- Lines as the pieces that are put one behind the other.
-use mathlib.Core.Path.{_≡_, refl, ap, _∙_}
+use mathlib.Core.Path.{_≡_, refl, sym, ap, _∙_}
 use mathlib.Core.List.{List, [], _∷_, _++_}
 use Prim.Native.Nat.{ℕ, _+_, _<_}
 use native.Mathlib.Omega.{arith}
@@ -28,30 +28,32 @@ module _ (ts : List ℕ) (k : ℕ) where
   pub word-at : (w j : ℕ) → j < w → getD (take w (drop k ts)) j 0 ≡ getD ts (k + j) 0
   word-at w j h = getD-take w (drop k ts) j 0 h ∙ getD-drop k ts j 0
 
-  module _ (n : ℕ) where
-    pub t-pieces : n ≡ getD ts k 0 → (116 ∷ []) ++ (number n ++ ending (getD ts (k + 1) 0)) ≡ tLine prime (take 2 (drop k ts))
-    unfolding tLine line
-    t-pieces e = rw (e, word-first 2 (omega arith), word-at 2 1 (omega arith))
+  pub t-pieces : (116 ∷ []) ++ (number (getD ts k 0) ++ ending (getD ts (k + 1) 0)) ≡ tLine prime (take 2 (drop k ts))
+  unfolding tLine line
+  t-pieces = rw (word-first 2 (omega arith), word-at 2 1 (omega arith))
 
-    pub u-pieces : n ≡ getD ts (k + 1) 0 → (117 ∷ []) ++ (number n ++ ending (getD ts k 0)) ≡ uLine prime (take 3 (drop k ts))
-    unfolding uLine line
-    u-pieces e = rw (e, word-first 3 (omega arith), word-at 3 1 (omega arith))
+  pub u-pieces : (117 ∷ []) ++ (number (getD ts (k + 1) 0) ++ ending (getD ts k 0)) ≡ uLine prime (take 3 (drop k ts))
+  unfolding uLine line
+  u-pieces = rw (word-first 3 (omega arith), word-at 3 1 (omega arith))
 
-    pub w-pieces : (m : ℕ) → n ≡ getD ts (k + 1) 0 → m ≡ getD ts (k + 2) 0
-        → (119 ∷ []) ++ (number n ++ (number m ++ ending (getD ts k 0))) ≡ wLine prime (take 3 (drop k ts))
-    unfolding wLine line
-    w-pieces m e f = rw (e, f, word-first 3 (omega arith), word-at 3 1 (omega arith), word-at 3 2 (omega arith))
+  pub w-pieces : (119 ∷ []) ++ (number (getD ts (k + 1) 0) ++ (number (getD ts (k + 2) 0) ++ ending (getD ts k 0))) ≡ wLine prime (take 3 (drop k ts))
+  unfolding wLine line
+  w-pieces = rw (word-first 3 (omega arith), word-at 3 1 (omega arith), word-at 3 2 (omega arith))
+
+-- A number that is known by an equation, with what comes behind it.
+pub number-is : {n m : ℕ} → n ≡ m → (rest : List ℕ) → number m ++ rest ≡ number n ++ rest
+number-is e rest = ap (λ (k : ℕ). number k ++ rest) (sym e)
 
 -- The graph's line, a refusal, and the last line.
-pub dag-pieces : (a b c nodes constraints rotation : ℕ) → a ≡ nodes → b ≡ constraints → c ≡ rotation
-    → dagText ++ (number a ++ (number b ++ (number c ++ (10 ∷ [])))) ≡ line (dagText ∷ decimal nodes ∷ decimal constraints ∷ decimal rotation ∷ [])
+pub dag-pieces : (nodes constraints rotation : ℕ)
+    → dagText ++ (number nodes ++ (number constraints ++ (number rotation ++ (10 ∷ [])))) ≡ line (dagText ∷ decimal nodes ∷ decimal constraints ∷ decimal rotation ∷ [])
 unfolding line
-dag-pieces a b c nodes constraints rotation e f g = rw (e, f, g)
+dag-pieces nodes constraints rotation = refl
 
-pub refused-pieces : (step : List ℕ) (a n place : ℕ) → a ≡ n
-    → (refusedText ++ (32 ∷ [])) ++ (step ++ (number a ++ (number place ++ (10 ∷ [])))) ≡ line (refusedText ∷ step ∷ decimal n ∷ decimal place ∷ [])
+pub refused-pieces : (step : List ℕ) (n place : ℕ)
+    → (refusedText ++ (32 ∷ [])) ++ (step ++ (number n ++ (number place ++ (10 ∷ [])))) ≡ line (refusedText ∷ step ∷ decimal n ∷ decimal place ∷ [])
 unfolding line
-refused-pieces step a n place e = rw e
+refused-pieces step n place = refl
 
 pub end-pieces : endText ++ (10 ∷ []) ≡ line (endText ∷ [])
 unfolding line

@@ -32,44 +32,47 @@ module _ (width : ℕ) (g : List ℕ → List ℕ) (ws : List ℕ) where
   unfolding rows flatMap
   row-none k m e = rw e
 
-  module _ (from count : ℕ) (out : List ℕ) (at : ℕ) where
-    pub rows-none : (k : ℕ) → k ≡ from → RowsDone width g ws from count out at out at k 0
-    rows-none k e = record {
-      i-le = omega arith;
-      k-is = e ∙ omega (arith, mul-zero width);
-      done = done-none out at (λ j. rowLines width g ws (e j) (less j));
-    }
-      where
-        less : count - 0 ≡ count
-        less = omega arith
+module _ {width : ℕ} {g : List ℕ → List ℕ} {ws : List ℕ} {from count : ℕ} {out : List ℕ} {at : ℕ} where
+  pub rows-none : {k : ℕ} → k ≡ from → Room out at (rowLines width g ws from count) → RowsDone width g ws from count out at out at k 0
+  rows-none e room = record {
+    i-le = omega arith;
+    k-is = e ∙ omega (arith, mul-zero width);
+    done = done-none out at (λ j. rowLines width g ws (e j) (less j)) room;
+  }
+    where
+      less : count - 0 ≡ count
+      less = omega arith
 
-    module _ (room : Room out at (rowLines width g ws from count)) {out′ : List ℕ} {next k i : ℕ} (h : RowsDone width g ws from count out at out′ next k i) where
-      pub rows-length : length out′ ≡ length out
-      rows-length = done-length room (h .done)
+  module _ {out′ : List ℕ} {next k i : ℕ} (h : RowsDone width g ws from count out at out′ next k i) where
+    pub rows-length : length out′ ≡ length out
+    rows-length = done-length (h .done)
 
-      pub rows-all : count ≤ i → Puts out at (rowLines width g ws from count) out′ next
-      rows-all l = done-all (h .done) (row-none k (count - i) (omega arith))
+    pub rows-all : count ≤ i → Puts out at (rowLines width g ws from count) out′ next
+    rows-all l = done-all (h .done) (row-none width g ws k (count - i) (omega arith))
 
-      module _ (l : i < count) where
-        pub row-inside : from + width * count ≤ length ws → k + width ≤ length ws
-        row-inside r = omega (arith, h .k-is, mul-le-mul-left width l, mul-suc width i)
+    module _ (l : i < count) where
+      pub row-inside : from + width * count ≤ length ws → k + width ≤ length ws
+      row-inside r = omega (arith, h .k-is, mul-le-mul-left width l, mul-suc width i)
 
-        more-left : (k′ : ℕ) → k′ ≡ k + width → rowLines width g ws k (count - i) ≡ g (take width (drop k ws)) ++ rowLines width g ws k′ (count - (i + 1))
-        more-left k′ f = row-next k k′ (count - i) (count - (i + 1)) (omega arith) f
+      abbrev row : List ℕ
+      row = g (take width (drop k ws))
 
-        pub row-room : Room out′ next (g (take width (drop k ws)))
-        row-room = done-room room (h .done) (g (take width (drop k ws))) (rowLines width g ws (k + width) (count - (i + 1))) (more-left (k + width) refl)
+      row-left : (k′ : ℕ) → k′ ≡ k + width → rowLines width g ws k (count - i) ≡ row ++ rowLines width g ws k′ (count - (i + 1))
+      row-left k′ f = row-next width g ws k k′ (count - i) (count - (i + 1)) (omega arith) f
 
-        pub row-more : {out″ : List ℕ} {last : ℕ} (k′ : ℕ) → k′ ≡ k + width → Puts out′ next (g (take width (drop k ws))) out″ last
-            → RowsDone width g ws from count out at out″ last k′ (i + 1)
-        row-more k′ f p = record {
-          i-le = omega arith;
-          k-is = f ∙ omega (arith, h .k-is, mul-suc width i, mul-one-more);
-          done = done-more room (h .done) (g (take width (drop k ws))) (rowLines width g ws k′ (count - (i + 1))) (more-left k′ f) p;
-        }
-          where
-            mul-one-more : width * (i + 1) ≡ width * i + width
-            mul-one-more = rw add-one (mul-suc width i)
+      pub row-room : Room out′ next (g (take width (drop k ws)))
+      row-room = done-room (h .done) row _ (row-left (k + width) refl)
+
+      pub row-more : {out″ : List ℕ} {last k′ : ℕ} → k′ ≡ k + width → Puts out′ next (g (take width (drop k ws))) out″ last
+          → RowsDone width g ws from count out at out″ last k′ (i + 1)
+      row-more {k′ = k′} f p = record {
+        i-le = omega arith;
+        k-is = f ∙ omega (arith, h .k-is, mul-suc width i, mul-one-more);
+        done = done-more (h .done) row (rowLines width g ws k′ (count - (i + 1))) (row-left k′ f) p;
+      }
+        where
+          mul-one-more : width * (i + 1) ≡ width * i + width
+          mul-one-more = rw add-one (mul-suc width i)
 
 -- A loop over variables.
 pub record VarsDone (vs : List ℕ) (from count : ℕ) (out : List ℕ) (at : ℕ) (out′ : List ℕ) (next i : ℕ) : Type 0 where
@@ -80,19 +83,22 @@ vars-end : (m : ℕ) (vs : List ℕ) → m ≡ 0 → spaced (take m vs) ≡ []
 unfolding flatMap
 vars-end m vs e = rw e
 
-module _ (vs : List ℕ) (from count : ℕ) (out : List ℕ) (at : ℕ) where
-  vars-next : (i : ℕ) → i < count → from + count ≤ length vs
-      → spaced (take (count - i) (drop (from + i) vs)) ≡ (32 ∷ hexDigits 8 (getD vs (from + i) 0)) ++ spaced (take (count - (i + 1)) (drop (from + (i + 1)) vs))
-  unfolding flatMap
-  vars-next i l h =
-      let m : count - i ≡ suc (count - (i + 1)) = omega arith in
-      let j : suc (from + i) ≡ from + (i + 1) = omega arith in
-      rw (m, drop-cons vs (from + i) 0 (omega arith), j)
+abbrev variableText : ℕ → List ℕ
+variableText v = 32 ∷ hexDigits 8 v
 
-  pub vars-none : VarsDone vs from count out at out at 0
-  vars-none = record {
+vars-next : (vs : List ℕ) (from count i : ℕ) → i < count → from + count ≤ length vs
+    → spaced (take (count - i) (drop (from + i) vs)) ≡ variableText (getD vs (from + i) 0) ++ spaced (take (count - (i + 1)) (drop (from + (i + 1)) vs))
+unfolding flatMap
+vars-next vs from count i l h =
+    let m : count - i ≡ suc (count - (i + 1)) = omega arith in
+    let j : suc (from + i) ≡ from + (i + 1) = omega arith in
+    rw (m, drop-cons vs (from + i) 0 (omega arith), j)
+
+module _ {vs : List ℕ} {from count : ℕ} {out : List ℕ} {at : ℕ} where
+  pub vars-none : Room out at (spaced (take count (drop from vs))) → VarsDone vs from count out at out at 0
+  vars-none room = record {
     i-le = omega arith;
-    done = done-none out at (λ j. spaced (take (less j) (drop (same j) vs)));
+    done = done-none out at (λ j. spaced (take (less j) (drop (same j) vs))) room;
   }
     where
       less : count - 0 ≡ count
@@ -101,24 +107,21 @@ module _ (vs : List ℕ) (from count : ℕ) (out : List ℕ) (at : ℕ) where
       same : from + 0 ≡ from
       same = omega arith
 
-  module _ (room : Room out at (spaced (take count (drop from vs)))) {out′ : List ℕ} {next i : ℕ} (h : VarsDone vs from count out at out′ next i) where
+  module _ {out′ : List ℕ} {next i : ℕ} (h : VarsDone vs from count out at out′ next i) where
     pub vars-length : length out′ ≡ length out
-    vars-length = done-length room (h .done)
+    vars-length = done-length (h .done)
 
     pub vars-all : count ≤ i → Puts out at (spaced (take count (drop from vs))) out′ next
     vars-all l = done-all (h .done) (vars-end (count - i) (drop (from + i) vs) (omega arith))
 
     module _ (l : i < count) (inside : from + count ≤ length vs) where
-      abbrev rest : List ℕ
-      rest = spaced (take (count - (i + 1)) (drop (from + (i + 1)) vs))
+      pub var-room : Room out′ next (variableText (getD vs (from + i) 0))
+      var-room = done-room (h .done) (variableText (getD vs (from + i) 0)) _ (vars-next vs from count i l inside)
 
-      pub var-room : Room out′ next (32 ∷ hexDigits 8 (getD vs (from + i) 0))
-      var-room = done-room room (h .done) (32 ∷ hexDigits 8 (getD vs (from + i) 0)) rest (vars-next i l inside)
-
-      pub var-more : {out″ : List ℕ} {last : ℕ} → Puts out′ next (32 ∷ hexDigits 8 (getD vs (from + i) 0)) out″ last → VarsDone vs from count out at out″ last (i + 1)
+      pub var-more : {out″ : List ℕ} {last : ℕ} → Puts out′ next (variableText (getD vs (from + i) 0)) out″ last → VarsDone vs from count out at out″ last (i + 1)
       var-more p = record {
         i-le = omega arith;
-        done = done-more room (h .done) (32 ∷ hexDigits 8 (getD vs (from + i) 0)) rest (vars-next i l inside) p;
+        done = done-more (h .done) (variableText (getD vs (from + i) 0)) _ (vars-next vs from count i l inside) p;
       }
 
 -- A header's line is its letter, the variables and the end of the line.

@@ -4,8 +4,8 @@ use mathlib.Core.List.{List, [], _∷_, _++_, append-assoc, append-nil}
 use Prim.Native.Nat.{ℕ, _+_, _≤_, _<_}
 use native.Mathlib.Omega.{arith}
 use native.Mathlib.Numerals.{add-one}
-use lib.ListN.{length, getD, set, take, length-append, length-take}
-use lib.Seq.{take-suc}
+use lib.ListN.{length, getD, set, drop, length-append}
+use lib.Seq.{drop-cons}
 use Rattle.slices.specs.Putting.{put}
 use Rattle.slices.proofs.Puts.{put-none, put-length, put-put, put-one}
 use Rattle.listing.specs.Putting.{Room, Puts}
@@ -59,36 +59,22 @@ module _ {out : List ℕ} {at : ℕ} {xs : List ℕ} {out′ : List ℕ} {next :
   pub room-then : (ys rest : List ℕ) {zs : List ℕ} → xs ++ (ys ++ rest) ≡ zs → Room out at zs → Room out′ next ys
   room-then ys rest e room = room-front out′ next ys rest refl (room-next (ys ++ rest) e room)
 
--- One more byte of a text.
-module _ (text : List ℕ) (i : ℕ) (l : i < length text) where
-  text-more : take i text ++ (getD text i 0 ∷ []) ≡ take (i + 1) text
-  text-more = sym (ap (λ (k : ℕ). take k text) (add-one i) ∙ take-suc text i 0 l)
-
-  module _ {out : List ℕ} {at : ℕ} {out′ : List ℕ} {next : ℕ} (room : Room out at text) (h : Puts out at (take i text) out′ next) where
-    more-room : Room out at (take (i + 1) text)
-    more-room = omega (arith, length-take (i + 1) text)
-
-    pub text-room : Room out′ next (getD text i 0 ∷ [])
-    text-room = room-next h (getD text i 0 ∷ []) text-more more-room
-
-    pub text-next : {out″ : List ℕ} {last : ℕ} → Puts out′ next (getD text i 0 ∷ []) out″ last → Puts out at (take (i + 1) text) out″ last
-    text-next k = puts-next h (getD text i 0 ∷ []) text-more more-room k
-
--- What is put so far, and what is left of the whole.
+-- What is put so far and what is left of the whole, for which there is room.
 pub record Done (out : List ℕ) (at : ℕ) (whole rest : List ℕ) (out′ : List ℕ) (next : ℕ) : Type 0 where
+  pub room : Room out at whole
   pub words : List ℕ
   pub puts : Puts out at words out′ next
   pub joins : words ++ rest ≡ whole
 
-pub done-none : (out : List ℕ) (at : ℕ) {whole rest : List ℕ} → rest ≡ whole → Done out at whole rest out at
-done-none out at e = record { words = []; puts = puts-none out at; joins = e }
+pub done-none : (out : List ℕ) (at : ℕ) {whole rest : List ℕ} → rest ≡ whole → Room out at whole → Done out at whole rest out at
+done-none out at e room = record { room = room; words = []; puts = puts-none out at; joins = e }
 
-pub done-all : {out : List ℕ} {at : ℕ} {whole rest out′ : List ℕ} {next : ℕ} → Done out at whole rest out′ next → rest ≡ [] → Puts out at whole out′ next
-done-all h e = puts-is (h .puts) (sym (append-nil (h .words)) ∙ ap (λ (l : List ℕ). h .words ++ l) (sym e) ∙ h .joins)
-
-module _ {out : List ℕ} {at : ℕ} {whole rest out′ : List ℕ} {next : ℕ} (room : Room out at whole) (h : Done out at whole rest out′ next) where
+module _ {out : List ℕ} {at : ℕ} {whole rest out′ : List ℕ} {next : ℕ} (h : Done out at whole rest out′ next) where
   pub done-length : length out′ ≡ length out
-  done-length = puts-length (h .puts) (omega (arith, length-append (h .words) rest, ap length (h .joins)))
+  done-length = let room = h .room in puts-length (h .puts) (omega (arith, length-append (h .words) rest, ap length (h .joins)))
+
+  pub done-all : rest ≡ [] → Puts out at whole out′ next
+  done-all e = puts-is (h .puts) (sym (append-nil (h .words)) ∙ ap (λ (l : List ℕ). h .words ++ l) (sym e) ∙ h .joins)
 
   -- One piece more.
   module _ (xs more : List ℕ) (e : rest ≡ xs ++ more) where
@@ -96,11 +82,23 @@ module _ {out : List ℕ} {at : ℕ} {whole rest out′ : List ℕ} {next : ℕ}
     joined = ap (λ (l : List ℕ). h .words ++ l) (sym e) ∙ h .joins
 
     pub done-room : Room out′ next xs
-    done-room = room-then (h .puts) xs more joined room
+    done-room = room-then (h .puts) xs more joined (h .room)
 
     pub done-more : {out″ : List ℕ} {last : ℕ} → Puts out′ next xs out″ last → Done out at whole more out″ last
     done-more k = record {
+      room = h .room;
       words = h .words ++ xs;
-      puts = puts-next (h .puts) xs refl (room-front out at (h .words ++ xs) more (append-assoc (h .words) xs more ∙ joined) room) k;
+      puts = puts-next (h .puts) xs refl (room-front out at (h .words ++ xs) more (append-assoc (h .words) xs more ∙ joined) (h .room)) k;
       joins = append-assoc (h .words) xs more ∙ joined;
     }
+
+  -- The last piece.
+  pub last-room : Room out′ next rest
+  last-room = room-next (h .puts) rest (h .joins) (h .room)
+
+  pub done-last : {out″ : List ℕ} {last : ℕ} → Puts out′ next rest out″ last → Puts out at whole out″ last
+  done-last k = puts-next (h .puts) rest (h .joins) (h .room) k
+
+-- A text is put byte by byte.
+pub text-left : (text : List ℕ) (i : ℕ) → i < length text → drop i text ≡ (getD text i 0 ∷ []) ++ drop (i + 1) text
+text-left text i l = drop-cons text i 0 l ∙ ap (λ (k : ℕ). getD text i 0 ∷ drop k text) (sym (add-one i))

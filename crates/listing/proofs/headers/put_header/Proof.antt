@@ -1,14 +1,67 @@
-use mathlib.Core.List.{flatMap}
-use Prim.Native.Nat.{_+_, _*_}
+-- The header's four words are read; its line is put, and behind it the lines of its terms.
+use mathlib.Core.Path.{_≡_}
+use mathlib.Core.List.{List, _++_, flatMap}
+use Prim.Native.Nat.{ℕ, _+_, _*_}
 use native.Mathlib.Omega.{arith}
 use lib.ListN.{take, drop}
-use Rattle.semantics.specs.Group.{rows}
-use Rattle.listing.specs.Families.{widthOf, lineOf, headerLine}
+use borrow.Author.Needs.{needs}
+use Rattle.semantics.specs.Group.{rows, listedAt}
+use Rattle.listing.specs.Families.{widthOf, lineOf, headerLine, headerText}
 use Rattle.listing.proofs.Writing.{room-front, room-next, puts-next}
 use Rattle.listing.proofs.Heads.{first-fits, HeaderRead, header-joins, header-vars, header-terms}
-use borrow.Author.Needs.{needs}
 use Rattle.listing.proofs.headers.put_header.Statement.{statement}
 use Rattle.listing.proofs.headers.put_header.Tie as tie
+
+abbrev start : tie.After-wide → tie.Start
+start c = c .before .before .before .before .before .before
+
+-- The width of a term and the header's second word.
+abbrev at-width : tie.After-wide2 → tie.After-width
+at-width c = c .before .before
+
+-- All that is read: the letter, and of the header where its variables and terms start and how many there are.
+module _ (c : tie.After-letter) where
+  abbrev at-num-terms : tie.After-wide4
+  at-num-terms = c .before .before
+
+  abbrev at-num-vars : tie.After-wide3
+  at-num-vars = at-num-terms .before .before
+
+  abbrev at-first : tie.After-wide2
+  at-first = at-num-vars .before .before
+
+  abbrev at-vars : tie.After-wide
+  at-vars = at-width at-first .before
+
+  abbrev s : tie.Start
+  s = start at-vars
+
+  abbrev first : ℕ
+  first = at-width at-first .width .result * at-first .wide2 .result
+
+  read : HeaderRead (s .args .family) (s .args .headers .now) (s .args .h)
+      (c .letter .result) (at-vars .wide .result) first (at-num-vars .wide3 .result) (at-num-terms .wide4 .result)
+  read = record {
+    letter-is = c .letter .ensures;
+    vars-are = at-vars .wide .ensures;
+    first-is = λ i. at-width at-first .width .ensures i * at-first .wide2 .ensures i;
+    num-vars-is = at-num-vars .wide3 .ensures;
+    num-terms-is = at-num-terms .wide4 .ensures;
+  }
+
+  -- The header's line, the lines of its terms, and the whole.
+  abbrev header : List ℕ
+  header = headerLine (c .letter .result) (take (at-num-vars .wide3 .result) (drop (at-vars .wide .result) (s .args .variables .now)))
+
+  abbrev terms : List ℕ
+  terms = flatMap (lineOf (s .args .family)) (rows (widthOf (s .args .family)) (at-num-terms .wide4 .result) (drop first (s .args .terms .now)))
+
+  joins : header ++ terms
+      ≡ headerText (s .args .family) (listedAt (widthOf (s .args .family)) (s .args .variables .now) (s .args .terms .now) (take 4 (drop (s .args .h) (s .args .headers .now))))
+  joins = header-joins (s .args .family) (s .args .headers .now) (s .args .variables .now) (s .args .terms .now) (s .args .h) read
+
+abbrev with-line : tie.After-put-terms-arg → tie.After-put-header-line
+with-line c = c .before .before .before
 
 mul-wide : tie.Need-mul-wide
 mul-wide c = search needs
@@ -35,7 +88,10 @@ wide-requires-2 : tie.Need-wide-requires-2
 wide-requires-2 c κs = search needs
 
 mul-first : tie.Need-mul-first
-mul-first c = first-fits (c .before .before .before .before .before .before .before .before .before .args .family) (c .before .before .width .result) (c .wide2 .result) (c .before .before .width .ensures) (omega (arith, c .wide2 .ensures, c .before .shared-slice-known5 .given (c .before .before .before .before .before .before .before .before .before .args .h + 1)))
+mul-first c =
+    let w = at-width c in
+    let a = start (w .before) .args in
+    first-fits (a .family) (w .width .result) (c .wide2 .result) (w .width .ensures) (omega (arith, c .wide2 .ensures, c .before .shared-slice-known5 .given (a .h + 1)))
 
 add-wide-2 : tie.Need-add-wide-2
 add-wide-2 c = search needs
@@ -66,45 +122,31 @@ letter-requires c κs = search needs
 
 put-header-line-requires : tie.Need-put-header-line-requires
 put-header-line-requires c κs =
-    let a = c .before .before .before .before .before .before .before .before .before .before .before .before .before .before .before .args in
-    let w = c .before .before .before .before .before .before .before .before .width .result in
-    let x = c .before .before .before .before .before .before .wide2 .result in
-    let r : HeaderRead (a .family) (a .headers .now) (a .h) (c .letter .result) (c .before .before .before .before .before .before .before .before .before .wide .result) (w * x) (c .before .before .before .before .wide3 .result) (c .before .before .wide4 .result) =
-    record { letter-is = c .letter .ensures; vars-are = c .before .before .before .before .before .before .before .before .before .wide .ensures; first-is = λ i. c .before .before .before .before .before .before .before .before .width .ensures i * c .before .before .before .before .before .before .wide2 .ensures i; num-vars-is = c .before .before .before .before .wide3 .ensures; num-terms-is = c .before .before .wide4 .ensures } in
-    let line = headerLine (c .letter .result) (take (c .before .before .before .before .wide3 .result) (drop (c .before .before .before .before .before .before .before .before .before .wide .result) (a .variables .now))) in
-    let lines = flatMap (lineOf (a .family)) (rows (widthOf (a .family)) (c .before .before .wide4 .result) (drop (w * x) (a .terms .now))) in
-    let p = c .before .before .before .before .before .before .before .before .before .before .before .before .before .before .before .pre in
-    let e = header-joins (a .family) (a .headers .now) (a .variables .now) (a .terms .now) (a .h) r in
-    (header-vars (a .family) (a .headers .now) (a .variables .now) (a .terms .now) (a .h) r (p .1), room-front (a .out .now) (a .at) line lines e (p .2))
+    let a = s c .args in
+    let p = s c .pre in (
+      header-vars (a .family) (a .headers .now) (a .variables .now) (a .terms .now) (a .h) (read c) (p .1),
+      room-front (a .out .now) (a .at) (header c) (terms c) (joins c) (p .2),
+    )
 
 put-terms-requires : tie.Need-put-terms-requires
 put-terms-requires c κs =
-    let a = c .before .before .before .before .before .before .before .before .before .before .before .before .before .before .before .before .before .before .before .args in
-    let w = c .before .before .before .before .before .before .before .before .before .before .before .before .width .result in
-    let x = c .before .before .before .before .before .before .before .before .before .before .wide2 .result in
-    let r : HeaderRead (a .family) (a .headers .now) (a .h) (c .before .before .before .before .letter .result) (c .before .before .before .before .before .before .before .before .before .before .before .before .before .wide .result) (w * x) (c .before .before .before .before .before .before .before .before .wide3 .result) (c .before .before .before .before .before .before .wide4 .result) =
-    record { letter-is = c .before .before .before .before .letter .ensures; vars-are = c .before .before .before .before .before .before .before .before .before .before .before .before .before .wide .ensures; first-is = λ i. c .before .before .before .before .before .before .before .before .before .before .before .before .width .ensures i * c .before .before .before .before .before .before .before .before .before .before .wide2 .ensures i; num-vars-is = c .before .before .before .before .before .before .before .before .wide3 .ensures; num-terms-is = c .before .before .before .before .before .before .wide4 .ensures } in
-    let line = headerLine (c .before .before .before .before .letter .result) (take (c .before .before .before .before .before .before .before .before .wide3 .result) (drop (c .before .before .before .before .before .before .before .before .before .before .before .before .before .wide .result) (a .variables .now))) in
-    let lines = flatMap (lineOf (a .family)) (rows (widthOf (a .family)) (c .before .before .before .before .before .before .wide4 .result) (drop (w * x) (a .terms .now))) in
-    let p = c .before .before .before .before .before .before .before .before .before .before .before .before .before .before .before .before .before .before .before .pre in
-    let e = header-joins (a .family) (a .headers .now) (a .variables .now) (a .terms .now) (a .h) r in
-    (header-terms (a .family) (a .headers .now) (a .variables .now) (a .terms .now) (a .h) r (p .1), room-next {xs = line} (c .before .before .before .put-header-line .ensures) lines e (p .2))
+    let l = with-line c in
+    let r = l .before in
+    let a = s r .args in
+    let p = s r .pre in (
+      header-terms (a .family) (a .headers .now) (a .variables .now) (a .terms .now) (a .h) (read r) (p .1),
+      room-next {xs = header r} (l .put-header-line .ensures) (terms r) (joins r) (p .2),
+    )
 
 same-length : tie.Need-same-length
 same-length c = search needs
 
 returns : tie.Need-returns
 returns c =
-    let a = c .before .before .before .before .before .before .before .before .before .before .before .before .before .before .before .before .before .before .before .before .before .before .args in
-    let w = c .before .before .before .before .before .before .before .before .before .before .before .before .before .before .before .width .result in
-    let x = c .before .before .before .before .before .before .before .before .before .before .before .before .before .wide2 .result in
-    let r : HeaderRead (a .family) (a .headers .now) (a .h) (c .before .before .before .before .before .before .before .letter .result) (c .before .before .before .before .before .before .before .before .before .before .before .before .before .before .before .before .wide .result) (w * x) (c .before .before .before .before .before .before .before .before .before .before .before .wide3 .result) (c .before .before .before .before .before .before .before .before .before .wide4 .result) =
-    record { letter-is = c .before .before .before .before .before .before .before .letter .ensures; vars-are = c .before .before .before .before .before .before .before .before .before .before .before .before .before .before .before .before .wide .ensures; first-is = λ i. c .before .before .before .before .before .before .before .before .before .before .before .before .before .before .before .width .ensures i * c .before .before .before .before .before .before .before .before .before .before .before .before .before .wide2 .ensures i; num-vars-is = c .before .before .before .before .before .before .before .before .before .before .before .wide3 .ensures; num-terms-is = c .before .before .before .before .before .before .before .before .before .wide4 .ensures } in
-    let line = headerLine (c .before .before .before .before .before .before .before .letter .result) (take (c .before .before .before .before .before .before .before .before .before .before .before .wide3 .result) (drop (c .before .before .before .before .before .before .before .before .before .before .before .before .before .before .before .before .wide .result) (a .variables .now))) in
-    let lines = flatMap (lineOf (a .family)) (rows (widthOf (a .family)) (c .before .before .before .before .before .before .before .before .before .wide4 .result) (drop (w * x) (a .terms .now))) in
-    let p = c .before .before .before .before .before .before .before .before .before .before .before .before .before .before .before .before .before .before .before .before .before .before .pre in
-    let e = header-joins (a .family) (a .headers .now) (a .variables .now) (a .terms .now) (a .h) r in
-    puts-next {xs = line} (c .before .before .before .before .before .before .put-header-line .ensures) lines e (p .2) (c .before .before .put-terms .ensures)
+    let t = c .before .before in
+    let l = with-line (t .before) in
+    let r = l .before in
+    puts-next {xs = header r} (l .put-header-line .ensures) (terms r) (joins r) (s r .pre .2) (t .put-terms .ensures)
 
 pub put-header-spec : {M : Type 1} → statement M
 put-header-spec =

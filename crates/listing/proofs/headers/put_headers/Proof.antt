@@ -1,8 +1,8 @@
+-- After i headers those are put with their terms and the others are left; a turn puts one header.
 use mathlib.Core.Path.{refl}
-use Prim.Native.Nat.{_+_, _*_, _-_, _/_}
+use Prim.Native.Nat.{_*_, _-_}
 use native.Mathlib.Omega.{arith}
 use borrow.Author.Needs.{needs}
-use lib.ListN.{length}
 use Rattle.listing.proofs.Writing.{room-is, puts-is}
 use Rattle.listing.proofs.Rows.{RowsDone, rows-none, rows-length, rows-all, row-room, row-more}
 use Rattle.listing.proofs.Heads.{headerOf, headers-rows}
@@ -15,19 +15,26 @@ Inv-loop out₀ at family headers variables terms count next₀ i₀ out next i 
 abbrev μ-loop : tie.MeasureT-loop
 μ-loop out₀ at family headers variables terms count next₀ i₀ out next i = count - i
 
+-- A turn, and where the loop starts.
+abbrev start : tie.After-shared-slice-known3 Inv-loop μ-loop → tie.Start Inv-loop μ-loop
+start c = c .before .before .before .before
+
+abbrev turn : tie.After-put-header Inv-loop μ-loop → tie.In-loop Inv-loop μ-loop
+turn c = c .before .before
+
 loop-holds : tie.Need-loop-holds Inv-loop μ-loop
-loop-holds c = let a = c .before .before .before .before .args in rows-none 4 (headerOf (a .family) (a .variables .now) (a .terms .now)) (a .headers .now) 0 (length (a .headers .now) / 4) (a .out .now) (a .at) 0 refl
+loop-holds c =
+    let a = start c .args in
+    rows-none refl (room-is (a .out .now) (a .at) (headers-rows (a .family) (a .headers .now) (a .variables .now) (a .terms .now)) (start c .pre .1))
 
 mul-put-header : tie.Need-mul-put-header Inv-loop μ-loop
 mul-put-header c = search needs
 
 put-header-requires : tie.Need-put-header-requires Inv-loop μ-loop
 put-header-requires c κs =
-    let a = c .before .before .before .before .before .before .before .args in (
-      omega (arith, c .before .loop-test .taken),
-      c .before .before .before .before .before .before .before .pre .0 .each (c .before .before .loop .i) (c .before .loop-test .taken),
-      row-room 4 (headerOf (a .family) (a .variables .now) (a .terms .now)) (a .headers .now) 0 (length (a .headers .now) / 4) (a .out .now) (a .at) (room-is (a .out .now) (a .at) (headers-rows (a .family) (a .headers .now) (a .variables .now) (a .terms .now)) (c .before .before .before .before .before .before .before .pre .1)) (c .before .before .loop .inv) (c .before .loop-test .taken),
-    )
+    let t = c .before in
+    let taken = t .loop-test .taken in
+    (omega (arith, taken), start (t .before .before) .pre .0 .each (t .before .loop .i) taken, row-room (t .before .loop .inv) taken)
 
 add-i : tie.Need-add-i Inv-loop μ-loop
 add-i c = search needs
@@ -37,16 +44,16 @@ loop-less c = search needs
 
 loop-again : tie.Need-loop-again Inv-loop μ-loop
 loop-again c =
-    let a = c .before .before .before .before .before .before .before .before .before .before .args in
-    row-more 4 (headerOf (a .family) (a .variables .now) (a .terms .now)) (a .headers .now) 0 (length (a .headers .now) / 4) (a .out .now) (a .at) (room-is (a .out .now) (a .at) (headers-rows (a .family) (a .headers .now) (a .variables .now) (a .terms .now)) (c .before .before .before .before .before .before .before .before .before .before .pre .1)) (c .before .before .before .before .before .loop .inv) (c .before .before .before .before .loop-test .taken) (4 * (c .before .before .before .before .before .loop .i + 1)) (omega arith) (c .before .before .put-header .ensures)
+    let p = c .before .before in
+    row-more (turn p .before .loop .inv) (turn p .loop-test .taken) (omega arith) (p .put-header .ensures)
 
 same-length : tie.Need-same-length Inv-loop μ-loop
-same-length c = let a = c .before .before .before .before .before .before .args in rows-length 4 (headerOf (a .family) (a .variables .now) (a .terms .now)) (a .headers .now) 0 (length (a .headers .now) / 4) (a .out .now) (a .at) (room-is (a .out .now) (a .at) (headers-rows (a .family) (a .headers .now) (a .variables .now) (a .terms .now)) (c .before .before .before .before .before .before .pre .1)) (c .before .loop .inv)
+same-length c = rows-length (c .before .loop .inv)
 
 returns : tie.Need-returns Inv-loop μ-loop
 returns c =
-    let a = c .before .before .before .before .before .before .args in
-    puts-is (rows-all 4 (headerOf (a .family) (a .variables .now) (a .terms .now)) (a .headers .now) 0 (length (a .headers .now) / 4) (a .out .now) (a .at) (room-is (a .out .now) (a .at) (headers-rows (a .family) (a .headers .now) (a .variables .now) (a .terms .now)) (c .before .before .before .before .before .before .pre .1)) (c .before .loop .inv) (c .loop-test .left)) (headers-rows (a .family) (a .headers .now) (a .variables .now) (a .terms .now))
+    let a = start (c .before .before) .args in
+    puts-is (rows-all (c .before .loop .inv) (c .loop-test .left)) (headers-rows (a .family) (a .headers .now) (a .variables .now) (a .terms .now))
 
 pub put-headers-spec : {M : Type 1} → statement M
 put-headers-spec =

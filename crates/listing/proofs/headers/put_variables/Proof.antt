@@ -17,30 +17,25 @@ Inv-loop out₀ at variables from count next₀ i₀ out next i = VarsDone varia
 abbrev μ-loop : tie.MeasureT-loop
 μ-loop out₀ at variables from count next₀ i₀ out next i = count - i
 
--- A turn: where it starts, and where its space is put.
-abbrev turn : tie.After-put-byte-arg Inv-loop μ-loop → tie.At-loop Inv-loop μ-loop
-turn c = c .before .before .before
-
+-- A turn, and where its space is put.
 abbrev start : tie.At-loop Inv-loop μ-loop → tie.Start Inv-loop μ-loop
-start c = c .before .before .before
+start l = l .before .before .before
 
-abbrev spaced-at : tie.After-put-hex-arg Inv-loop μ-loop → tie.After-put-byte-arg Inv-loop μ-loop
-spaced-at c = c .before .before .before .before
+abbrev turn : tie.After-put-byte-arg Inv-loop μ-loop → tie.In-loop Inv-loop μ-loop
+turn c = c .before .before
+
+abbrev with-space : tie.After-put-hex-arg Inv-loop μ-loop → tie.After-put-byte Inv-loop μ-loop
+with-space c = c .before .before .before
 
 -- The digits of its variable, and room for them with a space in front.
-abbrev digits : tie.At-loop Inv-loop μ-loop → List ℕ
-digits t = hexDigits 8 (getD (start t .args .variables .now) (start t .args .from + t .loop .i) 0)
+abbrev digits : tie.In-loop Inv-loop μ-loop → List ℕ
+digits t = let l = t .before in hexDigits 8 (getD (start l .args .variables .now) (start l .args .from + l .loop .i) 0)
 
-room : (c : tie.After-put-byte-arg Inv-loop μ-loop) → Room (turn c .loop .out) (turn c .loop .next) (32 ∷ digits (turn c))
-room c =
-    let t = turn c in
-    let a = start t .args in
-    var-room (a .variables .now) (a .from) (a .count) (a .out .now) (a .at) (start t .pre .1) (t .loop .inv) (c .before .before .loop-test .taken) (start t .pre .0)
+room : (t : tie.In-loop Inv-loop μ-loop) → Room (t .before .loop .out) (t .before .loop .next) (32 ∷ digits t)
+room t = var-room (t .before .loop .inv) (t .loop-test .taken) (start (t .before) .pre .0)
 
 loop-holds : tie.Need-loop-holds Inv-loop μ-loop
-loop-holds c =
-    let a = c .before .before .args in
-    vars-none (a .variables .now) (a .from) (a .count) (a .out .now) (a .at)
+loop-holds c = vars-none (c .before .before .pre .1)
 
 add-t12 : tie.Need-add-t12 Inv-loop μ-loop
 add-t12 c = search needs
@@ -52,10 +47,12 @@ shared-slice-read-t15 : tie.Need-shared-slice-read-t15 Inv-loop μ-loop
 shared-slice-read-t15 c = search needs
 
 put-byte-requires : tie.Need-put-byte-requires Inv-loop μ-loop
-put-byte-requires c κs = room-front (turn c .loop .out) (turn c .loop .next) (32 ∷ []) (digits (turn c)) refl (room c)
+put-byte-requires c κs =
+    let loop = turn c .before .loop in
+    room-front (loop .out) (loop .next) (32 ∷ []) (digits (turn c)) refl (room (turn c))
 
 put-hex-requires : tie.Need-put-hex-requires Inv-loop μ-loop
-put-hex-requires c κs = room-next (c .before .before .before .put-byte .ensures) (digits (turn (spaced-at c))) refl (room (spaced-at c))
+put-hex-requires c κs = let s = with-space c in room-next (s .put-byte .ensures) (digits (turn (s .before))) refl (room (turn (s .before)))
 
 add-i : tie.Need-add-i Inv-loop μ-loop
 add-i c = search needs
@@ -65,24 +62,17 @@ loop-less c = search needs
 
 loop-again : tie.Need-loop-again Inv-loop μ-loop
 loop-again c =
-    let s = spaced-at (c .before .before .before) in
-    let t = turn s in
-    let a = start t .args in
-    let space = c .before .before .before .before .before .before .put-byte in
-    var-more (a .variables .now) (a .from) (a .count) (a .out .now) (a .at) (start t .pre .1) (t .loop .inv) (s .before .before .loop-test .taken) (start t .pre .0)
-    (puts-next (space .ensures) (digits t) refl (room s) (c .before .before .put-hex .ensures))
+    let hex = c .before .before in
+    let s = with-space (hex .before) in
+    let t = turn (s .before) in
+    var-more (t .before .loop .inv) (t .loop-test .taken) (start (t .before) .pre .0)
+    (puts-next (s .put-byte .ensures) (digits t) refl (room t) (hex .put-hex .ensures))
 
 same-length : tie.Need-same-length Inv-loop μ-loop
-same-length c =
-    let t = c .before in
-    let a = start t .args in
-    vars-length (a .variables .now) (a .from) (a .count) (a .out .now) (a .at) (start t .pre .1) (t .loop .inv)
+same-length c = vars-length (c .before .loop .inv)
 
 returns : tie.Need-returns Inv-loop μ-loop
-returns c =
-    let t = c .before in
-    let a = start t .args in
-    vars-all (a .variables .now) (a .from) (a .count) (a .out .now) (a .at) (start t .pre .1) (t .loop .inv) (c .loop-test .left)
+returns c = vars-all (c .before .loop .inv) (c .loop-test .left)
 
 pub put-variables-spec : {M : Type 1} → statement M
 put-variables-spec =

@@ -1,94 +1,103 @@
--- "dag", the three numbers and the end of the line are put one behind the other; behind each there is room for the rest.
-use mathlib.Core.Path.{_≡_, refl}
+-- "dag", the three numbers and the end of the line are put one behind the other: behind each, what is put and what is left of the line.
+use mathlib.Core.Path.{refl}
 use mathlib.Core.List.{List, [], _∷_, _++_}
 use Prim.Native.Nat.{ℕ}
 use borrow.Author.Needs.{needs}
 use Rattle.semantics.specs.Sheetlist.{decimal, line, dagText}
-use Rattle.listing.specs.Putting.{Room}
-use Rattle.listing.proofs.Writing.{room-front, room-next, room-then, puts-next}
-use Rattle.listing.proofs.Pieces.{number, dag-pieces}
+use Rattle.listing.proofs.Writing.{Done, done-none, done-room, done-more, last-room, done-last}
+use Rattle.listing.proofs.Pieces.{number, number-is, dag-pieces}
 use Rattle.listing.proofs.lines.put_dag_line.Statement.{statement}
 use Rattle.listing.proofs.lines.put_dag_line.Tie as tie
 
--- The whole line, for two numbers that are those of nodes and constraints.
-abbrev ends : tie.Start → List ℕ
-ends s = number (s .args .rotation) ++ (10 ∷ [])
+-- The line of which some is left: behind the text, behind the nodes, behind the constraints.
+module _ (s : tie.Start) where
+  abbrev Left : (rest out : List ℕ) → ℕ → Type 0
+  Left rest out next =
+      Done (s .args .out .now) (s .args .at) (line (dagText ∷ decimal (s .args .nodes) ∷ decimal (s .args .constraints) ∷ decimal (s .args .rotation) ∷ [])) rest out next
 
-pieces : (s : tie.Start) (a b : ℕ) → a ≡ s .args .nodes → b ≡ s .args .constraints
-    → dagText ++ (number a ++ (number b ++ ends s)) ≡ line (dagText ∷ decimal (s .args .nodes) ∷ decimal (s .args .constraints) ∷ decimal (s .args .rotation) ∷ [])
-pieces s a b e f = dag-pieces a b (s .args .rotation) (s .args .nodes) (s .args .constraints) (s .args .rotation) e f refl
+  abbrev last-two : List ℕ
+  last-two = number (s .args .rotation) ++ (10 ∷ [])
 
--- Where the numbers are put, and the end of the line.
-abbrev start : tie.After-wide → tie.Start
-start c = c .before .before .before .before .before .before .before .before
+  abbrev last-three : List ℕ
+  last-three = number (s .args .constraints) ++ last-two
 
-abbrev first : tie.After-wide2 → tie.After-wide
-first c = c .before .before .before .before .before
+  abbrev last-four : List ℕ
+  last-four = number (s .args .nodes) ++ last-three
 
-abbrev second : tie.After-put-number-arg3 → tie.After-wide2
-second c = c .before .before .before .before
+  all-left : Left (dagText ++ last-four) (s .args .out .now) (s .args .at)
+  all-left = done-none (s .args .out .now) (s .args .at) (dag-pieces (s .args .nodes) (s .args .constraints) (s .args .rotation)) (s .pre)
 
-abbrev third : tie.After-put-byte-arg → tie.After-put-number-arg3
-third c = c .before .before .before .before
+-- Where each piece is put.
+abbrev start : tie.After-put-text-arg2 → tie.Start
+start c = c .before .before .before
 
-text-left : (c : tie.After-wide) (b : ℕ) → b ≡ start c .args .constraints → let v = c .before .before .before .before .put-text in
-    Room (v .last .0) (v .result) (number (c .wide .result) ++ (number b ++ ends (start c)))
-text-left c b f = room-next (c .before .before .before .before .put-text .ensures) _ (pieces (start c) (c .wide .result) b (c .wide .ensures) f) (start c .pre)
+abbrev with-text : tie.After-wide → tie.After-put-text
+with-text c = c .before .before .before .before
 
-nodes-left : (c : tie.After-wide2) → let v = c .before .before .before .before .put-number in
-    Room (v .last .0) (v .result) (number (c .wide2 .result) ++ ends (start (first c)))
-nodes-left c = room-next (c .before .before .before .before .put-number .ensures) _ refl (text-left (first c) (c .wide2 .result) (c .wide2 .ensures))
+abbrev with-nodes : tie.After-wide2 → tie.After-put-number
+with-nodes c = c .before .before .before .before
 
-constraints-left : (c : tie.After-put-number-arg3) → let v = c .before .before .before .put-number2 in Room (v .last .0) (v .result) (ends (start (first (second c))))
-constraints-left c = room-next (c .before .before .before .put-number2 .ensures) _ refl (nodes-left (second c))
+abbrev with-constraints : tie.After-put-number-arg3 → tie.After-put-number2
+with-constraints c = c .before .before .before
+
+abbrev with-rotation : tie.After-put-byte-arg → tie.After-put-number3
+with-rotation c = c .before .before .before
+
+text-put : (c : tie.After-put-text) → let s = start (c .before) in Left s (last-four s) (c .put-text .last .0) (c .put-text .result)
+text-put c = done-more (all-left (start (c .before))) dagText _ refl (c .put-text .ensures)
+
+abbrev start-of-nodes : tie.After-put-number → tie.Start
+start-of-nodes c = start (with-text (c .before) .before)
+
+nodes-put : (c : tie.After-put-number) → let s = start-of-nodes c in Left s (last-three s) (c .put-number .last .0) (c .put-number .result)
+nodes-put c = done-more (text-put (with-text (c .before))) (number (c .before .wide .result)) _ (number-is (c .before .wide .ensures) _) (c .put-number .ensures)
+
+abbrev start-of-constraints : tie.After-put-number2 → tie.Start
+start-of-constraints c = start-of-nodes (with-nodes (c .before))
+
+constraints-put : (c : tie.After-put-number2) → let s = start-of-constraints c in Left s (last-two s) (c .put-number2 .last .0) (c .put-number2 .result)
+constraints-put c =
+    done-more (nodes-put (with-nodes (c .before))) (number (c .before .wide2 .result)) _ (number-is (c .before .wide2 .ensures) _) (c .put-number2 .ensures)
+
+abbrev start-of-rotation : tie.After-put-number3 → tie.Start
+start-of-rotation c = start-of-constraints (with-constraints (c .before))
+
+rotation-put : (c : tie.After-put-number3) → Left (start-of-rotation c) (10 ∷ []) (c .put-number3 .last .0) (c .put-number3 .result)
+rotation-put c = done-more (constraints-put (with-constraints (c .before))) _ (10 ∷ []) refl (c .put-number3 .ensures)
 
 slice-aggregate-put-text : tie.Need-slice-aggregate-put-text
 slice-aggregate-put-text c = search needs
 
 put-text-requires : tie.Need-put-text-requires
-put-text-requires c κs =
-    let s = c .before .before .before in
-    room-front (s .args .out .now) (s .args .at) dagText _ (pieces s (s .args .nodes) (s .args .constraints) refl refl) (s .pre)
+put-text-requires c κs = done-room (all-left (start c)) dagText _ refl
 
 wide-requires : tie.Need-wide-requires
 wide-requires c κs = search needs
 
 put-number-requires : tie.Need-put-number-requires
-put-number-requires c κs =
-    let s = start c in
-    let whole = pieces s (c .wide .result) (s .args .constraints) (c .wide .ensures) refl in
-    room-then (c .before .before .before .before .put-text .ensures) (number (c .wide .result)) _ whole (s .pre)
+put-number-requires c κs = done-room (text-put (with-text c)) (number (c .wide .result)) _ (number-is (c .wide .ensures) _)
 
 wide-requires-2 : tie.Need-wide-requires-2
 wide-requires-2 c κs = search needs
 
 put-number-requires-2 : tie.Need-put-number-requires-2
-put-number-requires-2 c κs =
-    let left = text-left (first c) (c .wide2 .result) (c .wide2 .ensures) in
-    room-then (c .before .before .before .before .put-number .ensures) (number (c .wide2 .result)) _ refl left
+put-number-requires-2 c κs = done-room (nodes-put (with-nodes c)) (number (c .wide2 .result)) _ (number-is (c .wide2 .ensures) _)
 
 put-number-requires-3 : tie.Need-put-number-requires-3
 put-number-requires-3 c κs =
-    let rotation = start (first (second c)) .args .rotation in
-    room-then (c .before .before .before .put-number2 .ensures) (number rotation) _ refl (nodes-left (second c))
+    let p = with-constraints c in
+    done-room (constraints-put p) (number (start-of-constraints p .args .rotation)) _ refl
 
 put-byte-requires : tie.Need-put-byte-requires
-put-byte-requires c κs = room-next (c .before .before .before .put-number3 .ensures) _ refl (constraints-left (third c))
+put-byte-requires c κs = last-room (rotation-put (with-rotation c))
 
 same-length : tie.Need-same-length
 same-length c = search needs
 
 returns : tie.Need-returns
 returns c =
-    let l = c .before .before .before in
-    let r = third l in
-    let m = second r in
-    let n = first m in
-    let f = m .wide2 .ensures in
-    puts-next (n .before .before .before .before .put-text .ensures) _ (pieces (start n) (n .wide .result) (m .wide2 .result) (n .wide .ensures) f) (start n .pre)
-    (puts-next (m .before .before .before .before .put-number .ensures) _ refl (text-left n (m .wide2 .result) f)
-    (puts-next (r .before .before .before .put-number2 .ensures) _ refl (nodes-left m)
-    (puts-next (l .before .before .before .put-number3 .ensures) _ refl (constraints-left r) (c .before .before .put-byte .ensures))))
+    let end = c .before .before in
+    done-last (rotation-put (with-rotation (end .before))) (end .put-byte .ensures)
 
 pub put-dag-line-spec : {M : Type 1} → statement M
 put-dag-line-spec =

@@ -1,6 +1,7 @@
+-- The text of the last line is put.
+use borrow.Author.Needs.{needs}
 use Rattle.listing.proofs.Writing.{room-is, puts-is}
 use Rattle.listing.proofs.Pieces.{end-pieces}
-use borrow.Author.Needs.{needs}
 use Rattle.listing.proofs.lines.put_end.Statement.{statement}
 use Rattle.listing.proofs.lines.put_end.Tie as tie
 
@@ -8,7 +9,9 @@ slice-aggregate-put-text : tie.Need-slice-aggregate-put-text
 slice-aggregate-put-text c = search needs
 
 put-text-requires : tie.Need-put-text-requires
-put-text-requires c κs = room-is (c .before .before .before .args .out .now) (c .before .before .before .args .at) end-pieces (c .before .before .before .pre)
+put-text-requires c κs =
+    let s = c .before .before .before in
+    room-is (s .args .out .now) (s .args .at) end-pieces (s .pre)
 
 same-length : tie.Need-same-length
 same-length c = search needs

@@ -1,88 +1,101 @@
--- "refused ", the step, the number, the place and the end of the line are put one behind the other; behind each there is room for the rest.
-use mathlib.Core.Path.{_≡_, refl}
-use mathlib.Core.List.{[], _∷_, _++_}
+-- "refused ", the step, the number, the place and the end of the line are put one behind the other: behind each, what is put and what is left of the line.
+use mathlib.Core.Path.{refl}
+use mathlib.Core.List.{List, [], _∷_, _++_}
 use Prim.Native.Nat.{ℕ}
 use borrow.Author.Needs.{needs}
 use Rattle.semantics.specs.Sheetlist.{refusedText, line, decimal}
-use Rattle.listing.specs.Putting.{Room}
-use Rattle.listing.proofs.Writing.{room-front, room-next, room-then, puts-next}
-use Rattle.listing.proofs.Pieces.{number, refused-pieces}
+use Rattle.listing.proofs.Writing.{Done, done-none, done-room, done-more, last-room, done-last}
+use Rattle.listing.proofs.Pieces.{number, number-is, refused-pieces}
 use Rattle.listing.proofs.lines.put_refused.Statement.{statement}
 use Rattle.listing.proofs.lines.put_refused.Tie as tie
 
--- The whole line, for a number that is the one given.
-pieces : (s : tie.Start) (n : ℕ) → n ≡ s .args .number
-    → (refusedText ++ (32 ∷ [])) ++ (s .args .step .now ++ (number n ++ (number (s .args .place) ++ (10 ∷ []))))
-    ≡ line (refusedText ∷ s .args .step .now ∷ decimal (s .args .number) ∷ decimal (s .args .place) ∷ [])
-pieces s n e = refused-pieces (s .args .step .now) n (s .args .number) (s .args .place) e
+-- The line of which some is left: behind the text, behind the step, behind the number.
+module _ (s : tie.Start) where
+  abbrev Left : (rest out : List ℕ) → ℕ → Type 0
+  Left rest out next =
+      Done (s .args .out .now) (s .args .at) (line (refusedText ∷ s .args .step .now ∷ decimal (s .args .number) ∷ decimal (s .args .place) ∷ [])) rest out next
 
--- Where each piece is put: the text before the step, the step, the number, the place.
-abbrev start : tie.After-put-text-arg3 → tie.Start
-start c = c .before .before .before .before .before .before .before .before
+  abbrev last-two : List ℕ
+  last-two = number (s .args .place) ++ (10 ∷ [])
 
-abbrev with-text : tie.After-wide → tie.After-put-text-arg3
-with-text c = c .before .before .before .before .before
+  abbrev last-three : List ℕ
+  last-three = number (s .args .number) ++ last-two
 
-abbrev with-step : tie.After-put-number-arg2 → tie.After-wide
+  abbrev last-four : List ℕ
+  last-four = s .args .step .now ++ last-three
+
+  all-left : Left ((refusedText ++ (32 ∷ [])) ++ last-four) (s .args .out .now) (s .args .at)
+  all-left = done-none (s .args .out .now) (s .args .at) (refused-pieces (s .args .step .now) (s .args .number) (s .args .place)) (s .pre)
+
+-- Where each piece is put.
+abbrev start : tie.After-put-text-arg2 → tie.Start
+start c = c .before .before .before .before
+
+abbrev with-text : tie.After-put-text-arg3 → tie.After-put-text
+with-text c = c .before .before .before
+
+abbrev with-step : tie.After-wide → tie.After-put-text2
 with-step c = c .before .before .before .before
 
-abbrev with-number : tie.After-put-byte-arg → tie.After-put-number-arg2
-with-number c = c .before .before .before .before
+abbrev with-number : tie.After-put-number-arg2 → tie.After-put-number
+with-number c = c .before .before .before
 
-text-left : (c : tie.After-put-text-arg3) (n : ℕ) → n ≡ start c .args .number → let t = c .before .before .before .put-text in
-    Room (t .last .0) (t .result) (start c .args .step .now ++ (number n ++ (number (start c .args .place) ++ (10 ∷ []))))
-text-left c n e = room-next (c .before .before .before .put-text .ensures) _ (pieces (start c) n e) (start c .pre)
+abbrev with-place : tie.After-put-byte-arg → tie.After-put-number2
+with-place c = c .before .before .before
 
-step-left : (c : tie.After-wide) → let t = c .before .before .before .before .put-text2 in
-    Room (t .last .0) (t .result) (number (c .wide .result) ++ (number (start (with-text c) .args .place) ++ (10 ∷ [])))
-step-left c = room-next (c .before .before .before .before .put-text2 .ensures) _ refl (text-left (with-text c) (c .wide .result) (c .wide .ensures))
+text-put : (c : tie.After-put-text) → let s = start (c .before) in Left s (last-four s) (c .put-text .last .0) (c .put-text .result)
+text-put c = done-more (all-left (start (c .before))) (refusedText ++ (32 ∷ [])) _ refl (c .put-text .ensures)
 
-number-left : (c : tie.After-put-number-arg2) → let t = c .before .before .before .put-number in
-    Room (t .last .0) (t .result) (number (start (with-text (with-step c)) .args .place) ++ (10 ∷ []))
-number-left c = room-next (c .before .before .before .put-number .ensures) _ refl (step-left (with-step c))
+abbrev start-of-step : tie.After-put-text2 → tie.Start
+start-of-step c = start (with-text (c .before) .before)
+
+step-put : (c : tie.After-put-text2) → let s = start-of-step c in Left s (last-three s) (c .put-text2 .last .0) (c .put-text2 .result)
+step-put c = done-more (text-put (with-text (c .before))) (start-of-step c .args .step .now) _ refl (c .put-text2 .ensures)
+
+abbrev start-of-number : tie.After-put-number → tie.Start
+start-of-number c = start-of-step (with-step (c .before))
+
+number-put : (c : tie.After-put-number) → let s = start-of-number c in Left s (last-two s) (c .put-number .last .0) (c .put-number .result)
+number-put c = done-more (step-put (with-step (c .before))) (number (c .before .wide .result)) _ (number-is (c .before .wide .ensures) _) (c .put-number .ensures)
+
+abbrev start-of-place : tie.After-put-number2 → tie.Start
+start-of-place c = start-of-number (with-number (c .before))
+
+place-put : (c : tie.After-put-number2) → Left (start-of-place c) (10 ∷ []) (c .put-number2 .last .0) (c .put-number2 .result)
+place-put c = done-more (number-put (with-number (c .before))) _ (10 ∷ []) refl (c .put-number2 .ensures)
 
 slice-aggregate-put-text : tie.Need-slice-aggregate-put-text
 slice-aggregate-put-text c = search needs
 
 put-text-requires : tie.Need-put-text-requires
-put-text-requires c κs =
-    let s = c .before .before .before .before in
-    room-front (s .args .out .now) (s .args .at) (refusedText ++ (32 ∷ [])) _ (pieces s (s .args .number) refl) (s .pre)
+put-text-requires c κs = done-room (all-left (start c)) (refusedText ++ (32 ∷ [])) _ refl
 
 put-text-requires-2 : tie.Need-put-text-requires-2
 put-text-requires-2 c κs =
-    let s = start c in
-    room-then (c .before .before .before .put-text .ensures) (s .args .step .now) _ (pieces s (s .args .number) refl) (s .pre)
+    let p = with-text c in
+    done-room (text-put p) (start (p .before) .args .step .now) _ refl
 
 wide-requires : tie.Need-wide-requires
 wide-requires c κs = search needs
 
 put-number-requires : tie.Need-put-number-requires
-put-number-requires c κs =
-    let text = text-left (with-text c) (c .wide .result) (c .wide .ensures) in
-    room-then (c .before .before .before .before .put-text2 .ensures) (number (c .wide .result)) _ refl text
+put-number-requires c κs = done-room (step-put (with-step c)) (number (c .wide .result)) _ (number-is (c .wide .ensures) _)
 
 put-number-requires-2 : tie.Need-put-number-requires-2
 put-number-requires-2 c κs =
-    let place = start (with-text (with-step c)) .args .place in
-    room-then (c .before .before .before .put-number .ensures) (number place) _ refl (step-left (with-step c))
+    let p = with-number c in
+    done-room (number-put p) (number (start-of-number p .args .place)) _ refl
 
 put-byte-requires : tie.Need-put-byte-requires
-put-byte-requires c κs = room-next (c .before .before .before .put-number2 .ensures) _ refl (number-left (with-number c))
+put-byte-requires c κs = last-room (place-put (with-place c))
 
 same-length : tie.Need-same-length
 same-length c = search needs
 
 returns : tie.Need-returns
 returns c =
-    let placed = c .before .before .before in
-    let numbered = with-number placed in
-    let stepped = with-step numbered in
-    let texted = with-text stepped in
-    puts-next (texted .before .before .before .put-text .ensures) _ (pieces (start texted) (stepped .wide .result) (stepped .wide .ensures)) (start texted .pre)
-    (puts-next (stepped .before .before .before .before .put-text2 .ensures) _ refl (text-left texted (stepped .wide .result) (stepped .wide .ensures))
-    (puts-next (numbered .before .before .before .put-number .ensures) _ refl (step-left stepped)
-    (puts-next (placed .before .before .before .put-number2 .ensures) _ refl (number-left numbered) (c .before .before .put-byte .ensures))))
+    let end = c .before .before in
+    done-last (place-put (with-place (end .before))) (end .put-byte .ensures)
 
 pub put-refused-spec : {M : Type 1} → statement M
 put-refused-spec =

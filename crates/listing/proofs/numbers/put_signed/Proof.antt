@@ -9,26 +9,26 @@ use Rattle.listing.proofs.Signs.{Plain, Minus, readAs, turned, signed-p
 use Rattle.listing.proofs.numbers.put_signed.Statement.{statement}
 use Rattle.listing.proofs.numbers.put_signed.Tie as tie
 
--- Where the first bytes are put.
-abbrev plain-start : tie.After-put-decimal-arg → tie.Start
-plain-start c = c .before .before .before .before
+-- What the value reads as where its digits are put, or where a minus sign is.
+abbrev start : tie.After-signed → tie.Start
+start c = c .before .before
 
-abbrev minus-start : tie.After-put-byte-arg → tie.Start
-minus-start c = c .before .before .before .before
+module _ (c : tie.After-put-decimal-arg) where
+  abbrev plain-value : tie.After-signed
+  plain-value = c .before .before
 
-abbrev signed-at : tie.After-put-decimal-arg2 → tie.After-put-byte-arg
-signed-at c = c .before .before .before .before
+  plain : Plain (readAs (plain-value .signed .result)) (signed prime (start plain-value .args .c))
+  plain = signed-plain (start plain-value .args .c) (plain-value .signed .result) (plain-value .signed .ensures) (c .before .if1 .taken)
 
--- What the value reads as there.
-plain : (c : tie.After-put-decimal-arg) → Plain (readAs (c .before .before .signed .result)) (signed prime (plain-start c .args .c))
-plain c =
-    let v = c .before .before .signed in
-    signed-plain (plain-start c .args .c) (v .result) (v .ensures) (c .before .if1 .taken)
+module _ (c : tie.After-put-byte-arg) where
+  abbrev minus-value : tie.After-signed
+  minus-value = c .before .before
 
-minus : (c : tie.After-put-byte-arg) → Minus (readAs (c .before .before .signed .result)) (signed prime (minus-start c .args .c))
-minus c =
-    let v = c .before .before .signed in
-    signed-minus (minus-start c .args .c) (v .result) (v .ensures) (c .before .if1 .left)
+  minus : Minus (readAs (minus-value .signed .result)) (signed prime (start minus-value .args .c))
+  minus = signed-minus (start minus-value .args .c) (minus-value .signed .result) (minus-value .signed .ensures) (c .before .if1 .left)
+
+abbrev with-sign : tie.After-put-decimal-arg2 → tie.After-put-byte
+with-sign c = c .before .before .before
 
 signed-requires : tie.Need-signed-requires
 signed-requires c κs = search needs
@@ -37,36 +37,37 @@ cast-put-decimal : tie.Need-cast-put-decimal
 cast-put-decimal c = (plain c .nonneg, plain c .fits)
 
 put-decimal-requires : tie.Need-put-decimal-requires
-put-decimal-requires c κs = room-is (plain-start c .args .out .now) (plain-start c .args .at) (plain c .text) (plain-start c .pre)
+put-decimal-requires c κs = let s = start (plain-value c) in room-is (s .args .out .now) (s .args .at) (plain c .text) (s .pre)
 
 same-length : tie.Need-same-length
 same-length c = search needs
 
 returns : tie.Need-returns
-returns c = puts-is (c .before .before .put-decimal .ensures) (plain (c .before .before .before) .text)
+returns c = let end = c .before .before in puts-is (end .put-decimal .ensures) (plain (end .before) .text)
 
 put-byte-requires : tie.Need-put-byte-requires
-put-byte-requires c κs = room-front (minus-start c .args .out .now) (minus-start c .args .at) (45 ∷ []) _ (minus c .text) (minus-start c .pre)
+put-byte-requires c κs = let s = start (minus-value c) in room-front (s .args .out .now) (s .args .at) (45 ∷ []) _ (minus c .text) (s .pre)
 
 sub-put-decimal : tie.Need-sub-put-decimal
-sub-put-decimal c = minus (signed-at c) .turns
+sub-put-decimal c = minus (with-sign c .before) .turns
 
 cast-put-decimal-2 : tie.Need-cast-put-decimal-2
-cast-put-decimal-2 c = (minus (signed-at c) .nonneg, minus (signed-at c) .fits)
+cast-put-decimal-2 c = let m = minus (with-sign c .before) in (m .nonneg, m .fits)
 
 put-decimal-requires-2 : tie.Need-put-decimal-requires-2
 put-decimal-requires-2 c κs =
-    let s = signed-at c in
-    room-next (c .before .before .before .put-byte .ensures) _ (minus s .text) (minus-start s .pre)
+    let p = with-sign c in
+    room-next (p .put-byte .ensures) _ (minus (p .before) .text) (start (minus-value (p .before)) .pre)
 
 same-length-2 : tie.Need-same-length-2
 same-length-2 c = search needs
 
 returns-2 : tie.Need-returns-2
 returns-2 c =
-    let s = signed-at (c .before .before .before) in
-    let sign = c .before .before .before .before .before .before .put-byte in
-    puts-next (sign .ensures) (decimal (natAbs (turned (readAs (s .before .before .signed .result))))) (minus s .text) (minus-start s .pre) (c .before .before .put-decimal2 .ensures)
+    let end = c .before .before in
+    let p = with-sign (end .before) in
+    let value = minus-value (p .before) in
+    puts-next (p .put-byte .ensures) (decimal (natAbs (turned (readAs (value .signed .result))))) (minus (p .before) .text) (start value .pre) (end .put-decimal2 .ensures)
 
 pub put-signed-spec : {M : Type 1} → statement M
 put-signed-spec =

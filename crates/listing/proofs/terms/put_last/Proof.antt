@@ -1,50 +1,59 @@
--- A space, the coefficient and the end of the line are put one behind the other; behind each there is room for the rest.
+-- A space, the coefficient and the end of the line are put one behind the other: behind each, what is put and what is left.
 use mathlib.Core.Path.{refl}
 use mathlib.Core.List.{List, [], _∷_, _++_}
 use Prim.Native.Nat.{ℕ}
 use borrow.Author.Needs.{needs}
 use Rattle.semantics.specs.Arithmetic.{prime}
 use Rattle.semantics.specs.Sheetlist.{signed}
-use Rattle.listing.specs.Putting.{Room}
-use Rattle.listing.proofs.Writing.{room-next, room-then, puts-next}
-use Rattle.listing.proofs.Pieces.{ending-pieces}
+use Rattle.listing.proofs.Writing.{Done, done-none, done-room, done-more, last-room, done-last}
+use Rattle.listing.proofs.Pieces.{ending, ending-pieces}
 use Rattle.listing.proofs.terms.put_last.Statement.{statement}
 use Rattle.listing.proofs.terms.put_last.Tie as tie
 
+module _ (s : tie.Start) where
+  abbrev Left : (rest out : List ℕ) → ℕ → Type 0
+  Left rest out next = Done (s .args .out .now) (s .args .at) (ending (s .args .c)) rest out next
+
+  abbrev coefficient : List ℕ
+  coefficient = signed prime (s .args .c)
+
+  all-left : Left ((32 ∷ []) ++ (coefficient ++ (10 ∷ []))) (s .args .out .now) (s .args .at)
+  all-left = done-none (s .args .out .now) (s .args .at) (ending-pieces (s .args .c)) (s .pre)
+
 -- Where the coefficient is put, and where the end of the line.
-abbrev start : tie.After-put-signed-arg → tie.Start
-start c = c .before .before .before .before .before .before
+abbrev start : tie.After-put-byte → tie.Start
+start c = c .before .before .before
 
-abbrev spaced : tie.After-put-byte-arg2 → tie.After-put-signed-arg
-spaced c = c .before .before .before .before
+abbrev with-space : tie.After-put-signed-arg → tie.After-put-byte
+with-space c = c .before .before .before
 
-abbrev rest : tie.Start → List ℕ
-rest s = signed prime (s .args .c) ++ (10 ∷ [])
+abbrev with-coefficient : tie.After-put-byte-arg2 → tie.After-put-signed
+with-coefficient c = c .before .before .before
 
-left : (c : tie.After-put-signed-arg) → let v = c .before .before .before .put-byte in Room (v .last .0) (v .result) (rest (start c))
-left c = room-next (c .before .before .before .put-byte .ensures) (rest (start c)) (ending-pieces (start c .args .c)) (start c .pre)
+space-put : (c : tie.After-put-byte) → let s = start c in Left s (coefficient s ++ (10 ∷ [])) (c .put-byte .last .0) (c .put-byte .result)
+space-put c = done-more (all-left (start c)) (32 ∷ []) _ refl (c .put-byte .ensures)
+
+coefficient-put : (c : tie.After-put-signed) → Left (start (with-space (c .before))) (10 ∷ []) (c .put-signed .last .0) (c .put-signed .result)
+coefficient-put c = done-more (space-put (with-space (c .before))) _ (10 ∷ []) refl (c .put-signed .ensures)
 
 put-byte-requires : tie.Need-put-byte-requires
 put-byte-requires c κs = search needs
 
 put-signed-requires : tie.Need-put-signed-requires
 put-signed-requires c κs =
-    let s = start c in
-    room-then (c .before .before .before .put-byte .ensures) (signed prime (s .args .c)) (10 ∷ []) (ending-pieces (s .args .c)) (s .pre)
+    let p = with-space c in
+    done-room (space-put p) (coefficient (start p)) _ refl
 
 put-byte-requires-2 : tie.Need-put-byte-requires-2
-put-byte-requires-2 c κs = room-next (c .before .before .before .put-signed .ensures) (10 ∷ []) refl (left (spaced c))
+put-byte-requires-2 c κs = last-room (coefficient-put (with-coefficient c))
 
 same-length : tie.Need-same-length
 same-length c = search needs
 
 returns : tie.Need-returns
 returns c =
-    let e = c .before .before .before in
-    let m = spaced e in
-    let s = start m in
-    puts-next (m .before .before .before .put-byte .ensures) (rest s) (ending-pieces (s .args .c)) (s .pre)
-    (puts-next (e .before .before .before .put-signed .ensures) (10 ∷ []) refl (left m) (c .before .before .put-byte2 .ensures))
+    let end = c .before .before in
+    done-last (coefficient-put (with-coefficient (end .before))) (end .put-byte2 .ensures)
 
 pub put-last-spec : {M : Type 1} → statement M
 put-last-spec =

@@ -1,55 +1,65 @@
--- The letter, the interaction, the field and the coefficient are put one behind the other; behind each there is room for the rest.
-use mathlib.Core.Path.{_≡_, refl}
+-- The letter, the interaction, the field and the coefficient are put one behind the other: behind each, what is put and what is left of the line.
+use mathlib.Core.Path.{refl}
 use mathlib.Core.List.{List, [], _∷_, _++_}
 use Prim.Native.Nat.{ℕ, _+_}
 use borrow.Author.Needs.{needs}
 use lib.ListN.{getD, take, drop}
 use Rattle.semantics.specs.Arithmetic.{prime}
 use Rattle.semantics.specs.Sheetlist.{wLine}
-use Rattle.listing.specs.Putting.{Room}
-use Rattle.listing.proofs.Writing.{room-front, room-next, room-then, puts-next}
-use Rattle.listing.proofs.Pieces.{number, ending, w-pieces}
+use Rattle.listing.proofs.Writing.{Done, done-none, done-room, done-more, last-room, done-last}
+use Rattle.listing.proofs.Pieces.{number, number-is, ending, w-pieces}
 use Rattle.listing.proofs.terms.put_w_line.Statement.{statement}
 use Rattle.listing.proofs.terms.put_w_line.Tie as tie
 
--- The words of the term.
-abbrev field : tie.Start → ℕ
-field s = getD (s .args .terms .now) (s .args .k + 2) 0
+module _ (s : tie.Start) where
+  abbrev Left : (rest out : List ℕ) → ℕ → Type 0
+  Left rest out next = Done (s .args .out .now) (s .args .at) (wLine prime (take 3 (drop (s .args .k) (s .args .terms .now)))) rest out next
 
-abbrev coefficient : tie.Start → ℕ
-coefficient s = getD (s .args .terms .now) (s .args .k) 0
+  abbrev coefficient : List ℕ
+  coefficient = ending (getD (s .args .terms .now) (s .args .k) 0)
 
--- Where the interaction is put, where the field, and where what comes behind it.
-abbrev start : tie.After-wide → tie.Start
-start c = c .before .before .before .before .before .before .before .before .before
+  abbrev interaction : List ℕ
+  interaction = number (getD (s .args .terms .now) (s .args .k + 1) 0)
 
-abbrev first : tie.After-wide2 → tie.After-wide
-first c = c .before .before .before .before .before .before
+  abbrev field : List ℕ
+  field = number (getD (s .args .terms .now) (s .args .k + 2) 0)
 
-abbrev second : tie.After-shared-slice-known4 → tie.After-wide2
-second c = c .before .before .before .before .before
+  all-left : Left ((119 ∷ []) ++ (interaction ++ (field ++ coefficient))) (s .args .out .now) (s .args .at)
+  all-left = done-none (s .args .out .now) (s .args .at) (w-pieces (s .args .terms .now) (s .args .k)) (s .pre .1)
 
--- What is left behind the letter, for a number that is the field, and behind the interaction.
-abbrev rest : tie.After-wide → ℕ → List ℕ
-rest c m = number (c .wide .result) ++ (number m ++ ending (coefficient (start c)))
+-- Where the letter, the interaction, the field and the coefficient are put.
+abbrev start : tie.After-put-byte-arg → tie.Start
+start c = c .before .before .before
 
-pieces : (c : tie.After-wide) (m : ℕ) → m ≡ field (start c)
-    → (119 ∷ []) ++ rest c m ≡ wLine prime (take 3 (drop (start c .args .k) (start c .args .terms .now)))
-pieces c m f = w-pieces (start c .args .terms .now) (start c .args .k) (c .wide .result) m (c .wide .ensures) f
+abbrev with-letter : tie.After-wide → tie.After-put-byte
+with-letter c = c .before .before .before .before .before
 
-letter-left : (c : tie.After-wide) (m : ℕ) → m ≡ field (start c) → let v = c .before .before .before .before .before .put-byte in Room (v .last .0) (v .result) (rest c m)
-letter-left c m f = room-next (c .before .before .before .before .before .put-byte .ensures) (rest c m) (pieces c m f) (start c .pre .1)
+abbrev with-interaction : tie.After-wide2 → tie.After-put-number
+with-interaction c = c .before .before .before .before .before
 
-number-left : (c : tie.After-wide2) → let v = c .before .before .before .before .before .put-number in
-    Room (v .last .0) (v .result) (number (c .wide2 .result) ++ ending (coefficient (start (first c))))
-number-left c =
-    room-next (c .before .before .before .before .before .put-number .ensures) _ refl (letter-left (first c) (c .wide2 .result) (c .wide2 .ensures))
+abbrev with-field : tie.After-shared-slice-known4 → tie.After-put-number2
+with-field c = c .before .before .before .before
+
+letter-put : (c : tie.After-put-byte) → let s = start (c .before) in Left s (interaction s ++ (field s ++ coefficient s)) (c .put-byte .last .0) (c .put-byte .result)
+letter-put c = done-more (all-left (start (c .before))) (119 ∷ []) _ refl (c .put-byte .ensures)
+
+abbrev start-of-interaction : tie.After-put-number → tie.Start
+start-of-interaction c = start (with-letter (c .before) .before)
+
+interaction-put : (c : tie.After-put-number) → let s = start-of-interaction c in Left s (field s ++ coefficient s) (c .put-number .last .0) (c .put-number .result)
+interaction-put c =
+    done-more (letter-put (with-letter (c .before))) (number (c .before .wide .result)) _ (number-is (c .before .wide .ensures) _) (c .put-number .ensures)
+
+abbrev start-of-field : tie.After-put-number2 → tie.Start
+start-of-field c = start-of-interaction (with-interaction (c .before))
+
+field-put : (c : tie.After-put-number2) → let s = start-of-field c in Left s (coefficient s) (c .put-number2 .last .0) (c .put-number2 .result)
+field-put c =
+    done-more (interaction-put (with-interaction (c .before))) (number (c .before .wide2 .result)) _ (number-is (c .before .wide2 .ensures) _)
+    (c .put-number2 .ensures)
 
 put-byte-requires : tie.Need-put-byte-requires
-put-byte-requires c κs =
-    let s = c .before .before .before in
-    let word = getD (s .args .terms .now) (s .args .k + 1) 0 in
-    room-front (s .args .out .now) (s .args .at) (119 ∷ []) _ (w-pieces (s .args .terms .now) (s .args .k) word (field s) refl refl) (s .pre .1)
+put-byte-requires c κs = done-room (all-left (start c)) (119 ∷ []) _ refl
 
 add-wide : tie.Need-add-wide
 add-wide c = search needs
@@ -64,9 +74,7 @@ wide-requires : tie.Need-wide-requires
 wide-requires c κs = search needs
 
 put-number-requires : tie.Need-put-number-requires
-put-number-requires c κs =
-    let s = start c in
-    room-then (c .before .before .before .before .before .put-byte .ensures) (number (c .wide .result)) _ (pieces c (field s) refl) (s .pre .1)
+put-number-requires c κs = done-room (letter-put (with-letter c)) (number (c .wide .result)) _ (number-is (c .wide .ensures) _)
 
 add-wide-2 : tie.Need-add-wide-2
 add-wide-2 c = search needs
@@ -81,9 +89,7 @@ wide-requires-2 : tie.Need-wide-requires-2
 wide-requires-2 c κs = search needs
 
 put-number-requires-2 : tie.Need-put-number-requires-2
-put-number-requires-2 c κs =
-    let left = letter-left (first c) (c .wide2 .result) (c .wide2 .ensures) in
-    room-then (c .before .before .before .before .before .put-number .ensures) (number (c .wide2 .result)) _ refl left
+put-number-requires-2 c κs = done-room (interaction-put (with-interaction c)) (number (c .wide2 .result)) _ (number-is (c .wide2 .ensures) _)
 
 mul-put-last : tie.Need-mul-put-last
 mul-put-last c = search needs
@@ -92,20 +98,15 @@ shared-slice-read-put-last : tie.Need-shared-slice-read-put-last
 shared-slice-read-put-last c = search needs
 
 put-last-requires : tie.Need-put-last-requires
-put-last-requires c κs = room-next (c .before .before .before .before .put-number2 .ensures) _ refl (number-left (second c))
+put-last-requires c κs = last-room (field-put (with-field c))
 
 same-length : tie.Need-same-length
 same-length c = search needs
 
 returns : tie.Need-returns
 returns c =
-    let l = c .before .before .before in
-    let m = second l in
-    let n = first m in
-    let f = m .wide2 .ensures in
-    puts-next (n .before .before .before .before .before .put-byte .ensures) _ (pieces n (m .wide2 .result) f) (start n .pre .1)
-    (puts-next (m .before .before .before .before .before .put-number .ensures) _ refl (letter-left n (m .wide2 .result) f)
-    (puts-next (l .before .before .before .before .put-number2 .ensures) _ refl (number-left m) (c .before .before .put-last .ensures)))
+    let end = c .before .before in
+    done-last (field-put (with-field (end .before))) (end .put-last .ensures)
 
 pub put-w-line-spec : {M : Type 1} → statement M
 put-w-line-spec =
