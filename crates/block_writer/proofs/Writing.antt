@@ -5,7 +5,7 @@ use Prim.Native.Nat.{ℕ, suc, _+_, _*_, _-_, _/_, _≤_, _<_}
 use native.Mathlib.Omega.{arith}
 use native.Mathlib.Nat.{add-zero, sub-zero}
 use native.Mathlib.Numerals.{add-one}
-use lib.ListN.{length, getD, take, drop, replicate, set, length-set, take-append-drop}
+use lib.ListN.{length, getD, take, drop, replicate, set, take-append-drop}
 use lib.Seq.{drop-drop, drop-at, getD-drop, length-take-le}
 use Rattle.slices.proofs.Lists.{flat-append}
 use Rattle.semantics.specs.Answer.{good}
@@ -15,25 +15,16 @@ use Rattle.semantics.specs.Block.{wordBytes, wordsOf, checkWord, firstWords, bl
 use Rattle.semantics.proofs.Blocks.{Words, words-back, first-length, first-add, written-length}
 use Rattle.sheet.specs.declared.Head.{Head}
 use Rattle.sheet.proofs.Answers.{headOf, words-found}
-use Rattle.slices.proofs.Laws.{put-next}
+use Rattle.slices.proofs.Puts.{put-front, stores-put}
 
 -- Four bytes, one behind the other.
 pub word-put : (w : ℕ) (o bs : List ℕ) (at : ℕ) → at + 4 ≤ length o → bs ≡ wordBytes w
     → take (at + 4) (set (set (set (set o at (getD bs 0 0)) (at + 1) (getD bs 1 0)) (at + 2) (getD bs 2 0)) (at + 3) (getD bs 3 0)) ≡ take at o ++ wordBytes w
 unfolding wordBytes
 word-put w o bs at h e =
-    let o₁ : List ℕ = set o at (getD bs 0 0) in
-    let o₂ : List ℕ = set o₁ (at + 1) (getD bs 1 0) in
-    let o₃ : List ℕ = set o₂ (at + 2) (getD bs 2 0) in
-    let l₁ : length o₁ ≡ length o = length-set o at _ in
-    let l₂ : length o₂ ≡ length o₁ = length-set o₁ (at + 1) _ in
-    let l₃ : length o₃ ≡ length o₂ = length-set o₂ (at + 2) _ in
-    put-next o₃ (at + 3) (at + 4) _ (omega arith) (omega arith)
-    (put-next o₂ (at + 2) (at + 3) _ (omega arith) (omega arith)
-    (put-next o₁ (at + 1) (at + 2) _ (omega arith) (omega arith)
-    (put-next o at (at + 1) _ refl (omega arith) refl)))
-    ∙ ap (λ (b : List ℕ). (((take at o ++ (getD b 0 0 ∷ [])) ++ (getD b 1 0 ∷ [])) ++ (getD b 2 0 ∷ [])) ++ (getD b 3 0 ∷ [])) e
-    ∙ simp append-assoc
+    let bytes : List ℕ → List ℕ = λ b. getD b 0 0 ∷ getD b 1 0 ∷ getD b 2 0 ∷ getD b 3 0 ∷ [] in
+    ap (take (at + 4)) (stores-put o at (getD bs 0 0) (getD bs 1 0 ∷ getD bs 2 0 ∷ getD bs 3 0 ∷ []) h)
+    ∙ put-front o at (bytes bs) h ∙ ap (λ (b : List ℕ). take at o ++ bytes b) e
 
 words-append : (us vs : List ℕ) → Words us → Words vs → Words (us ++ vs)
 words-append [] vs h k = k

@@ -11,8 +11,7 @@ use Rattle.records.specs.Access.{part, messageLength, interactionFrom, eachWord
 use Rattle.records.proofs.Parts.{part-more, part-length}
 use Rattle.slices.specs.Putting.{put}
 use Rattle.graph_lists.specs.Lists.{nodeNumbers, marksOf, Named, NamedInteraction, NamedInteractions, renamedWords, renamedAll}
-use Rattle.slices.proofs.Puts.{put-none, put-length, put-put, put-one}
-use Rattle.graph_lists.proofs.Sweeps.{put-sets, put-next, set-next}
+use Rattle.slices.proofs.Puts.{put-none, put-length, put-behind, set-behind, sets-put}
 
 numbers-length : (ws : List ℕ) (at j : ℕ) (f : ℕ → ℕ) → at + j ≤ length ws → length (nodeNumbers f (part at j ws)) ≡ j
 numbers-length ws at j f h = length-map (part at j ws) (λ (x : ℕ). pred (f x)) ∙ part-length ws at j h
@@ -33,11 +32,7 @@ module _ (ws : List ℕ) (at count : ℕ) (s : List ℕ) (h : Named ws at count 
         let f : ℕ → ℕ = marksOf s in
         let xs : List ℕ = nodeNumbers f (part at j ws) in
         let n : length xs ≡ j = numbers-length ws at j f (omega (arith, h .inside)) in
-        let p : to + length xs + 1 ≤ length out₀ = omega arith in
-        ap (λ (u : List ℕ). set u (to + j) node) e
-        ∙ ap (λ (k : ℕ). set (put out₀ to xs) (to + k) node) (sym n)
-        ∙ put-one (put out₀ to xs) (to + length xs) node (omega (arith, put-length out₀ to xs (omega arith)))
-        ∙ put-put out₀ to xs (node ∷ []) p
+        set-behind out₀ out to xs e (to + j) (omega arith) node (omega arith)
         ∙ ap (λ (x : ℕ). put out₀ to (xs ++ (x ∷ []))) q
         ∙ ap (put out₀ to) (sym (map-append (λ (x : ℕ). pred (f x)) (part at j ws) (getD ws (at + j) 0 ∷ [])))
         ∙ ap (λ (y : List ℕ). put out₀ to (nodeNumbers f y)) (sym (part-more ws at j (omega (arith, h .inside))))
@@ -69,15 +64,15 @@ module _ (ws : List ℕ) (at : ℕ) (s : List ℕ) (h : NamedInteraction ws at s
         → o₅ ≡ put out to (renamedWords ws s at)
     unfolding renamedWords
     all-put o₂ o₃ o₅ e₂ e₃ e₅ =
-        let f₂ : o₂ ≡ put out to front = e₂ ∙ put-sets out to front (omega arith) in
-        let f₃ : o₃ ≡ put out to (front ++ count-nodes) = e₃ ∙ put-next out o₂ to front f₂ (to + 2) refl count-nodes (omega (arith, one-count)) in
+        let f₂ : o₂ ≡ put out to front = e₂ ∙ sets-put out to front (omega arith) in
+        let f₃ : o₃ ≡ put out to (front ++ count-nodes) = e₃ ∙ put-behind out o₂ to front f₂ (to + 2) refl count-nodes (omega (arith, one-count)) in
         let x : List ℕ = front ++ count-nodes in
         let lx : length x ≡ 3 = omega (arith, one-count) in
         let y : List ℕ = x ++ (messageLength ws at ∷ []) in
         let ly : length y ≡ 4 = length-append x (messageLength ws at ∷ []) ∙ omega arith in
-        let f₄ : set o₃ (to + 3) (messageLength ws at) ≡ put out to y = set-next out o₃ to x f₃ (to + 3) (omega arith) (messageLength ws at) (omega arith) in
+        let f₄ : set o₃ (to + 3) (messageLength ws at) ≡ put out to y = set-behind out o₃ to x f₃ (to + 3) (omega arith) (messageLength ws at) (omega arith) in
         let f₅ : o₅ ≡ put out to (y ++ message-nodes) =
-        e₅ ∙ put-next out (set o₃ (to + 3) (messageLength ws at)) to y f₄ (to + 4) (omega arith) message-nodes (omega (arith, all-message)) in
+        e₅ ∙ put-behind out (set o₃ (to + 3) (messageLength ws at)) to y f₄ (to + 4) (omega arith) message-nodes (omega (arith, all-message)) in
         f₅ ∙ ap (put out to) (append-assoc x (messageLength ws at ∷ []) message-nodes ∙ append-assoc front count-nodes ((messageLength ws at ∷ []) ++ message-nodes))
 
     -- At the places x of the sheet and y of the output.
@@ -94,7 +89,7 @@ module _ (ws : List ℕ) (at : ℕ) (s : List ℕ) (h : NamedInteraction ws at s
 
       module _ (o₂ : List ℕ) (e₂ : o₂ ≡ sets out to front) where
         length-two : length o₂ ≡ length out
-        length-two = ap length (e₂ ∙ put-sets out to front (omega arith)) ∙ put-length out to front (omega arith)
+        length-two = ap length (e₂ ∙ sets-put out to front (omega arith)) ∙ put-length out to front (omega arith)
 
         pub count-asks : Named ws (x .count) 1 s × (y .count + 1 ≤ length o₂)
         count-asks = at-places (λ u v. Named ws (u .count) 1 s × (v .count + 1 ≤ length o₂)) (h .count, omega (arith, length-two))
@@ -190,7 +185,7 @@ module _ (ws s : List ℕ) (at count : ℕ) (out₀ : List ℕ) (to : ℕ) (name
       written-more out′ from′ next′ o n f = record {
         words = h .words ++ renamedWords ws s from;
         i-le = omega arith;
-        out-is = o ∙ put-next out₀ out to (h .words) (h .out-is) next (h .next-is) (renamedWords ws s from) (omega (arith, split-length));
+        out-is = o ∙ put-behind out₀ out to (h .words) (h .out-is) next (h .next-is) (renamedWords ws s from) (omega (arith, split-length));
         next-is = n ∙ omega (arith, h .next-is, words-length, length-append (h .words) (renamedWords ws s from));
         whole = ap (λ (k : ℕ). h .words ++ renamedWords ws s from ++ renamedAll ws s k (count - (i + 1))) f
             ∙ append-assoc (h .words) (renamedWords ws s from) (renamedAll ws s (from + (4 + messageLength ws from)) (count - (i + 1))) ∙ next-whole;

@@ -1,14 +1,14 @@
 -- Taking the flags off in ascending order.
 use mathlib.Core.Path.{_≡_, refl, sym, ap, subst, _∙_}
 use mathlib.Core.Bool.{Bool, true, false, cond}
-use mathlib.Core.List.{List, [], _∷_, _++_, append-assoc, append-nil}
+use mathlib.Core.List.{List, _++_, append-assoc, append-nil}
 use Prim.Native.Nat.{ℕ, zero, suc, _+_, _-_, _≤_, _<_}
 use native.Mathlib.Omega.{arith}
 use native.Mathlib.Nat.{zero-add}
 use native.Mathlib.Numerals.{add-one}
 use lib.Dec.{eqb, ltb, leb}
-use lib.ListN.{length, getD, set, take, drop, replicate, length-append, length-replicate, replicate-append-replicate}
-use lib.Seq.{sets, sets-eq, take-at, drop-at, drop-append-add}
+use lib.ListN.{length, getD, set, drop, replicate, length-append, length-replicate, replicate-append-replicate}
+use lib.Seq.{take-at, drop-at, drop-append-add}
 use borrow.Author.Tests.{eqb-true, eqb-false, ltb-true, ltb-false, lt-ltb, le-ltb}
 use Rattle.semantics.specs.Graph.{setNum}
 use Rattle.semantics.specs.Call.{zeros, padded}
@@ -16,12 +16,8 @@ use Rattle.nodes.specs.Memory.{tabulate}
 use Rattle.nodes.proofs.Marks.{tabulate-length, tabulate-from, tabulate-same, tabulate-set}
 use Rattle.slices.specs.Putting.{put}
 use Rattle.graph_lists.specs.Lists.{plainWord, plainBelow, chosen, Wanted, flaggedAmong, marksOf}
-use Rattle.slices.proofs.Puts.{put-none, put-length, put-put, put-one}
+use Rattle.slices.proofs.Puts.{put-none, put-length, put-behind}
 use Rattle.graph_lists.proofs.Flags.{table-of}
-
--- Words put at a place.
-pub put-sets : (out : List ℕ) (at : ℕ) (xs : List ℕ) → at + length xs ≤ length out → sets out at xs ≡ put out at xs
-put-sets out at xs h = sets-eq xs out at h ∙ append-assoc (take at out) xs (drop (at + length xs) out)
 
 -- Behind the written part of a padded slice.
 pub put-padded : (W xs : List ℕ) (lent : ℕ) → length W + length xs ≤ lent → put (padded W lent) (length W) xs ≡ padded (W ++ xs) lent
@@ -138,18 +134,9 @@ module _ (s₀ out₀ : List ℕ) (at nodes : ℕ) (fits : nodes ≤ length s₀
           scratch-is = q ∙ ap (λ (v : ℕ). set s node (plainWord v)) swept-word ∙ ap (λ (u : List ℕ). set u node (plainWord (marksOf s₀ node))) (h .scratch-is)
               ∙ tabulate-set (length s₀) (plainBelow node s₀) node (plainWord (marksOf s₀ node)) (omega arith)
               ∙ tabulate-same (length s₀) (setNum node (plainWord (marksOf s₀ node)) (plainBelow node s₀)) (plainBelow (node + 1) s₀) (λ i m. plain-next s₀ node i (eqb i node) refl);
-          out-is = o ∙ (λ i. put (h .out-is i) (h .next-is i) (chosen b node)) ∙ put-put out₀ at old (chosen b node) r ∙ ap (put out₀ at) new;
+          out-is = o ∙ put-behind out₀ out at old (h .out-is) next (h .next-is) (chosen b node) r ∙ ap (put out₀ at) new;
           next-is = n ∙ ap (λ (k : ℕ). k + length (chosen b node)) (h .next-is) ∙ sum old (chosen b node) ∙ ap (λ (u : List ℕ). at + length u) new;
         }
       where
         sum : (xs ys : List ℕ) → at + length xs + length ys ≡ at + length (xs ++ ys)
         sum xs ys = simp length-append (omega arith)
-
--- What is put behind what was put, where the place is known by an equation.
-module _ (out out′ : List ℕ) (to : ℕ) (xs : List ℕ) (e : out′ ≡ put out to xs) (k : ℕ) (q : k ≡ to + length xs) where
-  pub put-next : (ys : List ℕ) → to + length xs + length ys ≤ length out → put out′ k ys ≡ put out to (xs ++ ys)
-  put-next ys h = (λ i. put (e i) (q i) ys) ∙ put-put out to xs ys h
-
-  pub set-next : (v : ℕ) → to + length xs < length out → set out′ k v ≡ put out to (xs ++ (v ∷ []))
-  set-next v h =
-      put-one out′ k v (omega (arith, ap length e ∙ put-length out to xs (omega arith))) ∙ put-next (v ∷ []) (omega arith)

@@ -4,7 +4,7 @@ use mathlib.Core.List.{List, [], _∷_, _++_, append-assoc}
 use Prim.Native.Nat.{ℕ, zero, suc, _+_, _*_, _-_, _≤_, _<_}
 use native.Mathlib.Omega.{arith}
 use lib.ListN.{length, getD, take, drop, set, length-map, length-drop}
-use lib.Seq.{sets, take-set-lt, take-set-le, drop-set-lt, drop-set-add, getD-take, getD-drop, drop-drop, take-at, drop-at, length-take-le, take-add}
+use lib.Seq.{take-set-lt, take-set-le, drop-set-lt, drop-set-add, getD-take, getD-drop, drop-drop, take-at, drop-at, length-take-le, take-add}
 use Rattle.semantics.specs.Group.{rows}
 use Rattle.semantics.proofs.Lists.{getD-map}
 use Rattle.semantics.proofs.Sorting.{all-within}
@@ -124,16 +124,3 @@ unfolding total
 total-at [] k h = absurd (omega arith)
 total-at (g ∷ gs) zero h = omega arith
 total-at (g ∷ gs) (suc k) h = omega (arith, total-at gs k (omega arith))
-
-pub row-sets : (H : List ℕ) (at a b c d : ℕ) → set (set (set (set H at a) (at + 1) b) (at + 2) c) (at + 3) d ≡ sets H at (a ∷ b ∷ c ∷ d ∷ [])
-row-sets H at a b c d =
-    let e : at + 1 ≡ suc at = omega arith in
-    let f : at + 2 ≡ suc (suc at) = omega arith in
-    let g : at + 3 ≡ suc (suc (suc at)) = omega arith in
-    rw (e, f, g)
-
-pub three-sets : (H : List ℕ) (at a b c : ℕ) → set (set (set H at a) (at + 1) b) (at + 2) c ≡ sets H at (a ∷ b ∷ c ∷ [])
-three-sets H at a b c =
-    let e : at + 1 ≡ suc at = omega arith in
-    let f : at + 2 ≡ suc (suc at) = omega arith in
-    rw (e, f)

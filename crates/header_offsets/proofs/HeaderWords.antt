@@ -4,8 +4,10 @@ use mathlib.Core.List.{List, [], _∷_, _++_, append-assoc}
 use Prim.Native.Nat.{ℕ, zero, suc, _+_, _*_, _-_, _≤_, _<_}
 use native.Mathlib.Numerals.{add-one}
 use native.Mathlib.Omega.{arith}
-use lib.ListN.{length, getD, set, take, drop, replicate, length-append, length-replicate, take-append-drop}
-use lib.Seq.{take-suc, take-at, drop-at, drop-drop, getD-drop, length-take-le, set-at, sets-eq}
+use lib.ListN.{length, getD, set, take, drop, replicate, length-append, length-replicate}
+use lib.Seq.{take-suc, drop-drop, getD-drop, length-take-le, set-at}
+use Rattle.slices.specs.Putting.{put}
+use Rattle.slices.proofs.Puts.{put-none, put-behind, stores-put}
 use Rattle.header_offsets.specs.declared.MonomialHeader.{MonomialHeader}
 use Rattle.header_offsets.specs.Headers.{noHeader, headerIn, headersIn, wordsOf}
 
@@ -24,11 +26,7 @@ pub header-stored : (ws : List ℕ) (at : ℕ) (h : MonomialHeader) → at + 4 �
     → set (set (set (set ws at (h .«var_offset»)) (at + 1) (h .«term_offset»)) (at + 2) (h .«num_vars»)) (at + 3) (h .«num_terms»)
     ≡ take at ws ++ (wordsOf (h ∷ []) ++ drop (at + 4) ws)
 unfolding wordsOf
-header-stored ws at h l =
-    let e : at + 1 ≡ suc at = omega arith in
-    let f : at + 2 ≡ suc (suc at) = omega arith in
-    let g : at + 3 ≡ suc (suc (suc at)) = omega arith in
-    rw (e, f, g) (sets-eq (wordsOf (h ∷ [])) ws at l ∙ append-assoc (take at ws) (wordsOf (h ∷ [])) (drop (at + 4) ws))
+header-stored ws at h l = stores-put ws at (h .«var_offset») (h .«term_offset» ∷ h .«num_vars» ∷ h .«num_terms» ∷ []) l
 
 pub in-length : (n : ℕ) (ws : List ℕ) → length (headersIn n ws) ≡ n
 unfolding headersIn
@@ -82,36 +80,25 @@ module _ (ws : List ℕ) (j : ℕ) (hs : List MonomialHeader) (e : Taken ws j hs
 
 -- While headers are put back: the words of the first j.
 abbrev pub Put : (ws₀ : List ℕ) (at : ℕ) (hs : List MonomialHeader) (j : ℕ) (ws : List ℕ) → Type 0
-Put ws₀ at hs j ws = ws ≡ take at ws₀ ++ (wordsOf (take j hs) ++ drop (at + 4 * j) ws₀)
+Put ws₀ at hs j ws = ws ≡ put ws₀ at (wordsOf (take j hs))
 
-pub put-none : (ws : List ℕ) (at : ℕ) (hs : List MonomialHeader) → Put ws at hs 0 ws
+pub none-put : (ws : List ℕ) (at : ℕ) (hs : List MonomialHeader) → Put ws at hs 0 ws
 unfolding wordsOf
-put-none ws at hs = let z : at ≡ at + 4 * 0 = omega arith in sym (take-append-drop at ws) ∙ ap (λ (i : ℕ). take at ws ++ drop i ws) z
+none-put ws at hs = sym (put-none ws at)
 
-module _ (ws₀ : List ℕ) (at : ℕ) (hs : List MonomialHeader) (j : ℕ) (ws : List ℕ) (p : Put ws₀ at hs j ws) (l : j < length hs) (r : at + 4 * (j + 1) ≤ length ws₀) where
-  front : List ℕ
-  front = take at ws₀ ++ wordsOf (take j hs)
+module _ (ws₀ : List ℕ) (at : ℕ) (hs : List MonomialHeader) (j : ℕ) (ws : List ℕ) (p : Put ws₀ at hs j ws) where
+  first-words : j ≤ length hs → length (wordsOf (take j hs)) ≡ 4 * j
+  first-words l = words-length (take j hs) ∙ ap (λ (n : ℕ). 4 * n) (length-take-le j hs l)
 
-  front-length : length front ≡ at + 4 * j
-  unfolding front
-  front-length =
-      length-append (take at ws₀) (wordsOf (take j hs))
-      ∙ omega (arith, length-take-le at ws₀ (omega arith), words-length (take j hs), length-take-le j hs (omega arith))
-
-  split : ws ≡ front ++ drop (at + 4 * j) ws₀
-  unfolding front
-  split = p ∙ sym (append-assoc (take at ws₀) (wordsOf (take j hs)) (drop (at + 4 * j) ws₀))
-
-  pub put-next : (ws′ : List ℕ) → ws′ ≡ take (at + 4 * j) ws ++ (wordsOf (getD hs j noHeader ∷ []) ++ drop (at + 4 * j + 4) ws) → Put ws₀ at hs (j + 1) ws′
-  unfolding front
-  put-next ws′ e =
+  pub one-put : j < length hs → at + 4 * (j + 1) ≤ length ws₀ → (ws′ : List ℕ)
+      → ws′ ≡ take (at + 4 * j) ws ++ (wordsOf (getD hs j noHeader ∷ []) ++ drop (at + 4 * j + 4) ws) → Put ws₀ at hs (j + 1) ws′
+  unfolding wordsOf
+  one-put l r ws′ e =
       let h : List ℕ = wordsOf (getD hs j noHeader ∷ []) in
-      let m : at + 4 * j + 4 ≡ at + 4 * (j + 1) = omega arith in
-      let f : take (at + 4 * j) ws ≡ front = ap (take (at + 4 * j)) split ∙ take-at front (drop (at + 4 * j) ws₀) (at + 4 * j) front-length in
-      let d : drop (at + 4 * j + 4) ws ≡ drop (at + 4 * (j + 1)) ws₀ =
-      sym (drop-drop 4 (at + 4 * j) ws) ∙ ap (drop 4) (ap (drop (at + 4 * j)) split ∙ drop-at front (drop (at + 4 * j) ws₀) (at + 4 * j) front-length)
-      ∙ drop-drop 4 (at + 4 * j) ws₀ ∙ ap (λ (i : ℕ). drop i ws₀) m in
-      let w : wordsOf (take (j + 1) hs) ≡ wordsOf (take j hs) ++ h =
-      ap (λ (i : ℕ). wordsOf (take i hs)) (add-one j) ∙ ap wordsOf (take-suc hs j noHeader l) ∙ words-append (take j hs) (getD hs j noHeader ∷ []) in
-      e ∙ (λ i. f i ++ (h ++ d i)) ∙ append-assoc (take at ws₀) (wordsOf (take j hs)) (h ++ drop (at + 4 * (j + 1)) ws₀)
-      ∙ ap (λ (x : List ℕ). take at ws₀ ++ x) (sym (append-assoc (wordsOf (take j hs)) h (drop (at + 4 * (j + 1)) ws₀)) ∙ ap (λ (x : List ℕ). x ++ drop (at + 4 * (j + 1)) ws₀) (sym w))
+      let n : length (wordsOf (take j hs)) ≡ 4 * j = first-words (omega arith) in
+      let w : wordsOf (take j hs) ++ h ≡ wordsOf (take (j + 1) hs) =
+      sym (ap (λ (i : ℕ). wordsOf (take i hs)) (add-one j) ∙ ap wordsOf (take-suc hs j noHeader l) ∙ words-append (take j hs) (getD hs j noHeader ∷ [])) in
+      e ∙ put-behind ws₀ ws at (wordsOf (take j hs)) p (at + 4 * j) (omega arith) h (omega arith) ∙ ap (put ws₀ at) w
+
+  pub all-put : j ≤ length hs → ws ≡ take at ws₀ ++ (wordsOf (take j hs) ++ drop (at + 4 * j) ws₀)
+  all-put l = p ∙ ap (λ (n : ℕ). take at ws₀ ++ (wordsOf (take j hs) ++ drop (at + n) ws₀)) (first-words l)

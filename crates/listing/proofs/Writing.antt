@@ -7,7 +7,7 @@ use native.Mathlib.Numerals.{add-one}
 use lib.ListN.{length, getD, set, drop, length-append}
 use lib.Seq.{drop-cons}
 use Rattle.slices.specs.Putting.{put}
-use Rattle.slices.proofs.Puts.{put-none, put-length, put-put, put-one}
+use Rattle.slices.proofs.Puts.{put-none, put-length, put-one, put-behind}
 use Rattle.listing.specs.Putting.{Room, Puts}
 
 -- Nothing is put.
@@ -51,7 +51,7 @@ module _ {out : List ℕ} {at : ℕ} {xs : List ℕ} {out′ : List ℕ} {next :
 
     pub puts-next : {out″ : List ℕ} {last : ℕ} → Puts out′ next ys out″ last → Puts out at zs out″ last
     puts-next {out″} {last} k = record {
-      out-is = k .out-is ∙ (λ i. put (h .out-is i) (h .next-is i) ys) ∙ put-put out at xs ys all-length ∙ ap (put out at) e;
+      out-is = k .out-is ∙ put-behind out out′ at xs (h .out-is) next (h .next-is) ys all-length ∙ ap (put out at) e;
       next-is = omega (arith, h .next-is, k .next-is, length-append xs ys, ap length e);
     }
 

@@ -3,12 +3,13 @@ use mathlib.Core.Path.{_≡_, refl, sym, ap, _∙_}
 use mathlib.Core.List.{List, [], _∷_, _++_, map, append-assoc, append-nil}
 use Prim.Native.Nat.{ℕ, zero, suc, _+_, _*_, _-_, _≤_, _<_}
 use native.Mathlib.Omega.{arith}
-use lib.ListN.{length, getD, take, drop, set, length-append, length-drop, length-map, take-append-drop}
-use lib.Seq.{take-append-le, drop-append-le, take-at, drop-at, drop-drop, getD-drop, getD-append-add, take-all, length-take-le, take-set-le, drop-set-add, set-append-left, paste, paste-suc, sets-eq}
+use lib.ListN.{length, getD, take, drop, set, length-drop, length-map, take-append-drop}
+use lib.Seq.{take-append-le, drop-append-le, take-at, drop-at, drop-drop, getD-drop, getD-append-add, take-all, length-take-le, take-set-le, drop-set-add, set-append-left, paste, paste-suc}
 use Rattle.semantics.specs.Monomial as semantics
 use Rattle.semantics.specs.Group.{rows}
 use Rattle.packed_var.proofs.PackedVar as packed
 use Rattle.packed_var.specs.declared.PackedVar.{PackedVar}
+use Rattle.slices.proofs.Puts.{put-behind, stores-put}
 use Rattle.monomial.specs.Words.{readMonomial, held}
 
 -- The variables of a monomial by value stand in fourteen places.
@@ -26,16 +27,12 @@ stored ws vs us at i v e q h k =
 pub two-and-more : (ws vs : List ℕ) (at n c x : ℕ) → length vs ≡ n → at + 2 + n ≤ length ws
     → paste (set (set ws at c) (at + 1) x) (at + 2) vs n ≡ take at ws ++ ((c ∷ x ∷ vs) ++ drop (at + 2 + n) ws)
 two-and-more ws vs at n c x e h =
-    let k : at + 1 ≡ suc at = omega arith in
     let two : List ℕ = set (set ws at c) (at + 1) x in
-    let front : List ℕ = take at ws ++ (c ∷ x ∷ []) in
-    let q : two ≡ front ++ drop (at + 2) ws = ap (λ (i : ℕ). set (set ws at c) i x) k ∙ sets-eq (c ∷ x ∷ []) ws at (omega arith) in
-    let l : length front ≡ at + 2 = length-append (take at ws) (c ∷ x ∷ []) ∙ ap (λ (i : ℕ). i + 2) (length-take-le at ws (omega arith)) in
-    let f : take (at + 2) two ≡ front = ap (take (at + 2)) q ∙ take-at front (drop (at + 2) ws) (at + 2) l in
-    let r : drop (at + 2 + n) two ≡ drop (at + 2 + n) ws =
-    sym (drop-drop n (at + 2) two) ∙ ap (drop n) (ap (drop (at + 2)) q ∙ drop-at front (drop (at + 2) ws) (at + 2) l) ∙ drop-drop n (at + 2) ws in
-    (λ t. (f t ++ take-all n vs (omega arith) t) ++ r t)
-    ∙ append-assoc front vs (drop (at + 2 + n) ws) ∙ append-assoc (take at ws) (c ∷ x ∷ []) (vs ++ drop (at + 2 + n) ws)
+    let end : at + length (c ∷ x ∷ vs) ≡ at + 2 + n = omega arith in
+    (λ t. (take (at + 2) two ++ take-all n vs (omega arith) t) ++ drop (at + 2 + sym e t) two)
+    ∙ append-assoc (take (at + 2) two) vs (drop (at + 2 + length vs) two)
+    ∙ put-behind ws two at (c ∷ x ∷ []) (stores-put ws at c (x ∷ []) (omega arith)) (at + 2) refl vs (omega arith)
+    ∙ ap (λ (k : ℕ). take at ws ++ ((c ∷ x ∷ vs) ++ drop k ws)) end
 
 -- Rows, each read by f.
 module _ {X : Type 0} (w : ℕ) (f : List ℕ → X) where

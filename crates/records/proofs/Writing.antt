@@ -1,12 +1,7 @@
--- A record's words compared, and words written one behind the other.
+-- A record's words compared.
 use mathlib.Core.Path.{_≡_, refl, sym, _∙_, ap}
 use mathlib.Core.Bool.{Bool, true, false, _&&_, true≢false}
-use mathlib.Core.List.{List, [], _∷_}
-use Prim.Native.Nat.{ℕ, suc, _+_}
-use native.Mathlib.Omega.{arith}
 use lib.Dec.{eqb}
-use lib.ListN.{set}
-use lib.Seq.{sets}
 use Rattle.semantics.specs.Sheet.{Record}
 use Rattle.semantics.specs.Graph.{equalRecords}
 
@@ -30,12 +25,3 @@ equal-words q m = simp and-assoc
 
 pub equal-read : (q m n : Record) → m ≡ n → eqb (q .kind) (m .kind) && (eqb (q .a) (m .a) && (eqb (q .b) (m .b) && (eqb (q .c) (m .c) && eqb (q .d) (m .d)))) ≡ equalRecords q n
 equal-read q m n e = sym (equal-words q m) ∙ ap (equalRecords q) e
-
-pub five-stores : (ws : List ℕ) (at k a b c d : ℕ)
-    → set (set (set (set (set ws at k) (at + 1) a) (at + 2) b) (at + 3) c) (at + 4) d ≡ sets ws at (k ∷ a ∷ b ∷ c ∷ d ∷ [])
-five-stores ws at k a b c d =
-    let e₁ : at + 1 ≡ suc at = omega arith in
-    let e₂ : at + 2 ≡ suc (suc at) = omega arith in
-    let e₃ : at + 3 ≡ suc (suc (suc at)) = omega arith in
-    let e₄ : at + 4 ≡ suc (suc (suc (suc at))) = omega arith in
-    rw (e₁, e₂, e₃, e₄)

@@ -5,7 +5,7 @@ use Prim.Native.Nat.{ℕ, zero, suc, _+_, _<_, min}
 use native.Mathlib.Numerals.{add-one}
 use native.Mathlib.Omega.{arith}
 use lib.ListN.{length, getD, take, drop, set, length-set}
-use lib.Seq.{take-nil, take-suc, take-set-le, getD-drop, getD-set-same, sets}
+use lib.Seq.{take-nil, take-suc, take-set-le, getD-drop, getD-set-same}
 
 pub flat-append : {X Y : Type 0} (f : X → List Y) (us vs : List X) → flatMap f (us ++ vs) ≡ flatMap f us ++ flatMap f vs
 unfolding flatMap
@@ -36,7 +36,3 @@ alike-more s d i h k e q = rw add-one (take-suc s i 0 h ∙ (λ t. e t ++ (q t �
 pub filled-more : (s d : List ℕ) (i v : ℕ) → i < length s → i < length d → take i s ≡ take i d → v ≡ getD d i 0 → take (i + 1) (set s i v) ≡ take (i + 1) d
 filled-more s d i v h k e q =
     alike-more (set s i v) d i (omega (arith, length-set s i v)) k (take-set-le i s i v (omega arith) ∙ e) (getD-set-same s i v 0 h ∙ q)
-
--- Elements set one behind the other.
-pub two-sets : (l : List ℕ) (at a b : ℕ) → set (set l at a) (at + 1) b ≡ sets l at (a ∷ b ∷ [])
-two-sets l at a b = rw add-one

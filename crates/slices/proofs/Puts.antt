@@ -1,12 +1,12 @@
 -- Elements put one behind the other.
-use mathlib.Core.Path.{_≡_, sym, ap, _∙_}
+use mathlib.Core.Path.{_≡_, refl, sym, ap, _∙_}
 use mathlib.Core.List.{List, [], _∷_, _++_, append-assoc}
-use Prim.Native.Nat.{ℕ, _+_, _≤_, _<_}
-use native.Mathlib.Nat.{add-zero}
+use Prim.Native.Nat.{ℕ, suc, _+_, _≤_, _<_}
+use native.Mathlib.Nat.{add-zero, add-suc}
 use native.Mathlib.Numerals.{add-one}
 use native.Mathlib.Omega.{arith}
 use lib.ListN.{length, set, take, drop, length-append, length-take, length-drop, take-append-drop}
-use lib.Seq.{set-split, take-at, drop-at, drop-drop}
+use lib.Seq.{set-split, take-at, drop-at, drop-drop, sets, sets-eq}
 use Rattle.slices.specs.Putting.{put}
 
 pub put-none : (out : List ℕ) (at : ℕ) → put out at [] ≡ out
@@ -40,3 +40,39 @@ put-put out at xs ys h =
 
 pub put-one : (out : List ℕ) (at v : ℕ) → at < length out → set out at v ≡ put out at (v ∷ [])
 put-one out at v h = set-split out at v h ∙ ap (λ (k : ℕ). take at out ++ (v ∷ drop k out)) (sym (add-one at))
+
+-- What is put behind what is put, at the place where that ends; and one element more.
+module _ (out out′ : List ℕ) (at : ℕ) (xs : List ℕ) (e : out′ ≡ put out at xs) (k : ℕ) (q : k ≡ at + length xs) where
+  pub put-behind : (ys : List ℕ) → at + length xs + length ys ≤ length out → put out′ k ys ≡ put out at (xs ++ ys)
+  put-behind ys h = (λ i. put (e i) (q i) ys) ∙ put-put out at xs ys h
+
+  pub set-behind : (v : ℕ) → at + length xs < length out → set out′ k v ≡ put out at (xs ++ (v ∷ []))
+  set-behind v h =
+      put-one out′ k v (omega (arith, ap length e ∙ put-length out at xs (omega arith))) ∙ put-behind (v ∷ []) (omega arith)
+
+-- The part up to the end of what is put.
+pub put-front : (out : List ℕ) (at : ℕ) (xs : List ℕ) → at + length xs ≤ length out → take (at + length xs) (put out at xs) ≡ take at out ++ xs
+put-front out at xs h =
+    ap (take (at + length xs)) (sym (append-assoc (take at out) xs (drop (at + length xs) out)))
+    ∙ take-at (take at out ++ xs) (drop (at + length xs) out) (at + length xs) (simp (length-append, length-take) (omega arith))
+
+-- Stores as code makes them: at a place and one, two, .. behind it. On a list that is written out `stores` computes to them.
+module _ {A : Type 0} where
+  abbrev pub stores : (l : List A) (at i : ℕ) → List A → List A
+  stores l at i [] = l
+  stores l at i (v ∷ vs) = stores (set l (at + i) v) at (suc i) vs
+
+  stores-from : (l : List A) (at i : ℕ) (vs : List A) → stores l at i vs ≡ sets l (at + i) vs
+  stores-from l at i [] = refl
+  stores-from l at i (v ∷ vs) = stores-from (set l (at + i) v) at (suc i) vs ∙ ap (λ (k : ℕ). sets (set l (at + i) v) k vs) (add-suc at i)
+
+  -- One store, and others behind it: one run of stores.
+  pub stores-run : (l : List A) (at : ℕ) (v : A) (vs : List A) → stores (set l at v) at 1 vs ≡ sets l at (v ∷ vs)
+  stores-run l at v vs = stores-from (set l at v) at 1 vs ∙ ap (λ (k : ℕ). sets (set l at v) k vs) (add-one at)
+
+-- A run of stores puts its elements.
+pub sets-put : (out : List ℕ) (at : ℕ) (xs : List ℕ) → at + length xs ≤ length out → sets out at xs ≡ put out at xs
+sets-put out at xs h = sets-eq xs out at h ∙ append-assoc (take at out) xs (drop (at + length xs) out)
+
+pub stores-put : (out : List ℕ) (at v : ℕ) (vs : List ℕ) → at + length (v ∷ vs) ≤ length out → stores (set out at v) at 1 vs ≡ put out at (v ∷ vs)
+stores-put out at v vs h = stores-run out at v vs ∙ sets-put out at (v ∷ vs) h

@@ -1,7 +1,8 @@
+use mathlib.Core.List.{[], _∷_}
 use Prim.Native.Nat.{_+_}
 use borrow.Author.Needs.{needs}
 use lib.ListN.{getD, length-set}
-use Rattle.slices.proofs.Lists.{two-sets}
+use Rattle.slices.proofs.Puts.{stores-run}
 use Rattle.records.proofs.copy_bus_and_weight.Statement.{statement}
 use Rattle.records.proofs.copy_bus_and_weight.Tie as tie
 
@@ -41,7 +42,7 @@ same-length c = search needs
 returns : tie.Need-returns
 returns c =
     let a = c .before .before .args in
-    two-sets (a .out .now) (a .to) (getD (a .sheet .now) (a .at) 0) (getD (a .sheet .now) (a .at + 1) 0)
+    stores-run (a .out .now) (a .to) (getD (a .sheet .now) (a .at) 0) (getD (a .sheet .now) (a .at + 1) 0 ∷ [])
 
 pub copy-bus-and-weight-spec : {M : Type 1} → statement M
 copy-bus-and-weight-spec =

@@ -1,4 +1,5 @@
 use mathlib.Core.Path.{ap, _∙_}
+use mathlib.Core.List.{[], _∷_}
 use Prim.Native.Nat.{ℕ}
 use native.Mathlib.Omega.{arith}
 use borrow.Author.Needs.{needs}
@@ -6,7 +7,7 @@ use lib.ListN.{length-set}
 use lib.Seq.{sets}
 use Rattle.semantics.specs.Sheet.{recordWords}
 use Rattle.records.specs.Access.{fiveWords}
-use Rattle.records.proofs.Writing.{five-stores}
+use Rattle.slices.proofs.Puts.{stores-run}
 use Rattle.records.proofs.put_record.Statement.{statement}
 use Rattle.records.proofs.put_record.Tie as tie
 
@@ -62,7 +63,8 @@ returns : tie.Need-returns
 unfolding recordWords
 returns c =
     let a = c .before .before .args in
-    five-stores (a .out .now) _ _ _ _ _ _ ∙ ap (λ (n : ℕ). sets (a .out .now) n (recordWords (fiveWords (a .q)))) (c .records-end .ensures)
+    stores-run (a .out .now) _ (a .q .kind) (a .q .a ∷ a .q .b ∷ a .q .c ∷ a .q .d ∷ [])
+    ∙ ap (λ (n : ℕ). sets (a .out .now) n (recordWords (fiveWords (a .q)))) (c .records-end .ensures)
 
 pub put-record-spec : {M : Type 1} → statement M
 put-record-spec =

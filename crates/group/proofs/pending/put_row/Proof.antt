@@ -1,6 +1,7 @@
+use mathlib.Core.List.{[], _∷_}
 use native.Mathlib.Omega.{arith}
 use lib.ListN.{length-set}
-use Rattle.group.proofs.Headers.{row-sets}
+use Rattle.slices.proofs.Puts.{stores-run}
 use borrow.Author.Needs.{needs}
 use Rattle.group.proofs.pending.put_row.Statement.{statement}
 use Rattle.group.proofs.pending.put_row.Tie as tie
@@ -42,7 +43,7 @@ same-length : tie.Need-same-length
 same-length c = search needs
 
 returns : tie.Need-returns
-returns c = row-sets (c .args .headers .now) (c .args .at) (c .args .place) 0 (c .args .count) 1
+returns c = stores-run (c .args .headers .now) (c .args .at) (c .args .place) (0 ∷ c .args .count ∷ 1 ∷ [])
 
 pub put-row-spec : {M : Type 1} → statement M
 put-row-spec =

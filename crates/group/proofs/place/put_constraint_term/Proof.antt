@@ -1,8 +1,9 @@
+use mathlib.Core.List.{[], _∷_}
 use Prim.Native.Nat.{_*_}
 use native.Mathlib.Omega.{arith}
 use lib.ListN.{length-set}
+use Rattle.slices.proofs.Puts.{stores-run}
 use borrow.Author.Needs.{needs}
-use Rattle.slices.proofs.Lists.{two-sets}
 use Rattle.group.proofs.place.put_constraint_term.Statement.{statement}
 use Rattle.group.proofs.place.put_constraint_term.Tie as tie
 
@@ -28,7 +29,7 @@ same-length : tie.Need-same-length
 same-length c = search needs
 
 returns : tie.Need-returns
-returns c = two-sets (c .args .terms .now) (2 * c .args .at) (c .args .index) (c .args .coef)
+returns c = stores-run (c .args .terms .now) (2 * c .args .at) (c .args .index) (c .args .coef ∷ [])
 
 pub put-constraint-term-spec : {M : Type 1} → statement M
 put-constraint-term-spec =

@@ -1,7 +1,8 @@
+use mathlib.Core.List.{[], _∷_}
 use Prim.Native.Nat.{_*_}
 use native.Mathlib.Omega.{arith}
 use lib.ListN.{length-set}
-use Rattle.group.proofs.Headers.{three-sets}
+use Rattle.slices.proofs.Puts.{stores-run}
 use borrow.Author.Needs.{needs}
 use Rattle.group.proofs.place.put_interaction_term.Statement.{statement}
 use Rattle.group.proofs.place.put_interaction_term.Tie as tie
@@ -37,7 +38,7 @@ same-length : tie.Need-same-length
 same-length c = search needs
 
 returns : tie.Need-returns
-returns c = three-sets (c .args .terms .now) (3 * c .args .at) (c .args .coef) (c .args .index) (c .args .field)
+returns c = stores-run (c .args .terms .now) (3 * c .args .at) (c .args .coef) (c .args .index ∷ c .args .field ∷ [])
 
 pub put-interaction-term-spec : {M : Type 1} → statement M
 put-interaction-term-spec =
