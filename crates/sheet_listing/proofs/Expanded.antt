@@ -90,18 +90,20 @@ module _ (graph : List ℕ) (r : ConstraintLists) (work pool hs vs ts : List ℕ
     sound : Sound 2 (constraintsOf graph)
     sound = constraint-sound prime graph 4096 4096 1024 1024 1024
 
-    pub constraint-fronts : Fronts Constraints n hs vs ts
+    constraint-fronts : Fronts Constraints n hs vs ts
     constraint-fronts =
         fronts Constraints (constraintsOf graph) sound 0 n hs vs ts many (count 0) (count 1) (count 2) (slice 2) (slice 3) (slice 4)
         (constraints-handed prime graph 4096 4096 1024 1024 1024 256 512 (omega arith) (omega arith) accepted .inside)
 
-    pub constraint-joins : frontLines Constraints n hs vs ts ++ afterConstraints graph
-        ≡ constraintText graph
+    constraint-joins : frontLines Constraints n hs vs ts ++ afterConstraints graph ≡ constraintText graph
     constraint-joins =
         ap (λ (l : List ℕ). l ++ afterConstraints graph)
         (sym (lines-back Constraints (constraintsOf graph) sound 0 n hs vs ts many (count 0) (count 1) (count 2) (slice 2) (slice 3) (slice 4)))
         ∙ constraint-prints graph (constraintsOf graph)
         ∙ step-on consText (constraintsOf graph) _ accepted
+
+    pub constraints-written : Fronts Constraints n hs vs ts × (frontLines Constraints n hs vs ts ++ afterConstraints graph ≡ constraintText graph)
+    constraints-written = (constraint-fronts, constraint-joins)
 
 -- Interactions.
 module _ (graph : List ℕ) (r : InteractionLists) (work pool hs vs ts hs′ vs′ ts′ : List ℕ)
@@ -134,12 +136,12 @@ module _ (graph : List ℕ) (r : InteractionLists) (work pool hs vs ts hs′ vs�
     slice-at : (k : ℕ) → getD (interactionsOf graph .slices) k [] ≡ getD (work ∷ pool ∷ hs ∷ vs ∷ ts ∷ hs′ ∷ vs′ ∷ ts′ ∷ []) k []
     slice-at k = ap (λ (u : Outcome). getD (u .slices) k []) both-written
 
-    pub numerator-fronts : Fronts Numerators (n .numerators) hs vs ts
+    numerator-fronts : Fronts Numerators (n .numerators) hs vs ts
     numerator-fronts =
         fronts Numerators (interactionsOf graph) both-sound 0 (n .numerators) hs vs ts (omega (arith, eight)) (count-at 0) (count-at 1) (count-at 2) (slice-at 2) (slice-at 3) (slice-at 4)
         (numerators-handed prime graph 4096 4096 512 512 512 128 171 (omega arith) (omega arith) both-accepted .inside)
 
-    pub denominator-fronts : Fronts Denominators (n .denominators) hs′ vs′ ts′
+    denominator-fronts : Fronts Denominators (n .denominators) hs′ vs′ ts′
     denominator-fronts =
         fronts Denominators (interactionsOf graph) both-sound 3 (n .denominators) hs′ vs′ ts′ (omega (arith, eight)) (count-at 3) (count-at 4) (count-at 5) (slice-at 5) (slice-at 6) (slice-at 7)
         (denominators-handed prime graph 4096 4096 512 512 512 128 171 (omega arith) (omega arith) both-accepted .inside)
@@ -156,8 +158,12 @@ module _ (graph : List ℕ) (r : InteractionLists) (work pool hs vs ts hs′ vs�
         lines-back Denominators (interactionsOf graph) both-sound 3 (n .denominators) hs′ vs′ ts′ (omega (arith, eight))
         (count-at 3) (count-at 4) (count-at 5) (slice-at 5) (slice-at 6) (slice-at 7)
 
-    pub interaction-joins : bothLines n hs vs ts hs′ vs′ ts′ ≡ afterConstraints graph
+    interaction-joins : bothLines n hs vs ts hs′ vs′ ts′ ≡ afterConstraints graph
     interaction-joins =
         (λ i. sym numerators-back i ++ (sym denominators-back i ++ line (endText ∷ [])))
         ∙ interaction-prints (interactionsOf graph)
         ∙ step-on interText (interactionsOf graph) _ both-accepted
+
+    pub interactions-written : Fronts Numerators (n .numerators) hs vs ts × Fronts Denominators (n .denominators) hs′ vs′ ts′
+        × (bothLines n hs vs ts hs′ vs′ ts′ ≡ afterConstraints graph)
+    interactions-written = (numerator-fronts, denominator-fronts, interaction-joins)

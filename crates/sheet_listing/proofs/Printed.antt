@@ -61,12 +61,12 @@ module _ (sheet : List ℕ) (r : Written) (scratch out : List ℕ) (e : builtOut
     built : builds sheet ≡ builtOutcome (Words n) scratch out
     built = sym e ∙ ap (λ a. builtOutcome a scratch out) q
 
-    pub built-fits : n ≤ length out
+    built-fits : n ≤ length out
     built-fits =
         let s : Sound 1 (builtOutcome (Words n) scratch out) = subst (Sound 1) built (builder-sound prime sheet 1016 1016) in
         s .inside 0 (omega arith)
 
-    pub graph-words : 2 < length (take n out)
+    graph-words : 2 < length (take n out)
     graph-words =
         let d = build-demand sheet 1016 1016 (Words n) scratch out (sym built) refl in
         omega (arith, ap length (d .2 .words), some-words (graphOf prime (d .0)))
@@ -75,11 +75,14 @@ module _ (sheet : List ℕ) (r : Written) (scratch out : List ℕ) (e : builtOut
     unfolding handedBack
     graph-back = ap (λ (o : Outcome). handedBack 1 o 0) built
 
-    pub built-joins : graphLines prime (take n out) ≡ sheetLines prime sheet
+    built-joins : graphLines prime (take n out) ≡ sheetLines prime sheet
     built-joins =
         ap (graphLines prime) (sym graph-back)
         ∙ step-on dagText (builds sheet) (graphLines prime (handedBack 1 (builds sheet) 0)) (ap (λ (u : Outcome). u .reply .number) built)
         ∙ sheet-prints sheet
+
+    pub graph-written : (n ≤ length out) × (2 < length (take n out)) × (graphLines prime (take n out) ≡ sheetLines prime sheet)
+    graph-written = (built-fits, graph-words, built-joins)
 
 -- The reader.
 module _ (bytes : List ℕ) where
@@ -103,7 +106,7 @@ module _ (bytes : List ℕ) where
       read : reads ≡ writtenOutcome (Words n) sheet
       read = sym e ∙ ap (λ a. writtenOutcome a sheet) q
 
-      pub read-fits : n ≤ length sheet
+      read-fits : n ≤ length sheet
       read-fits =
           let s : Sound 0 (writtenOutcome (Words n) sheet) = subst (Sound 0) read (reader-sound bytes 1016) in
           s .inside 0 (omega arith)
@@ -112,8 +115,11 @@ module _ (bytes : List ℕ) where
       unfolding handedBack
       sheet-back = ap (λ (o : Outcome). handedBack 0 o 0) read
 
-      pub read-joins : sheetLines prime (take n sheet) ≡ sheetlist prime bytes
+      read-joins : sheetLines prime (take n sheet) ≡ sheetlist prime bytes
       read-joins =
           ap (sheetLines prime) (sym sheet-back)
           ∙ step-on readText reads (sheetLines prime (handedBack 0 reads 0)) (ap (λ (u : Outcome). u .reply .number) read)
           ∙ bytes-print
+
+      pub sheet-read : (n ≤ length sheet) × (sheetLines prime (take n sheet) ≡ sheetlist prime bytes)
+      sheet-read = (read-fits, read-joins)

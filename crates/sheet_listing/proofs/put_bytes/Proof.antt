@@ -9,63 +9,77 @@ use Rattle.semantics.specs.Arithmetic.{prime}
 use Rattle.semantics.specs.Sheetlist.{decimal, line, refusedText, readText, sheetLines, sheetlist}
 use Rattle.semantics.proofs.Listings.{too-many}
 use Rattle.listing.proofs.Writing.{room-is, puts-is}
-use Rattle.sheet_listing.proofs.Printed.{read-refused, read-fits, read-joins}
+use Rattle.sheet_listing.proofs.Printed.{read-refused, sheet-read}
 use Rattle.sheet_listing.proofs.put_bytes.Statement.{statement}
 use Rattle.sheet_listing.proofs.put_bytes.Tie as tie
 
--- The reader's answer, where it refused and where it read words.
-abbrev start : tie.After-read-blocks → tie.Start
-start a = a .before .before .before .before .before
+abbrev start : tie.After-shared-slice-known → tie.Start
+start c = c .before .before
 
-abbrev bytes : tie.After-read-blocks → List ℕ
-bytes a = start a .args .bytes .now
+-- There are more bytes than are taken.
+abbrev more : tie.After-put-refused-arg2 → tie.Then1
+more c = c .before .before
 
-abbrev no : tie.After-put-refused-arg4 → tie.After-read-blocks
-no c = c .before .before .before .before .before .before
+too-long : (c : tie.After-put-refused-arg2) → let bytes = start (more c .before) .args .bytes .now in
+    line (refusedText ∷ readText ∷ decimal 1 ∷ decimal 0 ∷ []) ≡ sheetlist prime bytes
+too-long c = sym (too-many prime (start (more c .before) .args .bytes .now) (more c .if1 .taken))
 
-abbrev yes : tie.After-put-sheet-arg → tie.After-read-blocks
-yes c = c .before .before .before .before .before
+-- The reader has answered.
+module _ (b : tie.After-sheet2) where
+  abbrev fewer : tie.Else1
+  fewer = b .before .before .before
+
+  abbrev bytes : List ℕ
+  bytes = start (fewer .before) .args .bytes .now
+
+  abbrev sheet : List ℕ
+  sheet = b .before .read-blocks .last .1 .0
+
+-- It refused, or it read words.
+abbrev told : tie.After-put-refused-arg4 → tie.After-enum-told
+told c = c .before .before .before
+
+abbrev no : tie.After-put-refused-arg4 → tie.After-sheet2
+no c = told c .before .before
+
+abbrev known : tie.After-put-sheet-arg → tie.After-read
+known c = c .before .before
+
+abbrev yes : tie.After-put-sheet-arg → tie.After-sheet2
+yes c = known c .before .before
 
 abbrev count : tie.After-put-sheet-arg → ℕ
-count c = c .before .before .read .given .0 .0
+count c = known c .read .given .0 .0
 
 refused : (c : tie.After-put-refused-arg4) → let u = c .before .before .of-written .result in
     line (refusedText ∷ readText ∷ decimal (u .number) ∷ decimal (u .place) ∷ []) ≡ sheetlist prime (bytes (no c))
 refused c =
-    let a = no c in
-    let v = a .read-blocks in
+    let b = no c in
+    let v = b .before .read-blocks in
     let u = c .before .before .of-written in
-    let x = c .before .before .before .enum-told .given in
-    read-refused (bytes a) (a .before .before .if1 .left) (v .result) (v .last .1 .0) (v .ensures) (x .0 .0) (u .result) (x .1) (u .ensures)
+    let x = told c .enum-told .given in
+    read-refused (bytes b) (fewer b .if1 .left) (v .result) (sheet b) (v .ensures) (x .0 .0) (u .result) (x .1) (u .ensures)
 
-fits : (c : tie.After-put-sheet-arg) → count c ≤ length (yes c .read-blocks .last .1 .0)
-fits c =
-    let a = yes c in
-    let v = a .read-blocks in
-    read-fits (bytes a) (a .before .before .if1 .left) (v .result) (v .last .1 .0) (v .ensures) (count c) (c .before .before .read .given .1)
-
-joined : (c : tie.After-put-sheet-arg) → sheetLines prime (take (count c) (yes c .read-blocks .last .1 .0)) ≡ sheetlist prime (bytes (yes c))
-joined c =
-    let a = yes c in
-    let v = a .read-blocks in
-    read-joins (bytes a) (a .before .before .if1 .left) (v .result) (v .last .1 .0) (v .ensures) (count c) (c .before .before .read .given .1)
+read : (c : tie.After-put-sheet-arg) → let b = yes c in
+    (count c ≤ length (sheet b)) × (sheetLines prime (take (count c) (sheet b)) ≡ sheetlist prime (bytes b))
+read c =
+    let b = yes c in
+    let v = b .before .read-blocks in
+    sheet-read (bytes b) (fewer b .if1 .left) (v .result) (sheet b) (v .ensures) (count c) (known c .read .given .1)
 
 slice-aggregate-put-refused : tie.Need-slice-aggregate-put-refused
 slice-aggregate-put-refused c = search needs
 
 put-refused-requires : tie.Need-put-refused-requires
 put-refused-requires c κs =
-    let s = c .before .before .before .before .before in
-    room-is (s .args .out .now) (s .args .at) (sym (too-many prime (s .args .bytes .now) (c .before .before .if1 .taken))) (s .pre)
+    let s = start (more c .before) in
+    room-is (s .args .out .now) (s .args .at) (too-long c) (s .pre)
 
 same-length : tie.Need-same-length
 same-length c = search needs
 
 returns : tie.Need-returns
-returns c =
-    let tested = c .before .before .before .before .before in
-    let s = tested .before .before .before in
-    puts-is (c .before .before .put-refused .ensures) (sym (too-many prime (s .args .bytes .now) (tested .if1 .taken)))
+returns c = let end = c .before .before in puts-is (end .put-refused .ensures) (too-long (end .before))
 
 slice-aggregate-read-blocks : tie.Need-slice-aggregate-read-blocks
 slice-aggregate-read-blocks c = search needs
@@ -86,28 +100,31 @@ slice-aggregate-put-refused-2 : tie.Need-slice-aggregate-put-refused-2
 slice-aggregate-put-refused-2 c = search needs
 
 put-refused-requires-2 : tie.Need-put-refused-requires-2
-put-refused-requires-2 c κs = let s = start (no c) in room-is (s .args .out .now) (s .args .at) (refused c) (s .pre)
+put-refused-requires-2 c κs = let s = start (fewer (no c) .before) in room-is (s .args .out .now) (s .args .at) (refused c) (s .pre)
 
 same-length-2 : tie.Need-same-length-2
 same-length-2 c = search needs
 
 returns-2 : tie.Need-returns-2
-returns-2 c = puts-is (c .before .before .put-refused2 .ensures) (refused (c .before .before .before))
+returns-2 c = let end = c .before .before in puts-is (end .put-refused2 .ensures) (refused (end .before))
 
 array-share-prefix-sheet : tie.Need-array-share-prefix-sheet
-array-share-prefix-sheet c = fits c
+array-share-prefix-sheet c = read c .0
 
 slice-aggregate-put-sheet : tie.Need-slice-aggregate-put-sheet
-slice-aggregate-put-sheet c = omega (arith, fits (c .before), length-take (count (c .before)) (yes (c .before) .read-blocks .last .1 .0))
+slice-aggregate-put-sheet c = let k = c .before in omega (arith, read k .0, length-take (count k) (sheet (yes k)))
 
 put-sheet-requires : tie.Need-put-sheet-requires
-put-sheet-requires c κs = let s = start (yes (c .before)) in room-is (s .args .out .now) (s .args .at) (joined (c .before)) (s .pre)
+put-sheet-requires c κs =
+    let k = c .before in
+    let s = start (fewer (yes k) .before) in
+    room-is (s .args .out .now) (s .args .at) (read k .1) (s .pre)
 
 same-length-3 : tie.Need-same-length-3
 same-length-3 c = search needs
 
 returns-3 : tie.Need-returns-3
-returns-3 c = puts-is (c .before .before .put-sheet .ensures) (joined (c .before .before .before .before))
+returns-3 c = let end = c .before .before in puts-is (end .put-sheet .ensures) (read (end .before .before) .1)
 
 pub put-bytes-spec : {M : Type 1} → statement M
 put-bytes-spec =

@@ -8,70 +8,74 @@ use Rattle.grouping.specs.declared.Lengths.{Lengths}
 use Rattle.listing.specs.declared.headers.Family.the-variants.{Constraints}
 use Rattle.listing.proofs.Writing.{room-is, room-front, room-next, puts-is, puts-next}
 use Rattle.sheet_listing.specs.Fronts.{frontLines, Fronts}
-use Rattle.sheet_listing.proofs.Expanded.{afterConstraints, constraintText, constraints-refused, constraint-fronts, constraint-joins}
+use Rattle.sheet_listing.proofs.Expanded.{afterConstraints, constraintText, constraints-refused, constraints-written}
 use Rattle.sheet_listing.proofs.put_constraints.Statement.{statement}
 use Rattle.sheet_listing.proofs.put_constraints.Tie as tie
 
--- The call: where it starts, its answer and its slices.
-module _ (a : tie.After-expand-constraints) where
+-- The call has answered: where it starts, its answer and its slices.
+module _ (b : tie.After-terms2) where
+  abbrev call : tie.After-expand-constraints
+  call = b .before .before .before .before .before
+
   abbrev start : tie.Start
-  start = a .before .before .before .before .before .before .before .before
+  start = call .before .before .before .before .before .before .before .before
 
   abbrev graph : List ℕ
   graph = start .args .graph .now
 
   abbrev work : List ℕ
-  work = a .expand-constraints .last .1 .0
+  work = call .expand-constraints .last .1 .0
 
   abbrev pool : List ℕ
-  pool = a .expand-constraints .last .1 .1 .0
+  pool = call .expand-constraints .last .1 .1 .0
 
   abbrev headers : List ℕ
-  headers = a .expand-constraints .last .1 .1 .1 .0
+  headers = call .expand-constraints .last .1 .1 .1 .0
 
   abbrev variables : List ℕ
-  variables = a .expand-constraints .last .1 .1 .1 .1 .0
+  variables = call .expand-constraints .last .1 .1 .1 .1 .0
 
   abbrev terms : List ℕ
-  terms = a .expand-constraints .last .1 .1 .1 .1 .1 .0
+  terms = call .expand-constraints .last .1 .1 .1 .1 .1 .0
 
--- Where it refused, and where it wrote lists.
-abbrev no : tie.After-put-refused-arg2 → tie.After-expand-constraints
-no c = c .before .before .before .before .before .before .before .before .before .before
+-- It refused, or it wrote lists.
+abbrev told : tie.After-put-refused-arg2 → tie.After-enum-told
+told c = c .before .before .before
 
-abbrev yes : tie.After-terms3 → tie.After-expand-constraints
-yes c = c .before .before .before .before .before .before .before .before .before .before .before .before
+abbrev no : tie.After-put-refused-arg2 → tie.After-terms2
+no c = told c .before .before
+
+abbrev known : tie.After-terms3 → tie.After-lists
+known c = c .before .before .before .before .before
+
+abbrev yes : tie.After-terms3 → tie.After-terms2
+yes c = known c .before .before
 
 abbrev lengths : tie.After-terms3 → Lengths
-lengths c = c .before .before .before .before .before .lists .given .0 .0
+lengths c = known c .lists .given .0 .0
 
 refused : (c : tie.After-put-refused-arg2) → let u = c .before .before .of-constraints .result in
     line (refusedText ∷ consText ∷ decimal (u .number) ∷ decimal (u .place) ∷ []) ≡ constraintText (graph (no c))
 refused c =
-    let a = no c in
-    let v = a .expand-constraints in
+    let b = no c in
+    let v = call b .expand-constraints in
     let u = c .before .before .of-constraints in
-    let x = c .before .before .before .enum-told .given in
-    constraints-refused (graph a) (v .result) (work a) (pool a) (headers a) (variables a) (terms a) (v .ensures) (x .0 .0) (u .result) (x .1) (u .ensures)
+    let x = told c .enum-told .given in
+    constraints-refused (graph b) (v .result) (work b) (pool b) (headers b) (variables b) (terms b) (v .ensures) (x .0 .0) (u .result) (x .1) (u .ensures)
 
 abbrev lines : tie.After-terms3 → List ℕ
 lines c = frontLines Constraints (lengths c) (headers (yes c)) (variables (yes c)) (terms (yes c))
 
-fronts : (c : tie.After-terms3) → Fronts Constraints (lengths c) (headers (yes c)) (variables (yes c)) (terms (yes c))
-fronts c =
-    let a = yes c in
-    let v = a .expand-constraints in
-    constraint-fronts (graph a) (v .result) (work a) (pool a) (headers a) (variables a) (terms a) (v .ensures) (lengths c) (c .before .before .before .before .before .lists .given .1)
-
-joined : (c : tie.After-terms3) → lines c ++ afterConstraints (graph (yes c)) ≡ constraintText (graph (yes c))
-joined c =
-    let a = yes c in
-    let v = a .expand-constraints in
-    constraint-joins (graph a) (v .result) (work a) (pool a) (headers a) (variables a) (terms a) (v .ensures) (lengths c) (c .before .before .before .before .before .lists .given .1)
+written : (c : tie.After-terms3) → let b = yes c in
+    Fronts Constraints (lengths c) (headers b) (variables b) (terms b) × (lines c ++ afterConstraints (graph b) ≡ constraintText (graph b))
+written c =
+    let b = yes c in
+    let v = call b .expand-constraints in
+    constraints-written (graph b) (v .result) (work b) (pool b) (headers b) (variables b) (terms b) (v .ensures) (lengths c) (known c .lists .given .1)
 
 -- Where the headers are put.
-abbrev listed : tie.After-put-interactions-arg → tie.After-terms3
-listed c = c .before .before .before .before
+abbrev with-headers : tie.After-put-interactions-arg → tie.After-put-lists
+with-headers c = c .before .before .before
 
 slice-aggregate-expand-constraints : tie.Need-slice-aggregate-expand-constraints
 slice-aggregate-expand-constraints c = search needs
@@ -110,7 +114,7 @@ same-length : tie.Need-same-length
 same-length c = search needs
 
 returns : tie.Need-returns
-returns c = puts-is (c .before .before .put-refused .ensures) (refused (c .before .before .before))
+returns c = let end = c .before .before in puts-is (end .put-refused .ensures) (refused (end .before))
 
 slice-aggregate-put-lists : tie.Need-slice-aggregate-put-lists
 slice-aggregate-put-lists c = search needs
@@ -124,21 +128,23 @@ slice-aggregate-put-lists-3 c = search needs
 put-lists-requires : tie.Need-put-lists-requires
 put-lists-requires c κs =
     let s = start (yes c) in
-    (fronts c, room-front (s .args .out .now) (s .args .at) (lines c) (afterConstraints (graph (yes c))) (joined c) (s .pre))
+    (written c .0, room-front (s .args .out .now) (s .args .at) (lines c) (afterConstraints (graph (yes c))) (written c .1) (s .pre))
 
 put-interactions-requires : tie.Need-put-interactions-requires
 put-interactions-requires c κs =
-    let l = listed c in
-    room-next (c .before .before .before .put-lists .ensures) (afterConstraints (graph (yes l))) (joined l) (start (yes l) .pre)
+    let l = with-headers c in
+    let k = l .before in
+    room-next (l .put-lists .ensures) (afterConstraints (graph (yes k))) (written k .1) (start (yes k) .pre)
 
 same-length-2 : tie.Need-same-length-2
 same-length-2 c = search needs
 
 returns-2 : tie.Need-returns-2
 returns-2 c =
-    let d = c .before .before .before in
-    let l = listed d in
-    puts-next (d .before .before .before .put-lists .ensures) (afterConstraints (graph (yes l))) (joined l) (start (yes l) .pre) (c .before .before .put-interactions .ensures)
+    let end = c .before .before in
+    let l = with-headers (end .before) in
+    let k = l .before in
+    puts-next (l .put-lists .ensures) (afterConstraints (graph (yes k))) (written k .1) (start (yes k) .pre) (end .put-interactions .ensures)
 
 pub put-constraints-spec : {M : Type 1} → statement M
 put-constraints-spec =

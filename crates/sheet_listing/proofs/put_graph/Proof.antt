@@ -18,31 +18,37 @@ start a = a .before .before .before
 abbrev graph : tie.After-max-rotation → List ℕ
 graph a = start a .args .graph .now
 
+abbrev told : tie.After-put-refused-arg2 → tie.After-enum-told
+told c = c .before .before .before
+
 abbrev no : tie.After-put-refused-arg2 → tie.After-max-rotation
-no c = c .before .before .before .before .before
+no c = told c .before .before
+
+abbrev known : tie.After-shared-slice-known3 → tie.After-rotated
+known c = c .before .before .before .before
 
 abbrev yes : tie.After-shared-slice-known3 → tie.After-max-rotation
-yes c = c .before .before .before .before .before .before
+yes c = known c .before .before
 
 abbrev rotation : tie.After-shared-slice-known3 → ℕ
-rotation c = c .before .before .before .before .rotated .given .0 .0
+rotation c = known c .rotated .given .0 .0
 
 refused : (c : tie.After-put-refused-arg2) → let u = c .before .before .of-counted .result in
     line (refusedText ∷ dagText ∷ decimal (u .number) ∷ decimal (u .place) ∷ []) ≡ graphLines prime (graph (no c))
 refused c =
     let v = no c .max-rotation in
     let u = c .before .before .of-counted in
-    let x = c .before .before .before .enum-told .given in
+    let x = told c .enum-told .given in
     rotation-refused (graph (no c)) (v .result) (v .ensures) (x .0 .0) (u .result) (x .1) (u .ensures)
 
 joined : (c : tie.After-shared-slice-known3) → dagLine (graph (yes c)) (rotation c) ++ afterGraph (graph (yes c)) ≡ graphLines prime (graph (yes c))
 joined c =
     let v = yes c .max-rotation in
-    graph-joins (graph (yes c)) (v .result) (v .ensures) (rotation c) (c .before .before .before .before .rotated .given .1)
+    graph-joins (graph (yes c)) (v .result) (v .ensures) (rotation c) (known c .rotated .given .1)
 
 -- Where the line is put.
-abbrev lined : tie.After-put-constraints-arg → tie.After-shared-slice-known3
-lined c = c .before .before .before .before
+abbrev with-line : tie.After-put-constraints-arg → tie.After-put-dag-line
+with-line c = c .before .before .before
 
 max-rotation-requires : tie.Need-max-rotation-requires
 max-rotation-requires c κs = search needs
@@ -66,7 +72,7 @@ same-length : tie.Need-same-length
 same-length c = search needs
 
 returns : tie.Need-returns
-returns c = puts-is (c .before .before .put-refused .ensures) (refused (c .before .before .before))
+returns c = let end = c .before .before in puts-is (end .put-refused .ensures) (refused (end .before))
 
 shared-slice-read-put-dag-line : tie.Need-shared-slice-read-put-dag-line
 shared-slice-read-put-dag-line c = search needs
@@ -81,17 +87,19 @@ put-dag-line-requires c κs =
 
 put-constraints-requires : tie.Need-put-constraints-requires
 put-constraints-requires c κs =
-    let l = lined c in
-    room-next (c .before .before .before .put-dag-line .ensures) (afterGraph (graph (yes l))) (joined l) (start (yes l) .pre .1)
+    let l = with-line c in
+    let k = l .before in
+    room-next (l .put-dag-line .ensures) (afterGraph (graph (yes k))) (joined k) (start (yes k) .pre .1)
 
 same-length-2 : tie.Need-same-length-2
 same-length-2 c = search needs
 
 returns-2 : tie.Need-returns-2
 returns-2 c =
-    let d = c .before .before .before in
-    let l = lined d in
-    puts-next (d .before .before .before .put-dag-line .ensures) (afterGraph (graph (yes l))) (joined l) (start (yes l) .pre .1) (c .before .before .put-constraints .ensures)
+    let end = c .before .before in
+    let l = with-line (end .before) in
+    let k = l .before in
+    puts-next (l .put-dag-line .ensures) (afterGraph (graph (yes k))) (joined k) (start (yes k) .pre .1) (end .put-constraints .ensures)
 
 pub put-graph-spec : {M : Type 1} → statement M
 put-graph-spec =

@@ -8,84 +8,83 @@ use Rattle.interaction_lists.specs.declared.InteractionLengths.{InteractionLeng
 use Rattle.listing.specs.declared.headers.Family.the-variants.{Numerators, Denominators}
 use Rattle.listing.proofs.Writing.{room-is, puts-is}
 use Rattle.sheet_listing.specs.Fronts.{Fronts}
-use Rattle.sheet_listing.proofs.Expanded.{afterConstraints, bothLines, interactions-refused, numerator-fronts, denominator-fronts, interaction-joins}
+use Rattle.sheet_listing.proofs.Expanded.{afterConstraints, bothLines, interactions-refused, interactions-written}
 use Rattle.sheet_listing.proofs.put_interactions.Statement.{statement}
 use Rattle.sheet_listing.proofs.put_interactions.Tie as tie
 
--- The call: where it starts, its answer and its slices.
-module _ (a : tie.After-expand-interactions) where
+-- The call has answered: where it starts, its answer and its slices.
+module _ (b : tie.After-denom-terms2) where
+  abbrev call : tie.After-expand-interactions
+  call = b .before .before .before .before .before .before .before .before
+
   abbrev start : tie.Start
-  start = a .before .before .before .before .before .before .before .before .before .before .before
+  start = call .before .before .before .before .before .before .before .before .before .before .before
 
   abbrev graph : List ℕ
   graph = start .args .graph .now
 
   abbrev work : List ℕ
-  work = a .expand-interactions .last .1 .0
+  work = call .expand-interactions .last .1 .0
 
   abbrev pool : List ℕ
-  pool = a .expand-interactions .last .1 .1 .0
+  pool = call .expand-interactions .last .1 .1 .0
 
   abbrev headers : List ℕ
-  headers = a .expand-interactions .last .1 .1 .1 .0
+  headers = call .expand-interactions .last .1 .1 .1 .0
 
   abbrev variables : List ℕ
-  variables = a .expand-interactions .last .1 .1 .1 .1 .0
+  variables = call .expand-interactions .last .1 .1 .1 .1 .0
 
   abbrev terms : List ℕ
-  terms = a .expand-interactions .last .1 .1 .1 .1 .1 .0
+  terms = call .expand-interactions .last .1 .1 .1 .1 .1 .0
 
   abbrev denom-headers : List ℕ
-  denom-headers = a .expand-interactions .last .1 .1 .1 .1 .1 .1 .0
+  denom-headers = call .expand-interactions .last .1 .1 .1 .1 .1 .1 .0
 
   abbrev denom-variables : List ℕ
-  denom-variables = a .expand-interactions .last .1 .1 .1 .1 .1 .1 .1 .0
+  denom-variables = call .expand-interactions .last .1 .1 .1 .1 .1 .1 .1 .0
 
   abbrev denom-terms : List ℕ
-  denom-terms = a .expand-interactions .last .1 .1 .1 .1 .1 .1 .1 .1 .0
+  denom-terms = call .expand-interactions .last .1 .1 .1 .1 .1 .1 .1 .1 .0
 
--- Where it refused, and where it wrote lists.
-abbrev no : tie.After-put-refused-arg2 → tie.After-expand-interactions
-no c = c .before .before .before .before .before .before .before .before .before .before .before .before .before
+-- It refused, or it wrote lists.
+abbrev told : tie.After-put-refused-arg2 → tie.After-enum-told
+told c = c .before .before .before
 
-abbrev yes : tie.After-denom-terms3 → tie.After-expand-interactions
-yes c = c .before .before .before .before .before .before .before .before .before .before .before .before .before .before .before .before .before .before
+abbrev no : tie.After-put-refused-arg2 → tie.After-denom-terms2
+no c = told c .before .before
+
+abbrev known : tie.After-put-both-lists-arg → tie.After-lists
+known c = c .before .before
+
+abbrev lent : tie.After-denom-terms3 → tie.After-put-both-lists-arg
+lent c = c .before .before .before .before .before .before
+
+abbrev yes : tie.After-denom-terms3 → tie.After-denom-terms2
+yes c = known (lent c) .before .before
 
 abbrev lengths : tie.After-denom-terms3 → InteractionLengths
-lengths c = c .before .before .before .before .before .before .before .before .lists .given .0 .0
+lengths c = known (lent c) .lists .given .0 .0
 
 refused : (c : tie.After-put-refused-arg2) → let u = c .before .before .of-interactions .result in
     line (refusedText ∷ interText ∷ decimal (u .number) ∷ decimal (u .place) ∷ []) ≡ afterConstraints (graph (no c))
 refused c =
-    let a = no c in
-    let v = a .expand-interactions in
+    let b = no c in
+    let v = call b .expand-interactions in
     let u = c .before .before .of-interactions in
-    let x = c .before .before .before .enum-told .given in
-    interactions-refused (graph a) (v .result) (work a) (pool a) (headers a) (variables a) (terms a) (denom-headers a) (denom-variables a) (denom-terms a) (v .ensures)
-    (x .0 .0) (u .result) (x .1) (u .ensures)
+    let x = told c .enum-told .given in
+    interactions-refused (graph b) (v .result) (work b) (pool b) (headers b) (variables b) (terms b) (denom-headers b) (denom-variables b) (denom-terms b)
+    (v .ensures) (x .0 .0) (u .result) (x .1) (u .ensures)
 
-module _ (c : tie.After-denom-terms3) where
-  numerators : let a = yes c in Fronts Numerators (lengths c .numerators) (headers a) (variables a) (terms a)
-  numerators =
-      let a = yes c in
-      let v = a .expand-interactions in
-      numerator-fronts (graph a) (v .result) (work a) (pool a) (headers a) (variables a) (terms a) (denom-headers a) (denom-variables a) (denom-terms a) (v .ensures)
-      (lengths c) (c .before .before .before .before .before .before .before .before .lists .given .1)
-
-  denominators : let a = yes c in Fronts Denominators (lengths c .denominators) (denom-headers a) (denom-variables a) (denom-terms a)
-  denominators =
-      let a = yes c in
-      let v = a .expand-interactions in
-      denominator-fronts (graph a) (v .result) (work a) (pool a) (headers a) (variables a) (terms a) (denom-headers a) (denom-variables a) (denom-terms a) (v .ensures)
-      (lengths c) (c .before .before .before .before .before .before .before .before .lists .given .1)
-
-  joined : let a = yes c in
-      bothLines (lengths c) (headers a) (variables a) (terms a) (denom-headers a) (denom-variables a) (denom-terms a) ≡ afterConstraints (graph a)
-  joined =
-      let a = yes c in
-      let v = a .expand-interactions in
-      interaction-joins (graph a) (v .result) (work a) (pool a) (headers a) (variables a) (terms a) (denom-headers a) (denom-variables a) (denom-terms a) (v .ensures)
-      (lengths c) (c .before .before .before .before .before .before .before .before .lists .given .1)
+written : (c : tie.After-denom-terms3) → let b = yes c in
+    Fronts Numerators (lengths c .numerators) (headers b) (variables b) (terms b)
+    × Fronts Denominators (lengths c .denominators) (denom-headers b) (denom-variables b) (denom-terms b)
+    × (bothLines (lengths c) (headers b) (variables b) (terms b) (denom-headers b) (denom-variables b) (denom-terms b) ≡ afterConstraints (graph b))
+written c =
+    let b = yes c in
+    let v = call b .expand-interactions in
+    interactions-written (graph b) (v .result) (work b) (pool b) (headers b) (variables b) (terms b) (denom-headers b) (denom-variables b) (denom-terms b)
+    (v .ensures) (lengths c) (known (lent c) .lists .given .1)
 
 slice-aggregate-expand-interactions : tie.Need-slice-aggregate-expand-interactions
 slice-aggregate-expand-interactions c = search needs
@@ -133,7 +132,7 @@ same-length : tie.Need-same-length
 same-length c = search needs
 
 returns : tie.Need-returns
-returns c = puts-is (c .before .before .put-refused .ensures) (refused (c .before .before .before))
+returns c = let end = c .before .before in puts-is (end .put-refused .ensures) (refused (end .before))
 
 slice-aggregate-put-both-lists : tie.Need-slice-aggregate-put-both-lists
 slice-aggregate-put-both-lists c = search needs
@@ -156,13 +155,14 @@ slice-aggregate-put-both-lists-6 c = search needs
 put-both-lists-requires : tie.Need-put-both-lists-requires
 put-both-lists-requires c κs =
     let s = start (yes c) in
-    (numerators c, denominators c, room-is (s .args .out .now) (s .args .at) (joined c) (s .pre))
+    let w = written c in
+    (w .0, w .1, room-is (s .args .out .now) (s .args .at) (w .2) (s .pre))
 
 same-length-2 : tie.Need-same-length-2
 same-length-2 c = search needs
 
 returns-2 : tie.Need-returns-2
-returns-2 c = puts-is (c .before .before .put-both-lists .ensures) (joined (c .before .before .before))
+returns-2 c = let end = c .before .before in puts-is (end .put-both-lists .ensures) (written (end .before) .2)
 
 pub put-interactions-spec : {M : Type 1} → statement M
 put-interactions-spec =

@@ -8,53 +8,59 @@ use lib.ListN.{length, take, length-take}
 use Rattle.semantics.specs.Arithmetic.{prime}
 use Rattle.semantics.specs.Sheetlist.{decimal, line, refusedText, dagText, graphLines, sheetLines}
 use Rattle.listing.proofs.Writing.{room-is, puts-is}
-use Rattle.sheet_listing.proofs.Printed.{built-refused, built-fits, graph-words, built-joins}
+use Rattle.sheet_listing.proofs.Printed.{built-refused, graph-written}
 use Rattle.sheet_listing.proofs.put_sheet.Statement.{statement}
 use Rattle.sheet_listing.proofs.put_sheet.Tie as tie
 
--- The builder's answer, where it refused and where it wrote a graph.
-abbrev start : tie.After-build → tie.Start
-start a = a .before .before .before .before .before
+-- The builder has answered.
+module _ (b : tie.After-graph2) where
+  abbrev call : tie.After-build
+  call = b .before .before
 
-abbrev sheet : tie.After-build → List ℕ
-sheet a = start a .args .sheet .now
+  abbrev start : tie.Start
+  start = call .before .before .before .before .before
 
-abbrev graph : tie.After-build → List ℕ
-graph a = a .build .last .1 .1 .0
+  abbrev sheet : List ℕ
+  sheet = start .args .sheet .now
 
-abbrev no : tie.After-put-refused-arg2 → tie.After-build
-no c = c .before .before .before .before .before .before .before
+  abbrev scratch : List ℕ
+  scratch = call .build .last .1 .0
 
-abbrev yes : tie.After-put-graph-arg → tie.After-build
-yes c = c .before .before .before .before .before .before
+  abbrev graph : List ℕ
+  graph = call .build .last .1 .1 .0
+
+-- It refused, or it wrote a graph.
+abbrev told : tie.After-put-refused-arg2 → tie.After-enum-told
+told c = c .before .before .before
+
+abbrev no : tie.After-put-refused-arg2 → tie.After-graph2
+no c = told c .before .before
+
+abbrev known : tie.After-put-graph-arg → tie.After-built
+known c = c .before .before
+
+abbrev yes : tie.After-put-graph-arg → tie.After-graph2
+yes c = known c .before .before
 
 abbrev count : tie.After-put-graph-arg → ℕ
-count c = c .before .before .built .given .0 .0
+count c = known c .built .given .0 .0
 
 refused : (c : tie.After-put-refused-arg2) → let u = c .before .before .of-written .result in
     line (refusedText ∷ dagText ∷ decimal (u .number) ∷ decimal (u .place) ∷ []) ≡ sheetLines prime (sheet (no c))
 refused c =
-    let v = no c .build in
+    let b = no c in
+    let v = call b .build in
     let u = c .before .before .of-written in
-    let x = c .before .before .before .enum-told .given in
-    built-refused (sheet (no c)) (v .result) (v .last .1 .0) (graph (no c)) (v .ensures) (x .0 .0) (u .result) (x .1) (u .ensures)
+    let x = told c .enum-told .given in
+    built-refused (sheet b) (v .result) (scratch b) (graph b) (v .ensures) (x .0 .0) (u .result) (x .1) (u .ensures)
 
-module _ (c : tie.After-put-graph-arg) where
-  abbrev built : tie.After-build
-  built = yes c
-
-  fits : count c ≤ length (graph built)
-  fits =
-      let v = built .build in
-      built-fits (sheet built) (v .result) (v .last .1 .0) (graph built) (v .ensures) (count c) (c .before .before .built .given .1)
-
-  joined : (2 < length (take (count c) (graph built))) × (graphLines prime (take (count c) (graph built)) ≡ sheetLines prime (sheet built))
-  joined =
-      let v = built .build in
-      let is = c .before .before .built .given .1 in (
-        graph-words (sheet built) (v .result) (v .last .1 .0) (graph built) (v .ensures) (count c) is,
-        built-joins (sheet built) (v .result) (v .last .1 .0) (graph built) (v .ensures) (count c) is,
-      )
+written : (c : tie.After-put-graph-arg) → let b = yes c in
+    let words = take (count c) (graph b) in
+    (count c ≤ length (graph b)) × (2 < length words) × (graphLines prime words ≡ sheetLines prime (sheet b))
+written c =
+    let b = yes c in
+    let v = call b .build in
+    graph-written (sheet b) (v .result) (scratch b) (graph b) (v .ensures) (count c) (known c .built .given .1)
 
 slice-aggregate-build : tie.Need-slice-aggregate-build
 slice-aggregate-build c = search needs
@@ -84,25 +90,25 @@ same-length : tie.Need-same-length
 same-length c = search needs
 
 returns : tie.Need-returns
-returns c = puts-is (c .before .before .put-refused .ensures) (refused (c .before .before .before))
+returns c = let end = c .before .before in puts-is (end .put-refused .ensures) (refused (end .before))
 
 array-share-prefix-graph : tie.Need-array-share-prefix-graph
-array-share-prefix-graph c = fits c
+array-share-prefix-graph c = written c .0
 
 slice-aggregate-put-graph : tie.Need-slice-aggregate-put-graph
-slice-aggregate-put-graph c = omega (arith, fits (c .before), length-take (count (c .before)) (graph (yes (c .before))))
+slice-aggregate-put-graph c = let k = c .before in omega (arith, written k .0, length-take (count k) (graph (yes k)))
 
 put-graph-requires : tie.Need-put-graph-requires
 put-graph-requires c κs =
     let s = start (yes (c .before)) in
-    let h = joined (c .before) in
-    (h .0, room-is (s .args .out .now) (s .args .at) (h .1) (s .pre))
+    let h = written (c .before) in
+    (h .1, room-is (s .args .out .now) (s .args .at) (h .2) (s .pre))
 
 same-length-2 : tie.Need-same-length-2
 same-length-2 c = search needs
 
 returns-2 : tie.Need-returns-2
-returns-2 c = puts-is (c .before .before .put-graph .ensures) (joined (c .before .before .before .before) .1)
+returns-2 c = let end = c .before .before in puts-is (end .put-graph .ensures) (written (end .before .before) .2)
 
 pub put-sheet-spec : {M : Type 1} → statement M
 put-sheet-spec =
