@@ -8,77 +8,20 @@ use lib.Seq.{take-add}
 use Rattle.semantics.specs.Arithmetic.{prime}
 use Rattle.semantics.specs.Answer.{good}
 use Rattle.semantics.specs.Check.{readSheet, check}
-use Rattle.semantics.specs.Walk.{childrenAt, foldLeft, visit, order}
+use Rattle.semantics.specs.Walk.{order}
 use Rattle.semantics.specs.Expand.{expandAll}
-use Rattle.semantics.proofs.Members.{not-in, Below, cons-below, append-below}
+use Rattle.semantics.proofs.Members.{not-in, Below, cons-below}
 use Rattle.answers.specs.declared.Refusal.{Refusal}
 use Rattle.records.specs.declared.Interaction.{Interaction}
 use Rattle.records.specs.Access.{recordsOf, part, messageLength, interactionFrom, eachWords, NamesInside, RootsInside, AllRootsInside}
-use Rattle.records.specs.Orders.{Visiting}
 use Rattle.records.proofs.Parts.{part-more}
-use Rattle.records.proofs.Rooting.{fold-append, order-none, order-walk, visiting-none, visiting-both, visiting-one, names-below, Passed, passed-none, passed-done, passed-next, passed-more}
+use Rattle.records.proofs.Rooting.{order-none, visiting-one, names-below, Passed, passed-none, passed-done, passed-next, passed-more}
 use Rattle.records.proofs.Takings.{Taken, taken-words, taken-names}
 use Rattle.expand.specs.declared.Expanded.{Expanded}
 use Rattle.expand.specs.declared.Expanded.the-variants.{Used, Refused}
 use Rattle.expand.specs.Walking.{Holds, Expands, Walking, Ready}
-use Rattle.expand.proofs.Expanding.{Visit, Stopped, refused-fold}
-
--- What some roots come to.
-abbrev pub Roots : (ws roots pool : List ℕ) (used : ℕ) (pool′ : List ℕ) → Expanded → Type 0
-Roots ws roots pool used pool′ u = Visiting ws roots (λ (d : List ℕ). Holds ws d pool used) (Expands ws pool′ u)
-
--- What holds when these roots are expanded.
-pub record Far (ws roots work₀ pool₀ : List ℕ) (used₀ : ℕ) (work pool : List ℕ) (used : ℕ) : Type 0 where
-  pub below : Below (length (recordsOf ws)) roots
-  pub walks : Roots ws roots pool₀ used₀ pool (Used used)
-  pub work-length : length work ≡ length work₀
-  pub pool-length : length pool ≡ length pool₀
-
-module _ (ws work₀ pool₀ : List ℕ) (used₀ : ℕ) (p : Walking ws work₀ pool₀ used₀) where
-  pub far-none : Far ws [] work₀ pool₀ used₀ work₀ pool₀ used₀
-  far-none = record {
-    below = λ y i. not-in y i;
-    walks = visiting-none ws (λ (d : List ℕ). Holds ws d pool₀ used₀);
-    work-length = refl;
-    pool-length = refl;
-  }
-
-  module _ (roots work pool : List ℕ) (used : ℕ) (h : Far ws roots work₀ pool₀ used₀ work pool used) where
-    pub far-walking : Walking ws work pool used
-    far-walking = record {
-      checked = p .checked;
-      room = subst (λ (n : ℕ). 4096 ≤ n) (sym (h .work-length)) (p .room);
-      done = foldLeft (visit (childrenAt (recordsOf ws)) (length (recordsOf ws))) (p .done) roots;
-      order = order-walk ws (p .checked) roots (h .below) (p .done) (p .order);
-      holds = h .walks (p .done) (p .order) (p .holds);
-    }
-
-    module _ (more work₁ pool₁ : List ℕ) (u : Expanded) (f : Roots ws more pool used pool₁ u) where
-      both : Roots ws (roots ++ more) pool₀ used₀ pool₁ u
-      both =
-          visiting-both ws (p .checked) roots more (h .below) (λ (d : List ℕ). Holds ws d pool₀ used₀) (λ (d : List ℕ). Holds ws d pool used)
-          (Expands ws pool₁ u) (h .walks) f
-
-      pub far-more : Below (length (recordsOf ws)) more → length work₁ ≡ length work → length pool₁ ≡ length pool → (n : ℕ) → u ≡ Used n
-          → Far ws (roots ++ more) work₀ pool₀ used₀ work₁ pool₁ n
-      far-more b lw lp n e = record {
-        below = append-below (length (recordsOf ws)) roots more (h .below) b;
-        walks = subst (Roots ws (roots ++ more) pool₀ used₀ pool₁) e both;
-        work-length = lw ∙ h .work-length;
-        pool-length = lp ∙ h .pool-length;
-      }
-
-      -- A refusal is the answer for all roots that are left.
-      pub far-refused : (v : Refusal) → u ≡ Refused v → (rest all : List ℕ) → all ≡ roots ++ (more ++ rest) → Roots ws all pool₀ used₀ pool₁ u
-      far-refused v e rest all q =
-          subst (λ (xs : List ℕ). Roots ws xs pool₀ used₀ pool₁ u) (sym (q ∙ sym (append-assoc roots more rest)))
-          (subst (Roots ws ((roots ++ more) ++ rest) pool₀ used₀ pool₁) (sym e)
-          (λ done o k.
-          subst (Stopped ws (length pool₁) (v .number) (v .place))
-          (sym (fold-append (visit (childrenAt (recordsOf ws)) (length (recordsOf ws))) done (roots ++ more) rest))
-          (refused-fold ws (length pool₁) (v .number) (v .place) (length (recordsOf ws)) rest
-          (foldLeft (visit (childrenAt (recordsOf ws)) (length (recordsOf ws))) done (roots ++ more))
-          (subst (Roots ws (roots ++ more) pool₀ used₀ pool₁) e both done o k))))
+use Rattle.expand.proofs.Far.{Roots, Far, far-none, far-walking, far-more, far-refused}
+use Rattle.expand.proofs.Expanding.{Visit}
 
 -- The records that the words from `at` on name; j of them are expanded.
 pub record Naming (ws : List ℕ) (at count : ℕ) (work₀ pool₀ : List ℕ) (used₀ : ℕ) (work pool : List ℕ) (used j : ℕ) : Type 0 where
@@ -107,7 +50,7 @@ module _ {ws : List ℕ} {at count : ℕ} {work₀ pool₀ : List ℕ} {used₀ 
 
       module _ (work₁ pool₁ : List ℕ) (u : Expanded) (f : Visit ws pool used r pool₁ u) where
         one : Roots ws (r ∷ []) pool used pool₁ u
-        one = visiting-one ws (p .checked) r inside (λ (d : List ℕ). Holds ws d pool used) (Expands ws pool₁ u) f
+        one = visiting-one ws (p .checked) r inside (Expands ws pool (Used used)) (Expands ws pool₁ u) f
 
         pub naming-more : length work₁ ≡ length work → length pool₁ ≡ length pool → {n : ℕ} → u ≡ Used n
             → Naming ws at count work₀ pool₀ used₀ work₁ pool₁ n (j + 1)

@@ -1,5 +1,5 @@
 pub mod Steps
 pub mod Picking
 pub mod Adds
-pub mod Visits
 pub mod Rooting
+pub mod Visits

@@ -15,7 +15,7 @@ use Rattle.nodes.proofs.States as states
 use Rattle.graph_walk.specs.Walking.{Ready, Walking, Walks}
 
 -- The state of scratch, output and number of nodes, over the records added.
-abbrev State : (ws s o : List ℕ) (n : ℕ) (done : List ℕ) → Type 0
+abbrev pub State : (ws s o : List ℕ) (n : ℕ) (done : List ℕ) → Type 0
 State ws s o n done = Holds ws done s o n
 
 -- What one interaction names: its fields, then its count.
@@ -32,7 +32,7 @@ module _ (ws : List ℕ) where
   walks-both {s} {o} {n} p xs ys b s₁ o₁ n₁ s₂ o₂ n₂ = visiting-both ws (p .checked) xs ys b (State ws s o n) (State ws s₁ o₁ n₁) (State ws s₂ o₂ n₂)
 
   -- What is asked again.
-  pub walking-after : (roots : List ℕ) → Below E roots → (s o : List ℕ) (n : ℕ) (s₁ o₁ : List ℕ) (n₁ : ℕ) → Walking ws s o n → length o₁ ≡ length o
+  unfoldable pub walking-after : (roots : List ℕ) → Below E roots → (s o : List ℕ) (n : ℕ) (s₁ o₁ : List ℕ) (n₁ : ℕ) → Walking ws s o n → length o₁ ≡ length o
       → Walks ws roots s o n s₁ o₁ n₁ → Walking ws s₁ o₁ n₁
   walking-after roots b s o n s₁ o₁ n₁ p k f = record {
     checked = p .checked;
@@ -42,7 +42,7 @@ module _ (ws : List ℕ) where
     holds = f (p .done) (p .order) (p .holds);
   }
 
-  pub ready-root : (r : ℕ) → r < E → (s o : List ℕ) (n : ℕ) → Walking ws s o n → Ready ws r s o n
+  unfoldable pub ready-root : (r : ℕ) → r < E → (s o : List ℕ) (n : ℕ) → Walking ws s o n → Ready ws r s o n
   ready-root r l s o n p = record { checked = p .checked; inside = l; room = p .room; done = p .done; order = p .order; holds = p .holds }
 
   pub walking-length : (s o : List ℕ) (n : ℕ) → Walking ws s o n → length s ≡ E

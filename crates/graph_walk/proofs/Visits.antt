@@ -1,7 +1,9 @@
--- The ways through a visit: the record is added already, has no child, or is added after its children.
+-- The ways through a visit of the builder, by the one law of a visit: the record is added already, or it is added after its children, of which
+-- it may have none. The loop goes to two children; a Neg's only one is visited a second time, which changes nothing.
 use mathlib.Core.Path.{_≡_, refl, sym, ap, subst, _∙_}
+use mathlib.Core.Logic.{⊎-elim}
 use mathlib.Core.Bool.{false}
-use mathlib.Core.List.{List, [], _∷_}
+use mathlib.Core.List.{List, [], _∷_, _++_}
 use Prim.Native.Nat.{ℕ, zero, suc, _+_, _≤_, _<_}
 use native.Mathlib.Omega.{arith}
 use native.Mathlib.Numerals.{add-one}
@@ -10,34 +12,25 @@ use lib.ListN.{length, getD}
 use borrow.Author.Tests.{eqb-true, eqb-false}
 use Rattle.semantics.specs.Arithmetic.{prime}
 use Rattle.semantics.specs.Answer.{good}
-use Rattle.semantics.specs.Sheet.{place}
+use Rattle.semantics.specs.Sheet.{Record}
 use Rattle.semantics.specs.Check.{readSheet, check}
-use Rattle.semantics.specs.Walk.{childrenAt, member, visit}
+use Rattle.semantics.specs.Walk.{childrenAt, member}
 use Rattle.semantics.proofs.Basics.{by-test}
-use Rattle.semantics.proofs.Members.{Mem, mem-here, mem-there}
-use Rattle.semantics.proofs.Walks.{visit-has}
+use Rattle.semantics.proofs.Members.{Mem, mem-here, mem-there, mem-cases, mem-either, not-in}
 use Rattle.records.specs.Access.{nodeIn, recordsOf}
-use Rattle.records.specs.Orders.{Order, There}
-use Rattle.records.proofs.Steps.{child-low, child-inside, still-new, order-next, there-none, there-one, there-two}
-use Rattle.records.proofs.Visits.{visit-seen, visit-none, visit-one, visit-two}
-use Rattle.records.proofs.Children.{one-read, left-read, two-read}
-use Rattle.nodes.specs.Memory.{Holds}
+use Rattle.records.specs.Orders.{Visiting}
+use Rattle.records.proofs.Steps.{child-low, child-inside}
+use Rattle.records.proofs.Children.{none-read, one-read, left-read, two-read}
+use Rattle.records.proofs.Rooting.{visiting-none, visiting-one, visiting-both}
+use Rattle.records.proofs.Visited.{Visits, Finishes, visiting-again, children-below, children-new, all-there, visits-seen, visits-new}
 use Rattle.nodes.proofs.States as states
-use Rattle.graph_walk.specs.Walking.{Ready, Adding, childOf}
+use Rattle.graph_walk.specs.Walking.{Ready, Adding, Walking, Walks, childOf}
+use Rattle.graph_walk.proofs.Rooting.{State, walking-after, ready-root, walking-length}
 
--- What `add_record` changes, and what `add_expr` does.
-abbrev Added : (ws : List ℕ) (r : ℕ) (s o : List ℕ) (n : ℕ) (s′ o′ : List ℕ) (n′ : ℕ) → Type 0
-Added ws r s o n s′ o′ n′ =
-    (done : List ℕ) → Order ws done → member r done ≡ false → There ws r done → Holds ws done s o n → Holds ws (r ∷ done) s′ o′ n′
-
-abbrev Visited : (ws : List ℕ) (r : ℕ) (s o : List ℕ) (n : ℕ) (s′ o′ : List ℕ) (n′ : ℕ) → Type 0
-Visited ws r s o n s′ o′ n′ =
-    (done : List ℕ) → Order ws done → Holds ws done s o n → Holds ws (visit (childrenAt (recordsOf ws)) (suc r) done r) s′ o′ n′
-
--- The order when i of a record's children are visited.
-abbrev soFar : (ws : List ℕ) (r i : ℕ) (done : List ℕ) → List ℕ
-soFar ws r zero done = done
-soFar ws r (suc i) done = visit (childrenAt (recordsOf ws)) (suc (childOf (nodeIn ws r) i)) (soFar ws r i done) (childOf (nodeIn ws r) i)
+-- The first i children to which the loop goes.
+abbrev pub firstOf : Record → (i : ℕ) → List ℕ
+firstOf m zero = []
+firstOf m (suc i) = firstOf m i ++ (childOf m i ∷ [])
 
 -- A record with children.
 module _ (ws : List ℕ) (checked : check prime ws ≡ good (readSheet ws)) (r : ℕ) (l : r < length (recordsOf ws)) (k : 6 ≤ nodeIn ws r .kind) where
@@ -59,119 +52,104 @@ module _ (ws : List ℕ) (checked : check prime ws ≡ good (readSheet ws)) (r :
       (λ _. by-test (λ (c : ℕ). Mem c (ch r)) (eqb (nodeIn ws r .kind) 8) (λ _. left-in)
       (λ e. subst (Mem y) (sym (two-read ws checked r l x refl k (eqb-false _ _ e) y refl)) (mem-there y x (y ∷ []) (mem-here y []))))
 
-  order-far : (i : ℕ) (done : List ℕ) → Order ws done → Order ws (soFar ws r i done)
-  order-far zero done o = o
-  order-far (suc i) done o = order-next ws checked r l (soFar ws r i done) (childOf (nodeIn ws r) i) (child-in i) (order-far i done o)
+  first-in : (i c : ℕ) → Mem c (firstOf (nodeIn ws r) i) → Mem c (ch r)
+  first-in zero c m = not-in c m
+  first-in (suc i) c m =
+      let d : ℕ = childOf (nodeIn ws r) i in
+      ⊎-elim (first-in i c)
+      (λ (n : Mem c (d ∷ [])). ⊎-elim (λ (e : c ≡ d). subst (λ (z : ℕ). Mem z (ch r)) (sym e) (child-in i)) (λ (o : Mem c []). not-in c o) (mem-cases c d [] n))
+      (mem-either c (firstOf (nodeIn ws r) i) (d ∷ []) m)
 
-  new-far : (i : ℕ) (done : List ℕ) → member r done ≡ false → member r (soFar ws r i done) ≡ false
-  new-far zero done e = e
-  new-far (suc i) done e = still-new ws checked r l (soFar ws r i done) (childOf (nodeIn ws r) i) (child-in i) (new-far i done e)
-
-  -- A child that is visited again changes nothing.
-  again : (done : List ℕ) → visit ch (suc x) (visit ch (suc x) done x) x ≡ visit ch (suc x) done x
-  again done = visit-seen ws checked x (child-inside ws checked r l x left-in) (visit ch (suc x) done x) (visit-has ch (suc x) done x (omega arith))
-
-  -- After both, all of them are there, and the record comes next.
-  module _ (done : List ℕ) where
-    there-far : There ws r (soFar ws r 2 done)
-    there-far =
-        by-test (λ (c : ℕ). There ws r (visit ch (suc c) (visit ch (suc x) done x) c)) (eqb (nodeIn ws r .kind) 8)
-        (λ e. subst (There ws r) (sym (again done)) (there-one ws checked r l x (one-read ws checked r l x refl (eqb-true _ _ e)) done))
-        (λ e. there-two ws checked r l x y (two-read ws checked r l x refl k (eqb-false _ _ e) y refl) done)
-
-    visit-far : member r done ≡ false → visit ch (suc r) done r ≡ r ∷ soFar ws r 2 done
-    visit-far new =
-        by-test (λ (c : ℕ). visit ch (suc r) done r ≡ r ∷ visit ch (suc c) (visit ch (suc x) done x) c) (eqb (nodeIn ws r .kind) 8)
-        (λ e. visit-one ws checked r l done new x (one-read ws checked r l x refl (eqb-true _ _ e)) ∙ ap (λ (d : List ℕ). r ∷ d) (sym (again done)))
-        (λ e. visit-two ws checked r l done new x y (two-read ws checked r l x refl k (eqb-false _ _ e) y refl))
+  -- When the loop was at both, all children are visited.
+  all-visited : (P Q : List ℕ → Type 0) → Visiting ws (firstOf (nodeIn ws r) 2) P Q → Visiting ws (ch r) P Q
+  all-visited P Q =
+      by-test (λ (c : ℕ). Visiting ws (x ∷ c ∷ []) P Q → Visiting ws (ch r) P Q) (eqb (nodeIn ws r .kind) 8)
+      (λ e f. subst (λ (cs : List ℕ). Visiting ws cs P Q) (sym (one-read ws checked r l x refl (eqb-true _ _ e)))
+      (visiting-again ws checked P Q x (child-inside ws checked r l x left-in) f))
+      (λ e f. subst (λ (cs : List ℕ). Visiting ws cs P Q) (sym (two-read ws checked r l x refl k (eqb-false _ _ e) y refl)) f)
 
 -- While i of the children are visited.
 pub record Children (ws : List ℕ) (r : ℕ) (s₀ o₀ : List ℕ) (n : ℕ) (s o : List ℕ) (u i : ℕ) : Type 0 where
   pub i-le : i ≤ 2
   pub out-length : length o ≡ length o₀
-  pub visits : (done : List ℕ) → Order ws done → Holds ws done s₀ o₀ n → Holds ws (soFar ws r i done) s o u
+  pub visits : Walks ws (firstOf (nodeIn ws r) i) s₀ o₀ n s o u
 
-module _ (ws : List ℕ) (r : ℕ) (s₀ o₀ : List ℕ) (n : ℕ) (p : Ready ws r s₀ o₀ n) where
+module _ {ws : List ℕ} {r : ℕ} {s₀ o₀ : List ℕ} {n : ℕ} (p : Ready ws r s₀ o₀ n) where
+  abbrev E : ℕ
+  E = length (recordsOf ws)
+
+  abbrev walking : Walking ws s₀ o₀ n
+  walking = record { checked = p .checked; room = p .room; done = p .done; order = p .order; holds = p .holds }
+
   -- It is added already.
-  pub visited-seen : (getD s₀ r 0 ≡ 0 → ⊥) → Visited ws r s₀ o₀ n s₀ o₀ n
-  visited-seen e done q h =
-      subst (λ (d : List ℕ). Holds ws d s₀ o₀ n) (sym (visit-seen ws (p .checked) r (p .inside) done (states.seen ws done s₀ o₀ n h r (p .inside) e))) h
+  pub visited-seen : (getD s₀ r 0 ≡ 0 → ⊥) → Visits ws r (State ws s₀ o₀ n) (State ws s₀ o₀ n)
+  visited-seen e = visits-seen ws (p .checked) r (p .inside) (State ws s₀ o₀ n) (λ done h. states.seen ws done s₀ o₀ n h r (p .inside) e)
 
   pub children-none : Children ws r s₀ o₀ n s₀ o₀ n 0
-  children-none = record { i-le = omega arith; out-length = refl; visits = λ done q h. h }
+  children-none = record { i-le = omega arith; out-length = refl; visits = visiting-none ws (State ws s₀ o₀ n) }
 
-  module _ (none : getD s₀ r 0 ≡ 0) where
-    new : (done : List ℕ) → Holds ws done s₀ o₀ n → member r done ≡ false
+  -- It has no child.
+  pub none-visited : nodeIn ws r .kind < 6 → Walks ws (childrenAt (recordsOf ws) r) s₀ o₀ n s₀ o₀ n
+  none-visited k =
+      subst (λ (cs : List ℕ). Walks ws cs s₀ o₀ n s₀ o₀ n) (sym (none-read ws (p .checked) r (p .inside) k)) (visiting-none ws (State ws s₀ o₀ n))
+
+  -- All its children are visited: it may be added, and when it is, it is visited.
+  module _ (none : getD s₀ r 0 ≡ 0) {s o : List ℕ} {u : ℕ} (e : length o ≡ length o₀) (f : Walks ws (childrenAt (recordsOf ws) r) s₀ o₀ n s o u) where
+    new : (done : List ℕ) → State ws s₀ o₀ n done → member r done ≡ false
     new done h = states.seen-not ws done s₀ o₀ n h r (p .inside) none
 
-    -- It has no child.
-    module _ (e : childrenAt (recordsOf ws) r ≡ []) where
-      pub adding-none : Adding ws r s₀ o₀ n
-      adding-none = record { ready = p; new = new (p .done) (p .holds); there = there-none ws (p .checked) r (p .inside) e (p .done) }
+    pub adding : Adding ws r s o u
+    unfolding ready-root walking-after
+    adding = record {
+      ready = ready-root ws r (p .inside) s o u
+          (walking-after ws (childrenAt (recordsOf ws) r) (children-below ws (p .checked) r (p .inside) _ (λ c m. m) (p .done)) s₀ o₀ n s o u walking e f);
+      new = children-new ws (p .checked) r (p .inside) (childrenAt (recordsOf ws) r) (λ c m. m) (p .done) (new (p .done) (p .holds));
+      there = all-there ws (p .checked) r (p .inside) (p .done);
+    }
 
-      pub visited-none : (s′ o′ : List ℕ) (n′ : ℕ) → Added ws r s₀ o₀ n s′ o′ n′ → Visited ws r s₀ o₀ n s′ o′ n′
-      visited-none s′ o′ n′ f done q h =
-          subst (λ (d : List ℕ). Holds ws d s′ o′ n′) (sym (visit-none ws (p .checked) r (p .inside) done (new done h) e))
-          (f done q (new done h) (there-none ws (p .checked) r (p .inside) e done) h)
+    pub visited : (s′ o′ : List ℕ) (n′ : ℕ) → Finishes ws r (State ws s o u) (State ws s′ o′ n′) → Visits ws r (State ws s₀ o₀ n) (State ws s′ o′ n′)
+    visited s′ o′ n′ = visits-new ws (p .checked) r (p .inside) (State ws s₀ o₀ n) new (State ws s′ o′ n′) (State ws s o u) f
 
-    -- It has children, and i are visited.
-    module _ (k : 6 ≤ nodeIn ws r .kind) (s o : List ℕ) (u i : ℕ) (h : Children ws r s₀ o₀ n s o u i) where
-      abbrev ready-again : Ready ws r s o u
-      ready-again = record {
-        checked = p .checked;
-        inside = p .inside;
-        room = subst (λ (j : ℕ). place 5 (length (recordsOf ws)) ≤ j) (sym (h .out-length)) (p .room);
-        done = soFar ws r i (p .done);
-        order = order-far ws (p .checked) r (p .inside) k i (p .done) (p .order);
-        holds = h .visits (p .done) (p .order) (p .holds);
+  -- It has children, and i are visited.
+  module _ (k : 6 ≤ nodeIn ws r .kind) {s o : List ℕ} {u i : ℕ} (h : Children ws r s₀ o₀ n s o u i) where
+    first-below : (c : ℕ) → Mem c (firstOf (nodeIn ws r) i) → c < E
+    first-below = children-below ws (p .checked) r (p .inside) (firstOf (nodeIn ws r) i) (first-in ws (p .checked) r (p .inside) k i) (p .done)
+
+    walking-now : Walking ws s o u
+    walking-now = walking-after ws (firstOf (nodeIn ws r) i) first-below s₀ o₀ n s o u walking (h .out-length) (h .visits)
+
+    pub scratch-kept : length s ≡ length s₀
+    scratch-kept = walking-length ws s o u walking-now ∙ sym (walking-length ws s₀ o₀ n walking)
+
+    -- The next one.
+    module _ {c : ℕ} (e : c ≡ childOf (nodeIn ws r) i) where
+      next-in : Mem c (childrenAt (recordsOf ws) r)
+      next-in = subst (λ (z : ℕ). Mem z (childrenAt (recordsOf ws) r)) (sym e) (child-in ws (p .checked) r (p .inside) k i)
+
+      next-inside : c < E
+      next-inside = child-inside ws (p .checked) r (p .inside) c next-in
+
+      pub child-below : c < r
+      child-below = child-low ws (p .checked) r c next-in
+
+      pub child-ready : Ready ws c s o u
+      child-ready = ready-root ws c next-inside s o u walking-now
+
+      pub children-more : i < 2 → (s₁ o₁ : List ℕ) (u₁ : ℕ) → length o₁ ≡ length o → Visits ws c (State ws s o u) (State ws s₁ o₁ u₁)
+          → Children ws r s₀ o₀ n s₁ o₁ u₁ (i + 1)
+      children-more l s₁ o₁ u₁ m f = record {
+        i-le = omega arith;
+        out-length = m ∙ h .out-length;
+        visits =
+            let one = visiting-one ws (p .checked) c next-inside (State ws s o u) (State ws s₁ o₁ u₁) f in
+            let both = visiting-both ws (p .checked) (firstOf (nodeIn ws r) i) (c ∷ []) first-below (State ws s₀ o₀ n) (State ws s o u) (State ws s₁ o₁ u₁) (h .visits) one in
+            subst (λ (cs : List ℕ). Walks ws cs s₀ o₀ n s₁ o₁ u₁)
+            (ap (λ (z : ℕ). firstOf (nodeIn ws r) i ++ (z ∷ [])) e ∙ ap (firstOf (nodeIn ws r)) (sym (add-one i))) both;
       }
 
-      pub scratch-kept : length s ≡ length s₀
-      scratch-kept =
-          states.scratch-length ws (ready-again .done) s o u (ready-again .holds) ∙ sym (states.scratch-length ws (p .done) s₀ o₀ n (p .holds))
-
-      -- The next one.
-      module _ (c : ℕ) (e : c ≡ childOf (nodeIn ws r) i) where
-        next-in : Mem c (childrenAt (recordsOf ws) r)
-        next-in = subst (λ (z : ℕ). Mem z (childrenAt (recordsOf ws) r)) (sym e) (child-in ws (p .checked) r (p .inside) k i)
-
-        pub child-below : c < r
-        child-below = child-low ws (p .checked) r c next-in
-
-        pub child-ready : Ready ws c s o u
-        child-ready = record {
-          checked = p .checked;
-          inside = child-inside ws (p .checked) r (p .inside) c next-in;
-          room = ready-again .room;
-          done = ready-again .done;
-          order = ready-again .order;
-          holds = ready-again .holds;
-        }
-
-        pub children-more : i < 2 → (s₁ o₁ : List ℕ) (u₁ : ℕ) → length o₁ ≡ length o → Visited ws c s o u s₁ o₁ u₁ → Children ws r s₀ o₀ n s₁ o₁ u₁ (i + 1)
-        children-more l s₁ o₁ u₁ m f = record {
-          i-le = omega arith;
-          out-length = m ∙ h .out-length;
-          visits = λ done q g.
-              subst (λ (j : ℕ). Holds ws (soFar ws r j done) s₁ o₁ u₁) (sym (add-one i))
-              (subst (λ (z : ℕ). Holds ws (visit (childrenAt (recordsOf ws)) (suc z) (soFar ws r i done) z) s₁ o₁ u₁) e
-              (f (soFar ws r i done) (order-far ws (p .checked) r (p .inside) k i done q) (h .visits done q g)));
-        }
-
-      -- Both are.
-      module _ (all : 2 ≤ i) where
-        both : i ≡ 2
-        both = omega (arith, h .i-le)
-
-        pub adding-all : Adding ws r s o u
-        adding-all = record {
-          ready = ready-again;
-          new = new-far ws (p .checked) r (p .inside) k i (p .done) (new (p .done) (p .holds));
-          there = subst (λ (j : ℕ). There ws r (soFar ws r j (p .done))) (sym both) (there-far ws (p .checked) r (p .inside) k (p .done));
-        }
-
-        pub visited-all : (s′ o′ : List ℕ) (n′ : ℕ) → Added ws r s o u s′ o′ n′ → Visited ws r s₀ o₀ n s′ o′ n′
-        visited-all s′ o′ n′ f done q g =
-            subst (λ (d : List ℕ). Holds ws d s′ o′ n′) (sym (visit-far ws (p .checked) r (p .inside) k done (new done g)))
-            (f (soFar ws r 2 done) (order-far ws (p .checked) r (p .inside) k 2 done q) (new-far ws (p .checked) r (p .inside) k 2 done (new done g))
-            (there-far ws (p .checked) r (p .inside) k done) (subst (λ (j : ℕ). Holds ws (soFar ws r j done) s o u) both (h .visits done q g)))
+    -- Both are.
+    pub both-visited : 2 ≤ i → Walks ws (childrenAt (recordsOf ws) r) s₀ o₀ n s o u
+    both-visited all =
+        let two : i ≡ 2 = omega (arith, h .i-le) in
+        all-visited ws (p .checked) r (p .inside) k (State ws s₀ o₀ n) (State ws s o u)
+        (subst (λ (j : ℕ). Walks ws (firstOf (nodeIn ws r) j) s₀ o₀ n s o u) two (h .visits))

@@ -21,7 +21,7 @@ use Rattle.expand.specs.declared.Expanded.{Expanded}
 use Rattle.expand.specs.declared.Expanded.the-variants.{Used, Refused}
 use Rattle.answers.specs.declared.Refusal.{Refusal}
 use Rattle.expand.specs.Walking.{Holds, Expands, Walking}
-use Rattle.expand.proofs.Roots.{far-none, far-refused, far-more, far-walking}
+use Rattle.expand.proofs.Far.{far-none, far-refused, far-more, far-walking}
 use Rattle.grouping.specs.Families.{Grouping}
 use Rattle.constraint_lists.proofs.Walked.{grouping-of}
 

@@ -3,6 +3,7 @@ pub mod Steps
 pub mod Visits
 pub mod Children
 pub mod Rooting
+pub mod Visited
 pub mod Interactions
 pub mod Reading
 pub mod Writing

@@ -1,9 +1,9 @@
 -- What a checked sheet's records are to each other, and an order that grows.
-use mathlib.Core.Path.{_≡_, sym, subst}
-use mathlib.Core.Logic.{_⊎_, inl, inr, ⊎-elim}
+use mathlib.Core.Path.{_≡_}
+use mathlib.Core.Logic.{_⊎_, inl, inr}
 use mathlib.Core.Bool.{false}
-use mathlib.Core.List.{List, [], _∷_}
-use Prim.Native.Nat.{ℕ, suc, _≤_, _<_}
+use mathlib.Core.List.{List, _∷_}
+use Prim.Native.Nat.{ℕ, _≤_, _<_}
 use native.Mathlib.Omega.{arith}
 use lib.ListN.{length}
 use Rattle.semantics.specs.Arithmetic.{prime}
@@ -11,11 +11,11 @@ use Rattle.semantics.specs.Answer.{good}
 use Rattle.semantics.specs.Sheet.{Each, Inside}
 use Rattle.semantics.specs.Check.{readSheet, check}
 use Rattle.semantics.specs.Walk.{childrenAt, member, visit, Reaches}
-use Rattle.semantics.proofs.Members.{Mem, mem-cases, not-in, cons-below}
+use Rattle.semantics.proofs.Members.{Mem, cons-below}
 use Rattle.semantics.proofs.Records.{LowRecord, each-low}
 use Rattle.semantics.proofs.Encoding.{check-inside, head-limits}
-use Rattle.semantics.proofs.Walks.{visit-closed, visit-distinct, visit-reach, reach-le, visit-old, visit-has}
-use Rattle.semantics.proofs.Orders.{low, not-mem}
+use Rattle.semantics.proofs.Walks.{visit-closed, visit-distinct, visit-reach, reach-le}
+use Rattle.semantics.proofs.Orders.{low}
 use Rattle.records.specs.Access.{recordsOf}
 use Rattle.records.specs.Orders.{Order, There}
 
@@ -60,31 +60,6 @@ module _ (ws : List ℕ) (checked : check prime ws ≡ good (readSheet ws)) wher
       go x (inr q) = omega (arith, reach-le ch child-low r x q)
 
   module _ (r : ℕ) (l : r < E) where
-    -- A child is below, and is there when it is visited; the record is still not.
+    -- A child is below.
     pub child-inside : (x : ℕ) → Mem x (ch r) → x < E
     child-inside x m = omega (arith, child-low r x m)
-
-    pub still-new : (done : List ℕ) (x : ℕ) → Mem x (ch r) → member r done ≡ false → member r (visit ch (suc x) done x) ≡ false
-    still-new done x m e = not-mem r done (visit ch (suc x) done x) (λ i. go (visit-reach ch (suc x) done x r i)) e
-      where
-        go : Mem r done ⊎ Reaches ch x r → Mem r done
-        go (inl i) = i
-        go (inr s) = absurd (omega (arith, reach-le ch child-low x r s, child-low r x m))
-
-    pub order-next : (done : List ℕ) (x : ℕ) → Mem x (ch r) → Order ws done → Order ws (visit ch (suc x) done x)
-    order-next done x m o = order-visit done (suc x) x o (omega arith) (child-inside x m)
-
-    pub there-none : ch r ≡ [] → (done : List ℕ) → There ws r done
-    there-none e done c m = not-in c (subst (Mem c) e m)
-
-    pub there-one : (x : ℕ) → ch r ≡ x ∷ [] → (done : List ℕ) → There ws r (visit ch (suc x) done x)
-    there-one x e done c m =
-        ⊎-elim (λ (q : c ≡ x). subst (λ (z : ℕ). Mem z (visit ch (suc x) done x)) (sym q) (visit-has ch (suc x) done x (omega arith)))
-        (λ (i : Mem c []). not-in c i) (mem-cases c x [] (subst (Mem c) e m))
-
-    pub there-two : (x y : ℕ) → ch r ≡ x ∷ y ∷ [] → (done : List ℕ) → There ws r (visit ch (suc y) (visit ch (suc x) done x) y)
-    there-two x y e done c m =
-        let d : List ℕ = visit ch (suc x) done x in
-        ⊎-elim (λ (q : c ≡ x). visit-old ch (suc y) d y c (subst (λ (z : ℕ). Mem z d) (sym q) (visit-has ch (suc x) done x (omega arith))))
-        (λ (i : Mem c (y ∷ [])). ⊎-elim (λ (q : c ≡ y). subst (λ (z : ℕ). Mem z (visit ch (suc y) d y)) (sym q) (visit-has ch (suc y) d y (omega arith)))
-        (λ (j : Mem c []). not-in c j) (mem-cases c y [] i)) (mem-cases c x (y ∷ []) (subst (Mem c) e m))

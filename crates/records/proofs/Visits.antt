@@ -1,8 +1,8 @@
--- A record's words, the ways through a visit by the record's kind, and the words that say which.
+-- A record's words, and its children by its kind.
 use mathlib.Core.Path.{_≡_, refl, sym, ap, subst, _∙_}
 use mathlib.Core.Bool.{Bool, true, false}
 use mathlib.Core.List.{List, [], _∷_}
-use Prim.Native.Nat.{ℕ, suc, _+_, _≤_, _<_}
+use Prim.Native.Nat.{ℕ, _+_, _≤_, _<_}
 use native.Mathlib.Nat.{add-zero}
 use native.Mathlib.Omega.{arith}
 use lib.Dec.{eqb, leb}
@@ -13,17 +13,16 @@ use Rattle.semantics.specs.Answer.{good}
 use Rattle.semantics.specs.Sheet.{Record, recordWords, place, GoodRecord}
 use Rattle.semantics.specs.Check.{readSheet, check}
 use Rattle.semantics.specs.Value.{Node, nodeOf, noRecord, recordAt}
-use Rattle.semantics.specs.Walk.{children, childrenAt, member, foldLeft, visit}
+use Rattle.semantics.specs.Walk.{children, childrenAt}
 use Rattle.semantics.proofs.Basics.{by-test, and-true}
 use Rattle.semantics.proofs.Lists.{each-zero}
 use Rattle.semantics.proofs.Members.{Mem, mem-here, mem-there}
 use Rattle.semantics.proofs.Records.{isKind, kind-good}
 use Rattle.semantics.proofs.Places.{place-below}
 use Rattle.semantics.proofs.Access.{record-word, words-count}
-use Rattle.semantics.proofs.Walks.{visit-fuel}
 use Rattle.records.specs.declared.Record as declared
 use Rattle.records.specs.Access.{fiveWords, nodeIn, recordsOf}
-use Rattle.records.proofs.Steps.{inside, child-low}
+use Rattle.records.proofs.Steps.{inside}
 
 -- What a record is, by its kind.
 pub kind-two : (r : Record) → 6 ≤ r .kind → r .kind ≤ 9 → (r .kind ≡ 8 → ⊥) → children (nodeOf r) ≡ r .a ∷ r .b ∷ []
@@ -137,34 +136,3 @@ module _ (ws : List ℕ) (checked : check prime ws ≡ good (readSheet ws)) (r :
 
     pub has-b : 6 ≤ q .kind → (q .kind ≡ 8 → ⊥) → Mem (q .b) (childrenAt (recordsOf ws) r)
     has-b h n = subst (Mem (q .b)) (sym (two-is h n (q .a) (q .b) refl refl)) (mem-there (q .b) (q .a) (q .b ∷ []) (mem-here (q .b) []))
-
-  -- A visit: seen; with no child, one, or two.
-  module _ (done : List ℕ) where
-    abbrev ch : ℕ → List ℕ
-    ch = childrenAt (recordsOf ws)
-
-    fuel : (seen : List ℕ) (k m c : ℕ) → c < k → c < m → visit ch k seen c ≡ visit ch m seen c
-    fuel seen k m c = visit-fuel ch (child-low ws checked) k m seen c
-
-    pub visit-seen : member r done ≡ true → visit ch (suc r) done r ≡ done
-    unfolding visit
-    visit-seen e = rw e
-
-    pub visit-none : member r done ≡ false → ch r ≡ [] → visit ch (suc r) done r ≡ r ∷ done
-    unfolding visit foldLeft
-    visit-none e q = rw (e, q)
-
-    pub visit-one : member r done ≡ false → (a : ℕ) → ch r ≡ a ∷ [] → visit ch (suc r) done r ≡ r ∷ visit ch (suc a) done a
-    unfolding visit foldLeft
-    visit-one e a q =
-        rw (e, q) (ap (λ (s : List ℕ). r ∷ s) (fuel done r (suc a) a (child-low ws checked r a (subst (Mem a) (sym q) (mem-here a []))) (omega arith)))
-
-    pub visit-two : member r done ≡ false → (a b : ℕ) → ch r ≡ a ∷ b ∷ []
-        → visit ch (suc r) done r ≡ r ∷ visit ch (suc b) (visit ch (suc a) done a) b
-    unfolding visit foldLeft
-    visit-two e a b q =
-        let la = child-low ws checked r a (subst (Mem a) (sym q) (mem-here a (b ∷ []))) in
-        let lb = child-low ws checked r b (subst (Mem b) (sym q) (mem-there b a (b ∷ []) (mem-here b []))) in
-        rw (e, q)
-        (ap (λ (s : List ℕ). r ∷ visit ch r s b) (fuel done r (suc a) a la (omega arith))
-        ∙ ap (λ (s : List ℕ). r ∷ s) (fuel (visit ch (suc a) done a) r (suc b) b lb (omega arith)))

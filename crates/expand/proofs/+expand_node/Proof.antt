@@ -1,15 +1,20 @@
+-- A record that is expanded already changes nothing; another one is finished when its children are expanded (`Far` of its children), one after the
+-- other, and a refusal inside ends it. The measure is the record's number, since a child's is lower.
 use mathlib.Core.Path.{_≡_, sym, subst, _∙_}
-use Prim.Native.Nat.{ℕ, _≤_, _<_}
+use Prim.Native.Nat.{ℕ, _+_, _≤_, _<_}
 use native.Mathlib.Omega.{arith}
+use lib.ListN.{length}
 use borrow.Author.Needs.{needs}
 use borrow.Fn.Kinds.{In}
 use borrow.Fn.PlainCycle.{Measures, is, falls, and}
+use Rattle.semantics.specs.Sheet.{place}
 use Rattle.records.specs.Access.{nodeIn}
 use Rattle.records.proofs.Visits.{record-inside}
 use Rattle.records.proofs.kind_at.Reads as kind-at-reads
 use Rattle.records.proofs.left_at.Reads as left-at-reads
 use Rattle.records.proofs.right_at.Reads as right-at-reads
-use Rattle.expand.proofs.Expanding.{visits-seen, Fresh, finishing-none, visits-none, left-low, ready-left, Left, left-refused, finishing-one, visits-one, right-low, ready-right, Right, right-refused, finishing-two, visits-two}
+use Rattle.expand.proofs.Expanding.{visits-seen, Fresh, finishing, visits, no-child, left-low, ready-left, Left, left-refused, one-child}
+use Rattle.expand.proofs.Expanding.{right-low, ready-right, Right, right-refused, two-children}
 use Rattle.expand.proofs.expand_node.Reads as expand-node
 use Rattle.expand.proofs.expand_node.Kinds as expand-node-kinds
 use Rattle.expand.proofs.+expand_node.Lts-expand_node as lts
@@ -41,62 +46,138 @@ claims t = (
 )
 
 module _ (t : ℕ) where
-  -- The places where the record is not expanded yet, and where each child's answer is there.
+  -- The places: the record is new, and has no child or some; its left child is named, visited, and was not refused; the same of the right one.
   abbrev IsNew : Type 0
   IsNew = lts.Else1 (claims t) (At t) expand-node.Post
+
+  abbrev IsLeaf : Type 0
+  IsLeaf = lts.Then2 (claims t) (At t) expand-node.Post
 
   abbrev IsParent : Type 0
   IsParent = lts.Else2 (claims t) (At t) expand-node.Post
 
-  abbrev HasTwo : Type 0
-  HasTwo = lts.Else3 (claims t) (At t) expand-node.Post
+  abbrev LeftNamed : Type 0
+  LeftNamed = lts.After-left-at (claims t) (At t) expand-node.Post
 
   abbrev HasLeft : Type 0
   HasLeft = lts.After-expand-node (claims t) (At t) expand-node.Post
 
+  abbrev LeftTaken : Type 0
+  LeftTaken = lts.After-known-told (claims t) (At t) expand-node.Post
+
+  abbrev IsNeg : Type 0
+  IsNeg = lts.Then3 (claims t) (At t) expand-node.Post
+
+  abbrev HasTwo : Type 0
+  HasTwo = lts.Else3 (claims t) (At t) expand-node.Post
+
+  abbrev RightNamed : Type 0
+  RightNamed = lts.After-right-at (claims t) (At t) expand-node.Post
+
   abbrev HasRight : Type 0
   HasRight = lts.After-expand-node2 (claims t) (At t) expand-node.Post
+
+  abbrev RightTaken : Type 0
+  RightTaken = lts.After-known-told2 (claims t) (At t) expand-node.Post
 
   abbrev start : IsNew → lts.Start (claims t) (At t) expand-node.Post
   start c = c .before .before .before .before .before
 
+  abbrev leaf-new : IsLeaf → IsNew
+  leaf-new c = c .before .before
+
+  abbrev parent-new : IsParent → IsNew
+  parent-new c = c .before .before
+
+  abbrev named-parent : LeftNamed → IsParent
+  named-parent c = c .before .before .before
+
+  abbrev taken-left : LeftTaken → HasLeft
+  taken-left c = c .before .before .before .before .before .before .before
+
+  abbrev neg-left : IsNeg → LeftTaken
+  neg-left c = c .before .before
+
+  abbrev two-left : HasTwo → LeftTaken
+  two-left c = c .before .before
+
+  abbrev named-two : RightNamed → HasTwo
+  named-two c = c .before .before .before
+
+  abbrev taken-right : RightTaken → HasRight
+  taken-right c = c .before .before .before .before .before .before .before
+
+  abbrev left-new : HasLeft → IsNew
+  left-new c = parent-new (named-parent (c .before))
+
+  abbrev right-left : HasRight → LeftTaken
+  right-left c = two-left (named-two (c .before))
+
+  abbrev leaf-finished : lts.After-slice-known5 (claims t) (At t) expand-node.Post → lts.After-finish-record (claims t) (At t) expand-node.Post
+  leaf-finished c = c .before .before .before .before
+
+  abbrev neg-finished : lts.After-slice-known9 (claims t) (At t) expand-node.Post → lts.After-finish-record2 (claims t) (At t) expand-node.Post
+  neg-finished c = c .before .before .before .before
+
+  abbrev two-finished : lts.After-slice-known13 (claims t) (At t) expand-node.Post → lts.After-finish-record3 (claims t) (At t) expand-node.Post
+  two-finished c = c .before .before .before .before
+
+  abbrev finished-leaf : lts.After-finish-record (claims t) (At t) expand-node.Post → IsLeaf
+  finished-leaf c = c .before .before .before
+
+  abbrev finished-neg : lts.After-finish-record2 (claims t) (At t) expand-node.Post → IsNeg
+  finished-neg c = c .before .before .before
+
+  abbrev finished-two : lts.After-finish-record3 (claims t) (At t) expand-node.Post → RightTaken
+  finished-two c = c .before .before .before
+
+  -- What holds there.
   fresh : (c : IsNew) → let a = start c .args in Fresh (a .sheet .now) (a .r) (a .work .now) (a .pool .now) (a .used)
   fresh c = record { ready = start c .pre .1; free = c .if1 .left }
 
-  parent : (c : IsParent) → let a = start (c .before .before) .args in 6 ≤ nodeIn (a .sheet .now) (a .r) .kind
+  inside-words : (c : IsNew) → let a = start c .args in place 5 (a .r) + 5 ≤ length (a .sheet .now)
+  inside-words c =
+      let s = start c in
+      record-inside (s .args .sheet .now) (s .pre .1 .walking .checked) (s .args .r) (s .pre .1 .inside)
+
+  leaf : (c : IsLeaf) → let a = start (leaf-new c) .args in nodeIn (a .sheet .now) (a .r) .kind < 6
+  leaf c = omega (arith, c .if2 .taken, c .before .kind-at .ensures)
+
+  parent : (c : IsParent) → let a = start (parent-new c) .args in 6 ≤ nodeIn (a .sheet .now) (a .r) .kind
   parent c = omega (arith, c .if2 .left, c .before .kind-at .ensures)
 
-  abbrev is-new : HasLeft → IsNew
-  is-new c = c .before .before .before .before .before .before
-
-  left : (c : HasLeft) → let a = start (is-new c) .args in
+  left : (c : HasLeft) → let a = start (left-new c) .args in
       let v = c .expand-node in
       Left (a .sheet .now) (a .r) (a .work .now) (a .pool .now) (a .used) (c .before .left-at .result) (v .last .1 .0) (v .last .1 .1 .0) (v .result)
   left c = record {
-    fresh = fresh (is-new c);
-    parent = parent (c .before .before .before .before);
+    fresh = fresh (left-new c);
+    parent = parent (named-parent (c .before));
     left-is = c .before .left-at .ensures;
-    same-room = c .expand-node .kept .1 .0;
+    same-work = c .expand-node .kept .1 .0;
+    same-pool = c .expand-node .kept .1 .1 .0;
     visits = c .expand-node .ensures;
   }
 
-  two : (c : HasTwo) → let a = start (is-new (c .before .before .before .before .before .before .before .before .before)) .args in nodeIn (a .sheet .now) (a .r) .kind ≡ 8 → ⊥
+  neg : (c : IsNeg) → let a = start (left-new (taken-left (neg-left c))) .args in nodeIn (a .sheet .now) (a .r) .kind ≡ 8
+  neg c = sym (c .before .kind-at2 .ensures) ∙ c .if3 .taken
+
+  two : (c : HasTwo) → let a = start (left-new (taken-left (two-left c))) .args in nodeIn (a .sheet .now) (a .r) .kind ≡ 8 → ⊥
   two c e = c .if3 .left (c .before .kind-at2 .ensures ∙ e)
 
-  abbrev has-left : HasRight → HasLeft
-  has-left c = c .before .before .before .before .before .before .before .before .before .before .before .before .before
-
-  right : (c : HasRight) → let a = start (is-new (has-left c)) .args in
-      let w = has-left c .expand-node in
+  right : (c : HasRight) → let k = right-left c in
+      let l = taken-left k in
+      let a = start (left-new l) .args in
+      let w = l .expand-node in
       let v = c .expand-node2 in
-      Right (a .sheet .now) (a .r) (a .work .now) (a .pool .now) (a .used) (has-left c .before .left-at .result) (w .last .1 .0) (w .last .1 .1 .0) (w .result)
-      (c .before .before .before .before .before .before .before .answer .given .0 .0) (c .before .right-at .result) (v .last .1 .0) (v .last .1 .1 .0) (v .result)
+      Right (a .sheet .now) (a .r) (a .work .now) (a .pool .now) (a .used) (l .before .left-at .result) (w .last .1 .0) (w .last .1 .1 .0) (w .result)
+      (k .before .answer .given .0 .0) (c .before .right-at .result) (v .last .1 .0) (v .last .1 .1 .0) (v .result)
   right c = record {
-    left = left (has-left c);
-    taken = c .before .before .before .before .before .before .before .answer .given .1;
-    two = two (c .before .before .before .before);
+    left = left (taken-left (right-left c));
+    taken = right-left c .before .answer .given .1;
+    two = two (named-two (c .before));
     right-is = c .before .right-at .ensures;
-    same-room = c .expand-node2 .kept .1 .0;
+    same-work = c .expand-node2 .kept .1 .0;
+    same-pool = c .expand-node2 .kept .1 .1 .0;
     visits = c .expand-node2 .ensures;
   }
 
@@ -113,12 +194,11 @@ module _ (t : ℕ) where
   returns c = visits-seen (c .before .before .before .before .before .pre .1) (c .if1 .taken)
 
   kind-at-requires : lts.Need-kind-at-requires (claims t) (At t) expand-node.Post
-  kind-at-requires c κs =
-      let s = start c in
-      record-inside (s .args .sheet .now) (s .pre .1 .walking .checked) (s .args .r) (s .pre .1 .inside)
+  kind-at-requires c κs = inside-words c
 
+  -- No child.
   finish-record-requires : lts.Need-finish-record-requires (claims t) (At t) expand-node.Post
-  finish-record-requires c κs = finishing-none (fresh (c .before .before .before .before)) (omega (arith, c .before .before .if2 .taken, c .before .before .before .kind-at .ensures))
+  finish-record-requires c κs = let k = c .before .before in finishing (fresh (leaf-new k)) (no-child (fresh (leaf-new k)) (leaf k))
 
   same-length : lts.Need-same-length (claims t) (At t) expand-node.Post
   same-length c = search needs
@@ -128,19 +208,22 @@ module _ (t : ℕ) where
 
   returns-2 : lts.Need-returns-2 (claims t) (At t) expand-node.Post
   returns-2 c =
-      let v = c .before .before .before .before .finish-record in
-      visits-none (fresh (c .before .before .before .before .before .before .before .before .before)) (omega (arith, c .before .before .before .before .before .before .before .if2 .taken, c .before .before .before .before .before .before .before .before .kind-at .ensures)) (v .last .1 .1 .0) (v .result) (v .ensures)
+      let v = leaf-finished c .finish-record in
+      let k = finished-leaf (leaf-finished c) in
+      visits (fresh (leaf-new k)) (no-child (fresh (leaf-new k)) (leaf k)) (v .last .1 .1 .0) (v .result) (v .ensures)
 
+  -- The left child.
   left-at-requires : lts.Need-left-at-requires (claims t) (At t) expand-node.Post
-  left-at-requires c κs =
-      let s = start (c .before .before .before .before) in
-      record-inside (s .args .sheet .now) (s .pre .1 .walking .checked) (s .args .r) (s .pre .1 .inside)
+  left-at-requires c κs = inside-words (parent-new (c .before .before))
 
   expand-node-requires : lts.Need-expand-node-requires (claims t) (At t) expand-node.Post
   expand-node-requires c κs =
-      let n = c .before .before .before .before .before in
-      let k = parent (c .before .before .before) in
-      (subst (λ (m : ℕ). c .left-at .result < m) (start n .pre .0) (left-low (fresh n) k (c .left-at .ensures)), ready-left (fresh n) k (c .left-at .ensures))
+      let k = named-parent c in
+      let n = parent-new k in
+      (
+        subst (λ (m : ℕ). c .left-at .result < m) (start n .pre .0) (left-low (fresh n) (parent k) (c .left-at .ensures)),
+        ready-left (fresh n) (parent k) (c .left-at .ensures),
+      )
 
   enum-known-answer : lts.Need-enum-known-answer (claims t) (At t) expand-node.Post
   enum-known-answer c = search needs
@@ -158,12 +241,14 @@ module _ (t : ℕ) where
   returns-3 c = left-refused (left (c .before .before .before .before .before .before)) (c .enum-told .given .0 .0) (c .enum-told .given .1)
 
   kind-at-requires-2 : lts.Need-kind-at-requires-2 (claims t) (At t) expand-node.Post
-  kind-at-requires-2 c κs =
-      let s = start (is-new (c .before .before .before .before .before .before .before)) in
-      record-inside (s .args .sheet .now) (s .pre .1 .walking .checked) (s .args .r) (s .pre .1 .inside)
+  kind-at-requires-2 c κs = inside-words (left-new (taken-left c))
 
+  -- It is the only one.
   finish-record-requires-2 : lts.Need-finish-record-requires-2 (claims t) (At t) expand-node.Post
-  finish-record-requires-2 c κs = finishing-one (left (c .before .before .before .before .before .before .before .before .before .before .before)) (c .before .before .before .before .before .answer .given .1) (sym (c .before .before .before .kind-at2 .ensures) ∙ c .before .before .if3 .taken)
+  finish-record-requires-2 c κs =
+      let k = c .before .before in
+      let l = left (taken-left (neg-left k)) in
+      finishing (l .fresh) (one-child l (neg-left k .before .answer .given .1) (neg k))
 
   same-length-5 : lts.Need-same-length-5 (claims t) (At t) expand-node.Post
   same-length-5 c = search needs
@@ -173,20 +258,24 @@ module _ (t : ℕ) where
 
   returns-4 : lts.Need-returns-4 (claims t) (At t) expand-node.Post
   returns-4 c =
-      let v = c .before .before .before .before .finish-record2 in
-      visits-one (left (c .before .before .before .before .before .before .before .before .before .before .before .before .before .before .before .before)) (c .before .before .before .before .before .before .before .before .before .before .answer .given .1) (sym (c .before .before .before .before .before .before .before .before .kind-at2 .ensures) ∙ c .before .before .before .before .before .before .before .if3 .taken) (v .last .1 .1 .0) (v .result) (v .ensures)
+      let v = neg-finished c .finish-record2 in
+      let k = finished-neg (neg-finished c) in
+      let l = left (taken-left (neg-left k)) in
+      visits (l .fresh) (one-child l (neg-left k .before .answer .given .1) (neg k)) (v .last .1 .1 .0) (v .result) (v .ensures)
 
+  -- The right child.
   right-at-requires : lts.Need-right-at-requires (claims t) (At t) expand-node.Post
-  right-at-requires c κs =
-      let s = start (is-new (c .before .before .before .before .before .before .before .before .before .before .before)) in
-      record-inside (s .args .sheet .now) (s .pre .1 .walking .checked) (s .args .r) (s .pre .1 .inside)
+  right-at-requires c κs = inside-words (left-new (taken-left (two-left (c .before .before))))
 
   expand-node-requires-2 : lts.Need-expand-node-requires-2 (claims t) (At t) expand-node.Post
   expand-node-requires-2 c κs =
-      let l = c .before .before .before .before .before .before .before .before .before .before .before .before in
-      let k = two (c .before .before .before) in
-      let g = c .before .before .before .before .before .before .answer .given .1 in
-      (subst (λ (m : ℕ). c .right-at .result < m) (start (is-new l) .pre .0) (right-low (left l) g k (c .right-at .ensures)), ready-right (left l) g k (c .right-at .ensures))
+      let k = named-two c in
+      let l = taken-left (two-left k) in
+      let g = two-left k .before .answer .given .1 in
+      (
+        subst (λ (m : ℕ). c .right-at .result < m) (start (left-new l) .pre .0) (right-low (left l) g (two k) (c .right-at .ensures)),
+        ready-right (left l) g (two k) (c .right-at .ensures),
+      )
 
   enum-known-answer-2 : lts.Need-enum-known-answer-2 (claims t) (At t) expand-node.Post
   enum-known-answer-2 c = search needs
@@ -204,7 +293,10 @@ module _ (t : ℕ) where
   returns-5 c = right-refused (right (c .before .before .before .before .before .before)) (c .enum-told2 .given .0 .0) (c .enum-told2 .given .1)
 
   finish-record-requires-3 : lts.Need-finish-record-requires-3 (claims t) (At t) expand-node.Post
-  finish-record-requires-3 c κs = finishing-two (right (c .before .before .before .before .before .before .before .before .before)) (c .before .before .before .answer2 .given .1)
+  finish-record-requires-3 c κs =
+      let k = c .before .before in
+      let h = right (taken-right k) in
+      finishing (h .left .fresh) (two-children h (k .before .answer2 .given .1))
 
   same-length-9 : lts.Need-same-length-9 (claims t) (At t) expand-node.Post
   same-length-9 c = search needs
@@ -214,8 +306,10 @@ module _ (t : ℕ) where
 
   returns-6 : lts.Need-returns-6 (claims t) (At t) expand-node.Post
   returns-6 c =
-      let v = c .before .before .before .before .finish-record3 in
-      visits-two (right (c .before .before .before .before .before .before .before .before .before .before .before .before .before .before)) (c .before .before .before .before .before .before .before .before .answer2 .given .1) (v .last .1 .1 .0) (v .result) (v .ensures)
+      let v = two-finished c .finish-record3 in
+      let k = finished-two (two-finished c) in
+      let h = right (taken-right k) in
+      visits (h .left .fresh) (two-children h (k .before .answer2 .given .1)) (v .last .1 .1 .0) (v .result) (v .ensures)
 
 pub +expand-node-spec : {M : Type 1} → statement M
 +expand-node-spec =

@@ -1,34 +1,37 @@
-use Prim.Native.Nat.{ℕ, _-_, _<_}
-use mathlib.Core.Path.{subst, _∙_}
+-- A record that is added already changes nothing; one with no child is added; another one is added after a loop over its children, which keeps
+-- what visiting the first i of them came to (`Children`). The measure is the record's number, since a child's is lower.
+use mathlib.Core.Path.{refl, subst, _∙_}
+use Prim.Native.Nat.{ℕ, _+_, _-_, _≤_, _<_}
 use native.Mathlib.Omega.{arith}
+use lib.ListN.{length}
 use borrow.Author.Needs.{needs}
 use borrow.Fn.Kinds.{In}
 use borrow.Fn.PlainCycle.{Measures, is, falls, and}
+use Rattle.semantics.specs.Sheet.{place}
+use Rattle.records.specs.Access.{nodeIn}
 use Rattle.records.proofs.Steps.{few-records}
 use Rattle.records.proofs.Visits.{record-inside}
-use Rattle.records.proofs.Children.{none-read}
 use Rattle.records.proofs.kind_at.Reads as kind-at-reads
 use Rattle.nodes.proofs.States as states
-use Rattle.graph_walk.proofs.Visits.{Children, visited-seen, children-none, adding-none, visited-none, scratch-kept, child-below, child-ready, children-more, adding-all, visited-all}
+use Rattle.graph_walk.proofs.Visits.{Children, visited-seen, children-none, none-visited, adding, visited, scratch-kept, child-below, child-ready, children-more, both-visited}
 use Rattle.graph_walk.proofs.add_expr.Kinds as add-expr-kinds
 use Rattle.graph_walk.proofs.add_expr.Reads as add-expr
-use Rattle.graph_walk.proofs.+add_expr.Lts-add_expr as add-expr-lts
+use Rattle.graph_walk.proofs.+add_expr.Lts-add_expr as lts
 use Rattle.graph_walk.proofs.add_record.Reads as add-record-reads
 use Rattle.graph_walk.proofs.child_at.Reads as child-at-reads
 use Rattle.graph_walk.proofs.+add_expr.{statement}
 use Rattle.graph_walk.proofs.+add_expr.Tie.{close}
 
-abbrev μ-add-expr : Measures 3 add-expr-kinds.ps ℕ
-μ-add-expr κs a = a .1 .1 .1 .0
+abbrev μ : Measures 3 add-expr-kinds.ps ℕ
+μ κs a = a .1 .1 .1 .0
 
-abbrev add-expr-at : ℕ → In 3 add-expr-kinds.ps
-add-expr-at t = and 3 add-expr-kinds.ps (is 3 add-expr-kinds.ps μ-add-expr t) add-expr.Pre
+abbrev At : ℕ → In 3 add-expr-kinds.ps
+At t = and 3 add-expr-kinds.ps (is 3 add-expr-kinds.ps μ t) add-expr.Pre
 
-abbrev add-expr-below : ℕ → In 3 add-expr-kinds.ps
-add-expr-below t =
-    and 3 add-expr-kinds.ps (falls 3 add-expr-kinds.ps _<_ μ-add-expr t) add-expr.Pre
+abbrev Below : ℕ → In 3 add-expr-kinds.ps
+Below t = and 3 add-expr-kinds.ps (falls 3 add-expr-kinds.ps _<_ μ t) add-expr.Pre
 
-abbrev claims : ℕ → add-expr-lts.Claims
+abbrev claims : ℕ → lts.Claims
 claims t = (
   kind-at-reads.Asked,
   kind-at-reads.Learnt,
@@ -36,169 +39,194 @@ claims t = (
   add-record-reads.Learnt,
   child-at-reads.Asked,
   child-at-reads.Learnt,
-  add-expr-below t,
+  Below t,
   add-expr.Post,
 )
 
-abbrev Inv-loop : add-expr-lts.InvT-loop
+abbrev Inv-loop : lts.InvT-loop
 Inv-loop sheet scratch₀ out₀ r n used₀ i₀ scratch out used i = Children sheet r scratch₀ out₀ n scratch out used i
 
-abbrev μ-loop : add-expr-lts.MeasureT-loop
+abbrev μ-loop : lts.MeasureT-loop
 μ-loop sheet scratch₀ out₀ r n used₀ i₀ scratch out used i = 2 - i
 
-add-expr-mul-if1 : (t : ℕ) → add-expr-lts.Need-mul-if1 (claims t) (add-expr-at t) add-expr.Post Inv-loop μ-loop
-add-expr-mul-if1 t c =
-    let s = c .before .before .before in
-    omega (arith, s .pre .1 .inside, few-records (s .args .sheet .now) (s .pre .1 .checked))
+module _ (t : ℕ) where
+  -- The places: the record is new, and has no child or some; the loop over its children, one of them visited, and all.
+  abbrev IsNew : Type 0
+  IsNew = lts.Else1 (claims t) (At t) add-expr.Post Inv-loop μ-loop
 
-add-expr-slice-read-if1 : (t : ℕ) → add-expr-lts.Need-slice-read-if1 (claims t) (add-expr-at t) add-expr.Post Inv-loop μ-loop
-add-expr-slice-read-if1 t c =
-    let a = c .before .before .before .before .args in
-    let p = c .before .before .before .before .pre in
-    omega (arith, p .1 .inside, states.scratch-length (a .sheet .now) (p .1 .done) (a .scratch .now) (a .out .now) (a .n) (p .1 .holds))
+  abbrev IsLeaf : Type 0
+  IsLeaf = lts.Then2 (claims t) (At t) add-expr.Post Inv-loop μ-loop
 
-add-expr-returns : (t : ℕ) → add-expr-lts.Need-returns (claims t) (add-expr-at t) add-expr.Post Inv-loop μ-loop
-add-expr-returns t c =
-    let a = c .before .before .before .before .before .args in
-    let p = c .before .before .before .before .before .pre in
-    visited-seen (a .sheet .now) (a .r) (a .scratch .now) (a .out .now) (a .n) (p .1) (c .if1 .taken)
+  abbrev IsParent : Type 0
+  IsParent = lts.Else2 (claims t) (At t) add-expr.Post Inv-loop μ-loop
 
-add-expr-kind-at-requires : (t : ℕ) → add-expr-lts.Need-kind-at-requires (claims t) (add-expr-at t) add-expr.Post Inv-loop μ-loop
-add-expr-kind-at-requires t c κs =
-    let a = c .before .before .before .before .before .args in
-    let p = c .before .before .before .before .before .pre in
-    record-inside (a .sheet .now) (p .1 .checked) (a .r) (p .1 .inside)
+  abbrev AtLoop : Type 0
+  AtLoop = lts.At-loop (claims t) (At t) add-expr.Post Inv-loop μ-loop
 
-add-expr-add-record-requires : (t : ℕ) → add-expr-lts.Need-add-record-requires (claims t) (add-expr-at t) add-expr.Post Inv-loop μ-loop
-add-expr-add-record-requires t c κs =
-    let a = c .before .before .before .before .before .before .before .before .before .args in
-    let p = c .before .before .before .before .before .before .before .before .before .pre in
-    let if1 = c .before .before .before .before .if1 in
-    let kind-at = c .before .before .before .kind-at in
-    let if2 = c .before .before .if2 in
-    adding-none (a .sheet .now) (a .r) (a .scratch .now) (a .out .now) (a .n) (p .1) (if1 .left) (none-read (a .sheet .now) (p .1 .checked) (a .r) (p .1 .inside) (omega (arith, kind-at .ensures, if2 .taken)))
+  abbrev HasChild : Type 0
+  HasChild = lts.After-child-at (claims t) (At t) add-expr.Post Inv-loop μ-loop
 
-add-expr-same-length : (t : ℕ) → add-expr-lts.Need-same-length (claims t) (add-expr-at t) add-expr.Post Inv-loop μ-loop
-add-expr-same-length t c = search needs
+  abbrev AllVisited : Type 0
+  AllVisited = lts.After-loop (claims t) (At t) add-expr.Post Inv-loop μ-loop
 
-add-expr-same-length-2 : (t : ℕ) → add-expr-lts.Need-same-length-2 (claims t) (add-expr-at t) add-expr.Post Inv-loop μ-loop
-add-expr-same-length-2 t c = search needs
+  abbrev start : IsNew → lts.Start (claims t) (At t) add-expr.Post Inv-loop μ-loop
+  start c = c .before .before .before .before .before
 
-add-expr-returns-2 : (t : ℕ) → add-expr-lts.Need-returns-2 (claims t) (add-expr-at t) add-expr.Post Inv-loop μ-loop
-add-expr-returns-2 t c =
-    let a = c .before .before .before .before .before .before .before .before .before .before .before .before .before .before .args in
-    let p = c .before .before .before .before .before .before .before .before .before .before .before .before .before .before .pre in
-    let if1 = c .before .before .before .before .before .before .before .before .before .if1 in
-    let kind-at = c .before .before .before .before .before .before .before .before .kind-at in
-    let if2 = c .before .before .before .before .before .before .before .if2 in
-    let add-record = c .before .before .before .before .add-record in
-    visited-none (a .sheet .now) (a .r) (a .scratch .now) (a .out .now) (a .n) (p .1) (if1 .left) (none-read (a .sheet .now) (p .1 .checked) (a .r) (p .1 .inside) (omega (arith, kind-at .ensures, if2 .taken))) (add-record .last .1 .0) (add-record .last .1 .1 .0) (add-record .result) (add-record .ensures)
+  abbrev leaf-new : IsLeaf → IsNew
+  leaf-new c = c .before .before
 
-add-expr-loop-holds : (t : ℕ) → add-expr-lts.Need-loop-holds (claims t) (add-expr-at t) add-expr.Post Inv-loop μ-loop
-add-expr-loop-holds t c =
-    let a = c .before .before .before .before .before .before .before .args in
-    let p = c .before .before .before .before .before .before .before .pre in
-    children-none (a .sheet .now) (a .r) (a .scratch .now) (a .out .now) (a .n) (p .1)
+  abbrev parent-new : IsParent → IsNew
+  parent-new c = c .before .before
 
-add-expr-child-at-requires : (t : ℕ) → add-expr-lts.Need-child-at-requires (claims t) (add-expr-at t) add-expr.Post Inv-loop μ-loop
-add-expr-child-at-requires t c κs =
-    let a = c .before .before .before .before .before .before .before .before .before .args in
-    let p = c .before .before .before .before .before .before .before .before .before .pre in
-    record-inside (a .sheet .now) (p .1 .checked) (a .r) (p .1 .inside)
+  abbrev in-loop : HasChild → AtLoop
+  in-loop c = c .before .before
 
-add-expr-add-expr-requires : (t : ℕ) → add-expr-lts.Need-add-expr-requires (claims t) (add-expr-at t) add-expr.Post Inv-loop μ-loop
-add-expr-add-expr-requires t c κs =
-    let a = c .before .before .before .before .before .before .before .before .before .before .before .before .args in
-    let p = c .before .before .before .before .before .before .before .before .before .before .before .before .pre in
-    let if1 = c .before .before .before .before .before .before .before .if1 in
-    let kind-at = c .before .before .before .before .before .before .kind-at in
-    let if2 = c .before .before .before .before .before .if2 in
-    let loop = c .before .before .before .before .loop in
-    let child-at = c .before .before .child-at in
-    (subst (λ (k : ℕ). child-at .result < k) (p .0) (child-below (a .sheet .now) (a .r) (a .scratch .now) (a .out .now) (a .n) (p .1) (if1 .left) (omega (arith, kind-at .ensures, if2 .left)) (loop .scratch) (loop .out) (loop .used) (loop .i) (loop .inv) (child-at .result) (child-at .ensures)), child-ready (a .sheet .now) (a .r) (a .scratch .now) (a .out .now) (a .n) (p .1) (if1 .left) (omega (arith, kind-at .ensures, if2 .left)) (loop .scratch) (loop .out) (loop .used) (loop .i) (loop .inv) (child-at .result) (child-at .ensures))
+  abbrev leaf-added : lts.After-slice-known5 (claims t) (At t) add-expr.Post Inv-loop μ-loop → lts.After-add-record (claims t) (At t) add-expr.Post Inv-loop μ-loop
+  leaf-added c = c .before .before .before .before
 
-add-expr-add-i : (t : ℕ) → add-expr-lts.Need-add-i (claims t) (add-expr-at t) add-expr.Post Inv-loop μ-loop
-add-expr-add-i t c = search needs
+  abbrev child-visited : lts.After-slice-known7 (claims t) (At t) add-expr.Post Inv-loop μ-loop → lts.After-add-expr (claims t) (At t) add-expr.Post Inv-loop μ-loop
+  child-visited c = c .before .before .before .before
 
-add-expr-loop-less : (t : ℕ) → add-expr-lts.Need-loop-less (claims t) (add-expr-at t) add-expr.Post Inv-loop μ-loop
-add-expr-loop-less t c = search needs
+  abbrev had-child : lts.After-add-expr (claims t) (At t) add-expr.Post Inv-loop μ-loop → HasChild
+  had-child c = c .before .before .before
 
-add-expr-loop-again : (t : ℕ) → add-expr-lts.Need-loop-again (claims t) (add-expr-at t) add-expr.Post Inv-loop μ-loop
-add-expr-loop-again t c =
-    let a = c .before .before .before .before .before .before .before .before .before .before .before .before .before .before .before .before .before .args in
-    let p = c .before .before .before .before .before .before .before .before .before .before .before .before .before .before .before .before .before .pre in
-    let if1 = c .before .before .before .before .before .before .before .before .before .before .before .before .if1 in
-    let kind-at = c .before .before .before .before .before .before .before .before .before .before .before .kind-at in
-    let if2 = c .before .before .before .before .before .before .before .before .before .before .if2 in
-    let loop = c .before .before .before .before .before .before .before .before .before .loop in
-    let loop-test = c .before .before .before .before .before .before .before .before .loop-test in
-    let child-at = c .before .before .before .before .before .before .before .child-at in
-    let add-expr = c .before .before .before .before .add-expr in
-    children-more (a .sheet .now) (a .r) (a .scratch .now) (a .out .now) (a .n) (p .1) (if1 .left) (omega (arith, kind-at .ensures, if2 .left)) (loop .scratch) (loop .out) (loop .used) (loop .i) (loop .inv) (child-at .result) (child-at .ensures) (loop-test .taken) (add-expr .last .1 .0) (add-expr .last .1 .1 .0) (add-expr .result) (add-expr .kept .1 .1 .0) (add-expr .ensures)
+  abbrev parent-added : lts.After-slice-known9 (claims t) (At t) add-expr.Post Inv-loop μ-loop → lts.After-add-record2 (claims t) (At t) add-expr.Post Inv-loop μ-loop
+  parent-added c = c .before .before .before .before
 
-add-expr-add-record-requires-2 : (t : ℕ) → add-expr-lts.Need-add-record-requires-2 (claims t) (add-expr-at t) add-expr.Post Inv-loop μ-loop
-add-expr-add-record-requires-2 t c κs =
-    let a = c .before .before .before .before .before .before .before .before .before .before .before .args in
-    let p = c .before .before .before .before .before .before .before .before .before .before .before .pre in
-    let if1 = c .before .before .before .before .before .before .if1 in
-    let kind-at = c .before .before .before .before .before .kind-at in
-    let if2 = c .before .before .before .before .if2 in
-    let loop = c .before .before .before .loop in
-    let loop-test = c .before .before .loop-test in
-    adding-all (a .sheet .now) (a .r) (a .scratch .now) (a .out .now) (a .n) (p .1) (if1 .left) (omega (arith, kind-at .ensures, if2 .left)) (loop .scratch) (loop .out) (loop .used) (loop .i) (loop .inv) (loop-test .left)
+  abbrev all-visited : lts.After-add-record2 (claims t) (At t) add-expr.Post Inv-loop μ-loop → AllVisited
+  all-visited c = c .before .before .before
 
-add-expr-same-length-3 : (t : ℕ) → add-expr-lts.Need-same-length-3 (claims t) (add-expr-at t) add-expr.Post Inv-loop μ-loop
-add-expr-same-length-3 t c =
-    let a = c .before .before .before .before .before .before .before .before .before .before .before .before .before .before .before .before .args in
-    let p = c .before .before .before .before .before .before .before .before .before .before .before .before .before .before .before .before .pre in
-    let if1 = c .before .before .before .before .before .before .before .before .before .before .before .if1 in
-    let kind-at = c .before .before .before .before .before .before .before .before .before .before .kind-at in
-    let if2 = c .before .before .before .before .before .before .before .before .before .if2 in
-    let loop = c .before .before .before .before .before .before .before .before .loop in
-    let add-record2 = c .before .before .before .before .add-record2 in
-    add-record2 .kept .1 .0 ∙ scratch-kept (a .sheet .now) (a .r) (a .scratch .now) (a .out .now) (a .n) (p .1) (if1 .left) (omega (arith, kind-at .ensures, if2 .left)) (loop .scratch) (loop .out) (loop .used) (loop .i) (loop .inv)
+  -- The record's kind, as the words say it.
+  leaf : (c : IsLeaf) → let a = start (leaf-new c) .args in nodeIn (a .sheet .now) (a .r) .kind < 6
+  leaf c = omega (arith, c .if2 .taken, c .before .kind-at .ensures)
 
-add-expr-same-length-4 : (t : ℕ) → add-expr-lts.Need-same-length-4 (claims t) (add-expr-at t) add-expr.Post Inv-loop μ-loop
-add-expr-same-length-4 t c =
-    let a = c .before .before .before .before .before .before .before .before .before .before .before .before .before .before .before .before .args in
-    let p = c .before .before .before .before .before .before .before .before .before .before .before .before .before .before .before .before .pre in
-    let loop = c .before .before .before .before .before .before .before .before .loop in
-    let add-record2 = c .before .before .before .before .add-record2 in
-    add-record2 .kept .1 .1 .0 ∙ loop .inv .out-length
+  parent : (c : IsParent) → let a = start (parent-new c) .args in 6 ≤ nodeIn (a .sheet .now) (a .r) .kind
+  parent c = omega (arith, c .if2 .left, c .before .kind-at .ensures)
 
-add-expr-returns-3 : (t : ℕ) → add-expr-lts.Need-returns-3 (claims t) (add-expr-at t) add-expr.Post Inv-loop μ-loop
-add-expr-returns-3 t c =
-    let a = c .before .before .before .before .before .before .before .before .before .before .before .before .before .before .before .before .args in
-    let p = c .before .before .before .before .before .before .before .before .before .before .before .before .before .before .before .before .pre in
-    let if1 = c .before .before .before .before .before .before .before .before .before .before .before .if1 in
-    let kind-at = c .before .before .before .before .before .before .before .before .before .before .kind-at in
-    let if2 = c .before .before .before .before .before .before .before .before .before .if2 in
-    let loop = c .before .before .before .before .before .before .before .before .loop in
-    let loop-test = c .before .before .before .before .before .before .before .loop-test in
-    let add-record2 = c .before .before .before .before .add-record2 in
-    visited-all (a .sheet .now) (a .r) (a .scratch .now) (a .out .now) (a .n) (p .1) (if1 .left) (omega (arith, kind-at .ensures, if2 .left)) (loop .scratch) (loop .out) (loop .used) (loop .i) (loop .inv) (loop-test .left) (add-record2 .last .1 .0) (add-record2 .last .1 .1 .0) (add-record2 .result) (add-record2 .ensures)
+  inside-words : (c : IsNew) → let a = start c .args in place 5 (a .r) + 5 ≤ length (a .sheet .now)
+  inside-words c =
+      let s = start c in
+      record-inside (s .args .sheet .now) (s .pre .1 .checked) (s .args .r) (s .pre .1 .inside)
+
+  mul-if1 : lts.Need-mul-if1 (claims t) (At t) add-expr.Post Inv-loop μ-loop
+  mul-if1 c =
+      let s = c .before .before .before in
+      omega (arith, s .pre .1 .inside, few-records (s .args .sheet .now) (s .pre .1 .checked))
+
+  slice-read-if1 : lts.Need-slice-read-if1 (claims t) (At t) add-expr.Post Inv-loop μ-loop
+  slice-read-if1 c =
+      let s = c .before .before .before .before in
+      let a = s .args in
+      let p = s .pre .1 in
+      omega (arith, p .inside, states.scratch-length (a .sheet .now) (p .done) (a .scratch .now) (a .out .now) (a .n) (p .holds))
+
+  returns : lts.Need-returns (claims t) (At t) add-expr.Post Inv-loop μ-loop
+  returns c = visited-seen (c .before .before .before .before .before .pre .1) (c .if1 .taken)
+
+  kind-at-requires : lts.Need-kind-at-requires (claims t) (At t) add-expr.Post Inv-loop μ-loop
+  kind-at-requires c κs = inside-words c
+
+  -- No child.
+  add-record-requires : lts.Need-add-record-requires (claims t) (At t) add-expr.Post Inv-loop μ-loop
+  add-record-requires c κs =
+      let k = c .before .before in
+      let p = start (leaf-new k) .pre .1 in
+      adding p (leaf-new k .if1 .left) refl (none-visited p (leaf k))
+
+  same-length : lts.Need-same-length (claims t) (At t) add-expr.Post Inv-loop μ-loop
+  same-length c = search needs
+
+  same-length-2 : lts.Need-same-length-2 (claims t) (At t) add-expr.Post Inv-loop μ-loop
+  same-length-2 c = search needs
+
+  returns-2 : lts.Need-returns-2 (claims t) (At t) add-expr.Post Inv-loop μ-loop
+  returns-2 c =
+      let k = leaf-added c .before .before .before in
+      let p = start (leaf-new k) .pre .1 in
+      let v = leaf-added c .add-record in
+      visited p (leaf-new k .if1 .left) refl (none-visited p (leaf k)) (v .last .1 .0) (v .last .1 .1 .0) (v .result) (v .ensures)
+
+  -- The children, one after the other.
+  loop-holds : lts.Need-loop-holds (claims t) (At t) add-expr.Post Inv-loop μ-loop
+  loop-holds c = children-none (start (parent-new c) .pre .1)
+
+  child-at-requires : lts.Need-child-at-requires (claims t) (At t) add-expr.Post Inv-loop μ-loop
+  child-at-requires c κs = inside-words (parent-new (c .before .before))
+
+  add-expr-requires : lts.Need-add-expr-requires (claims t) (At t) add-expr.Post Inv-loop μ-loop
+  add-expr-requires c κs =
+      let k = c .before .before in
+      let l = in-loop k in
+      let s = start (parent-new (l .before)) in
+      let e = k .child-at .ensures in
+      (
+        subst (λ (m : ℕ). k .child-at .result < m) (s .pre .0) (child-below (s .pre .1) (parent (l .before)) (l .loop .inv) e),
+        child-ready (s .pre .1) (parent (l .before)) (l .loop .inv) e,
+      )
+
+  add-i : lts.Need-add-i (claims t) (At t) add-expr.Post Inv-loop μ-loop
+  add-i c = search needs
+
+  loop-less : lts.Need-loop-less (claims t) (At t) add-expr.Post Inv-loop μ-loop
+  loop-less c = search needs
+
+  loop-again : lts.Need-loop-again (claims t) (At t) add-expr.Post Inv-loop μ-loop
+  loop-again c =
+      let v = child-visited c .add-expr in
+      let k = had-child (child-visited c) in
+      let l = in-loop k in
+      children-more (start (parent-new (l .before)) .pre .1) (parent (l .before)) (l .loop .inv) (k .child-at .ensures)
+      (k .before .loop-test .taken) (v .last .1 .0) (v .last .1 .1 .0) (v .result) (v .kept .1 .1 .0) (v .ensures)
+
+  -- All of them are visited.
+  add-record-requires-2 : lts.Need-add-record-requires-2 (claims t) (At t) add-expr.Post Inv-loop μ-loop
+  add-record-requires-2 c κs =
+      let a = c .before .before in
+      let k = a .before .before in
+      let p = start (parent-new k) .pre .1 in
+      let h = a .before .loop .inv in
+      adding p (parent-new k .if1 .left) (h .out-length) (both-visited p (parent k) h (a .loop-test .left))
+
+  same-length-3 : lts.Need-same-length-3 (claims t) (At t) add-expr.Post Inv-loop μ-loop
+  same-length-3 c =
+      let a = all-visited (parent-added c) in
+      let k = a .before .before in
+      parent-added c .add-record2 .kept .1 .0 ∙ scratch-kept (start (parent-new k) .pre .1) (parent k) (a .before .loop .inv)
+
+  same-length-4 : lts.Need-same-length-4 (claims t) (At t) add-expr.Post Inv-loop μ-loop
+  same-length-4 c = parent-added c .add-record2 .kept .1 .1 .0 ∙ all-visited (parent-added c) .before .loop .inv .out-length
+
+  returns-3 : lts.Need-returns-3 (claims t) (At t) add-expr.Post Inv-loop μ-loop
+  returns-3 c =
+      let v = parent-added c .add-record2 in
+      let a = all-visited (parent-added c) in
+      let k = a .before .before in
+      let p = start (parent-new k) .pre .1 in
+      let h = a .before .loop .inv in
+      visited p (parent-new k .if1 .left) (h .out-length) (both-visited p (parent k) h (a .loop-test .left))
+      (v .last .1 .0) (v .last .1 .1 .0) (v .result) (v .ensures)
 
 pub +add-expr-spec : {M : Type 1} → statement M
-+add-expr-spec = close μ-add-expr λ t. add-expr-lts.spec (claims t)
-    (add-expr-at t)
++add-expr-spec = close μ λ t. lts.spec (claims t)
+    (At t)
     add-expr.Post
     Inv-loop
     μ-loop
-    (add-expr-mul-if1 t)
-    (add-expr-slice-read-if1 t)
-    (add-expr-returns t)
-    (add-expr-kind-at-requires t)
-    (add-expr-add-record-requires t)
-    (add-expr-same-length t)
-    (add-expr-same-length-2 t)
-    (add-expr-returns-2 t)
-    (add-expr-loop-holds t)
-    (add-expr-child-at-requires t)
-    (add-expr-add-expr-requires t)
-    (add-expr-add-i t)
-    (add-expr-loop-less t)
-    (add-expr-loop-again t)
-    (add-expr-add-record-requires-2 t)
-    (add-expr-same-length-3 t)
-    (add-expr-same-length-4 t)
-    (add-expr-returns-3 t)
+    (mul-if1 t)
+    (slice-read-if1 t)
+    (returns t)
+    (kind-at-requires t)
+    (add-record-requires t)
+    (same-length t)
+    (same-length-2 t)
+    (returns-2 t)
+    (loop-holds t)
+    (child-at-requires t)
+    (add-expr-requires t)
+    (add-i t)
+    (loop-less t)
+    (loop-again t)
+    (add-record-requires-2 t)
+    (same-length-3 t)
+    (same-length-4 t)
+    (returns-3 t)
