@@ -142,11 +142,6 @@ all-insert Q [] (suc k) x a q = (q, tt)
 all-insert Q (y ∷ l) zero x a q = (q, a)
 all-insert Q (y ∷ l) (suc k) x a q = (a .0, all-insert Q l k x (a .1) q)
 
-pub all-row : {X : Type 0} (Q : X → Type 0) (l : List X) (k : ℕ) (d : X) → All Q l → k < length l → Q (getD l k d)
-all-row Q [] k d a h = absurd (omega arith)
-all-row Q (x ∷ l) zero d a h = a .0
-all-row Q (x ∷ l) (suc k) d a h = all-row Q l k d (a .1) (omega arith)
-
 pub row-long : (n k : ℕ) (H : List ℕ) → k < n → 4 * n ≤ length H → length (getD (rows 4 n H) k []) ≡ 4
 row-long n k H h l =
     let d : length (drop (4 * k) H) ≡ length H - 4 * k = length-drop (4 * k) H in
@@ -200,7 +195,7 @@ module _ (n k : ℕ) (H P v : List ℕ) (r : Rows n H P) where
       let q : tallied n (set H (4 * k + 3) x) P ≡ tally v (tallied n H P) =
       ap (map (tallyRow P)) e ∙ map-set (tallyRow P) R k (set row 3 x) ∙ ap (set (map (tallyRow P) R) k) t
       ∙ sym (tally-there v (tallied n H P) k (r .ascends) (s .0) (s .1)) in
-      let g = all-row (RowInside P) R k [] (r .inside) (subst (λ (i : ℕ). k < i) (sym (rows-length n H)) h) in
+      let g = all-within (RowInside P) R k [] (r .inside) (subst (λ (i : ℕ). k < i) (sym (rows-length n H)) h) in
       let a : getD (set row 3 x) 0 0 ≡ getD row 0 0 = getD-set-other row 3 0 x 0 (λ z. absurd (omega arith)) in
       let b : getD (set row 3 x) 2 0 ≡ getD row 2 0 = getD-set-other row 3 2 x 0 (λ z. absurd (omega arith)) in
       let d = length-set H (4 * k + 3) x in (

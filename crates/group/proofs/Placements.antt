@@ -9,13 +9,13 @@ use lib.Dec.{eqb}
 use lib.ListN.{length, getD, drop, set, length-append, length-set}
 use lib.Seq.{sets, length-sets, drop-set-lt, getD-set-other, getD-set-same}
 use borrow.Author.Tests.{eq-eqb, ne-eqb}
-use Rattle.slices.proofs.Lists.{map-set}
+use Rattle.slices.proofs.Lists.{map-set, flat-length}
 use Rattle.semantics.specs.Monomial.{Monomial}
 use Rattle.semantics.specs.Group.{Item, itemsOf, constraintTerm, interactionTerm, rows}
 use Rattle.semantics.specs.Call.{zeros, padded}
 use Rattle.semantics.proofs.Basics.{cond-true, cond-false}
-use Rattle.semantics.proofs.Sorting.{All}
-use Rattle.semantics.proofs.Grouping.{terms-length, constraint-wide, interaction-wide}
+use Rattle.semantics.proofs.Sorting.{All, all-within}
+use Rattle.semantics.proofs.Grouping.{constraint-wide, interaction-wide}
 use Rattle.semantics.proofs.Lists.{getD-map}
 use Rattle.semantics.proofs.Calls.{padded-is, padded-length}
 use Rattle.group.specs.declared.Found.the-variants.{There, Missing}
@@ -27,7 +27,7 @@ use Rattle.group.proofs.Gathering.{less-is, more-is}
 use Rattle.group.proofs.Places.{select-append, select-same, Fit, room-fit, spot, cursor-at, cursor-step, place-step}
 use Rattle.group.proofs.Headers.{rows-length, word-at, rows-set, tallied-length}
 use Rattle.group.proofs.RowTotals.{words, column-words}
-use Rattle.group.proofs.Counting.{all-set, all-row, row-long, tallyRow-cursor}
+use Rattle.group.proofs.Counting.{all-set, row-long, tallyRow-cursor}
 use Rattle.group.proofs.PoolLists.{left-suc, standing-next}
 
 -- The two forms of a term.
@@ -72,7 +72,7 @@ module _ (n k x : ℕ) (H P : List ℕ) (r : Rows n H P) (h : k < n) where
   pub cursor-rows : Rows n (set H (4 * k + 1) x) P
   cursor-rows =
       let row : List ℕ = getD (rows 4 n H) k [] in
-      let g = all-row (RowInside P) (rows 4 n H) k [] (r .inside) in-rows in
+      let g = all-within (RowInside P) (rows 4 n H) k [] (r .inside) in-rows in
       let a : getD (set row 1 x) 0 0 ≡ getD row 0 0 = getD-set-other row 1 0 x 0 (λ z. absurd (omega arith)) in
       let b : getD (set row 1 x) 2 0 ≡ getD row 2 0 = getD-set-other row 1 2 x 0 (λ z. absurd (omega arith)) in
       let d = length-set H (4 * k + 1) x in
@@ -130,7 +130,7 @@ module _ (term : Item → List ℕ) (width : ℕ) (wide : (u : Item) → length 
   unfolding placed total
   placed-length [] done f = omega arith
   placed-length (g ∷ gs) done f =
-      let l = terms-length term width wide (select (g .vars) done) in
+      let l = flat-length term width wide (select (g .vars) done) in
       let p = padded-length (flatMap term (select (g .vars) done)) (width * g .count)
       (subst (λ (x : ℕ). x ≤ width * g .count) (sym l) (times-le width (length (select (g .vars) done)) (g .count) (f .0))) in
       let ih = placed-length gs done (f .1) in

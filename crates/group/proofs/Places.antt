@@ -7,11 +7,11 @@ use Prim.Native.Nat.{ℕ, zero, suc, _+_, _*_, _-_, _≤_, _<_}
 use native.Mathlib.Omega.{arith}
 use lib.ListN.{length, getD, set, length-append}
 use lib.Seq.{sets, sets-eq, drop-at}
+use Rattle.slices.proofs.Lists.{flat-length}
 use Rattle.semantics.specs.Monomial.{beforeVars}
 use Rattle.semantics.specs.Group.{Item, Group, terms}
 use Rattle.semantics.specs.Call.{zeros, padded}
 use Rattle.semantics.proofs.Sorting.{All, all-within}
-use Rattle.semantics.proofs.Grouping.{terms-length}
 use Rattle.semantics.proofs.Calls.{zeros-add, zeros-long, padded-is, padded-length}
 use Rattle.group.specs.Grouped.{byOrder, Tally, select, Ascends, countOf, total, placed, cursors, Room, none}
 use Rattle.group.proofs.Gathering.{Side, side, less-is, more-is, same-is}
@@ -186,7 +186,7 @@ module _ (t : Item) (done : List Item) where
         let R : List ℕ = placed term width gs done in
         let s = select-same (g .vars) t done e in
         let n = ap length s ∙ length-append (select (g .vars) done) (t ∷ []) in
-        let l = terms-length term width wide (select (g .vars) done) in
+        let l = flat-length term width wide (select (g .vars) done) in
         let i : width * length (select (g .vars) done) ≡ length F = omega arith in
         let w = wide t in
         let m : suc (length (select (g .vars) done)) ≤ g .count = omega (arith, f .0) in
@@ -208,7 +208,7 @@ module _ (t : Item) (done : List Item) where
         let b = subst (λ (v : List ℕ). beforeVars (g .vars) v ≡ true) e (all-within (λ (x : Tally). beforeVars (g .vars) (x .vars) ≡ true) gs k none (a .0) (omega arith)) in
         let s = select-less (g .vars) t done b in
         let P : List ℕ = padded (flatMap term (select (g .vars) done)) (width * g .count) in
-        let l = terms-length term width wide (select (g .vars) done) in
+        let l = flat-length term width wide (select (g .vars) done) in
         let c : length (select (g .vars) done) ≤ g .count = subst (λ (x : List Item). length x ≤ g .count) s (f .0) in
         let n = padded-length (flatMap term (select (g .vars) done)) (width * g .count) (subst (λ (x : ℕ). x ≤ width * g .count) (sym l) (room width (length (select (g .vars) done)) (g .count) c)) in
         let i : width * (g .count + spot gs k done) ≡ length P + width * spot gs k done = omega (arith, n) in
@@ -243,5 +243,5 @@ module _ (term : Item → List ℕ) (width : ℕ) where
   placed-all wide (g ∷ gs) ts w =
       ap (λ (l : List Item). padded (flatMap term l) (width * length (g .terms)) ++ placed term width (map counted gs) ts) (w .0)
       ∙ ap (λ (l : List ℕ). l ++ placed term width (map counted gs) ts)
-      (padded-full (flatMap term (g .terms)) (width * length (g .terms)) (terms-length term width wide (g .terms)))
+      (padded-full (flatMap term (g .terms)) (width * length (g .terms)) (flat-length term width wide (g .terms)))
       ∙ ap (λ (l : List ℕ). flatMap term (g .terms) ++ l) (placed-all wide gs ts (w .1))

@@ -10,6 +10,7 @@ ghost use lib.Seq.{sets};
 ghost use Rattle.monomial.specs.Words.{readMonomial};
 ghost use Rattle.group.specs.Grouped.{Rows, tallied, total, Counted, nonZero, Standing};
 ghost use Rattle.group.specs.Waiting.{Inside, varsAt, Batch, batched, MayFollow, Nexts, Ran};
+use monomial::vars;
 use monomial::vars::Order;
 use slices::shift;
 
@@ -50,7 +51,7 @@ fn may_follow(places: &[usize], b: usize, pool: &[u32], at: usize) -> bool
         return false;
     }
     let last = places[b - 1];
-    let order = search::order_in(pool, at + 2, answers::wide(pool[at]), last + 2, answers::wide(pool[last]));
+    let order = vars::order_at(pool, at + 2, answers::wide(pool[at]), pool, last + 2, answers::wide(pool[last]));
     match order {
         Order::After => true,
         Order::Same => false,

@@ -6,44 +6,20 @@ ghost use Rattle.monomial.specs.Words.{readMonomial};
 ghost use Rattle.monomial.specs.Orders.{orderOf};
 ghost use Rattle.group.specs.Grouped.{Rows, tallied, Spot, Between};
 use crate::Found;
+use monomial::vars;
 use monomial::vars::Order;
 
-// Where the n variables that stand at `at` are in the order, seen from the m variables that stand at `from`.
-pub fn order_in(pool: &[u32], at: usize, n: usize, from: usize, m: usize) -> Order
-    requires { ⌜ (at + n ≤ length (now pool)) × (from + m ≤ length (now pool)) ⌝ }
-    ensures { λ r. ⌜ r ≡ orderOf (take n (drop at (now (pool .entry)))) (take m (drop from (now (pool .entry)))) ⌝ }
-{
-    if n < m {
-        return Order::Before;
-    }
-    if m < n {
-        return Order::After;
-    }
-    let mut i: usize = 0;
-    while i < n {
-        let x = pool[at + i];
-        let y = pool[from + i];
-        if x < y {
-            return Order::Before;
-        }
-        if y < x {
-            return Order::After;
-        }
-        i += 1;
-    }
-    Order::Same
-}
-
-// The same for the monomial that stands at `at`, seen from row i.
+// Where the monomial that stands at `at` is in the order, seen from row i.
 fn order_of_row(headers: &[u32], i: usize, pool: &[u32], at: usize) -> Order
     requires { ⌜ (4 * i + 4 ≤ length (now headers)) × (getD (now headers) (4 * i) 0 + 2 + getD (now headers) (4 * i + 2) 0 ≤ length (now pool)) × (at + 2 + getD (now pool) at 0 ≤ length (now pool)) ⌝ }
     ensures { λ r. ⌜ r ≡ orderOf (readMonomial (drop at (now (pool .entry))) .vars) (take (getD (now (headers .entry)) (4 * i + 2) 0) (drop (getD (now (headers .entry)) (4 * i) 0 + 2) (now (pool .entry)))) ⌝ }
 {
     let row = 4 * i;
-    order_in(
+    vars::order_at(
         pool,
         at + 2,
         answers::wide(pool[at]),
+        pool,
         answers::wide(headers[row]) + 2,
         answers::wide(headers[row + 2]),
     )

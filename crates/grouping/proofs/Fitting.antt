@@ -9,6 +9,7 @@ use lib.Dec.{leb}
 use lib.ListN.{length, take, drop, length-append, length-map}
 use lib.Seq.{take-append-seam}
 use borrow.Author.Tests.{le-leb, lt-leb}
+use Rattle.slices.proofs.Lists.{flat-length}
 use Rattle.semantics.specs.Arithmetic.{prime}
 use Rattle.semantics.specs.Monomial.{Monomial, listAt}
 use Rattle.semantics.specs.Check.{readSheet}
@@ -16,7 +17,7 @@ use Rattle.semantics.specs.Group.{Root, Item, itemsOf, items, Group, groups, he
 use Rattle.semantics.specs.Call.{zeros, padded, firstShort}
 use Rattle.semantics.proofs.Basics.{cond-true, cond-false}
 use Rattle.semantics.proofs.Sorting.{All}
-use Rattle.semantics.proofs.Grouping.{headers-length, terms-length}
+use Rattle.semantics.proofs.Grouping.{headers-length}
 use Rattle.semantics.proofs.HeaderSizes.{constraints-few, counts-few, fields-few}
 use Rattle.semantics.proofs.Calls.{padded-is}
 use Rattle.semantics.proofs.RecordLists.{lists-ascend}
@@ -59,7 +60,7 @@ unfolding terms total flatMap
 terms-count b [] = omega arith
 terms-count b (g ∷ gs) =
     length-append (flatMap (termOf b) (g .terms)) (terms (termOf b) gs)
-    ∙ omega (arith, terms-length (termOf b) (widthOf b) (term-wide b) (g .terms), terms-count b gs)
+    ∙ omega (arith, flat-length (termOf b) (widthOf b) (term-wide b) (g .terms), terms-count b gs)
 
 -- The first slice that is too short.
 module _ (term : Item → List ℕ) (gs : List Group) (a b c : ℕ) where

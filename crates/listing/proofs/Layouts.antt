@@ -6,6 +6,7 @@ use native.Mathlib.Omega.{arith}
 use native.Mathlib.Nat.{mul-add, mul-zero, mul-le-mul-left, le-of-mul-le-mul-left}
 use lib.ListN.{length, getD, take, drop, length-append, length-map}
 use lib.Seq.{drop-drop}
+use Rattle.slices.proofs.Lists.{flat-length, flat-most}
 use Rattle.semantics.specs.Arithmetic.{prime}
 use Rattle.semantics.specs.Group.{Item, Group, headers, variables, terms, listed}
 use Rattle.semantics.specs.Sheetlist.{headerLines}
@@ -13,7 +14,7 @@ use Rattle.semantics.proofs.Grouping.{shown, listed-layout, headers-length}
 use Rattle.listing.specs.declared.headers.Family.{Family}
 use Rattle.listing.specs.declared.headers.Family.the-variants.{Constraints, Numerators, Denominators}
 use Rattle.listing.specs.Families.{letterOf, widthOf, lineOf, headerLine, familyLines, HeadersInside}
-use Rattle.listing.proofs.Lengths.{flat-length, flat-most, header-length, t-most, u-most, w-most}
+use Rattle.listing.proofs.Lengths.{header-length, t-most, u-most, w-most}
 
 -- The number of terms of all groups.
 unfoldable count : List Group → ℕ

@@ -1,33 +1,17 @@
 -- How many bytes the numbers, the lines and the lists take.
 use mathlib.Core.Path.{_≡_, refl, sym, ap, _∙_}
-use mathlib.Core.List.{List, [], _∷_, flatMap}
+use mathlib.Core.List.{List, [], _∷_}
 use Prim.Native.Nat.{ℕ, zero, suc, _+_, _*_, _/_, _%_, _≤_}
 use native.Mathlib.Omega.{arith}
-use native.Mathlib.Nat.{mul-suc, mul-zero}
 use lib.Dec.{ltb}
 use lib.IntN.{ℤ, pos, negsuc}
 use lib.ListN.{length, getD, length-append}
+use Rattle.slices.proofs.Lists.{flat-length}
 use Rattle.semantics.specs.Arithmetic.{signedOf}
 use Rattle.semantics.specs.Sheetlist.{digits, decimal, hexDigit, hexDigits, integer, signed, line, tLine, uLine, wLine, dagText, endText, refusedText}
 use Rattle.semantics.proofs.Basics.{by-test}
 use Rattle.listing.specs.Families.{spaced, headerLine}
 use Rattle.listing.proofs.Rows.{header-pieces}
-
--- Pieces of one length, and pieces of at most one length.
-module _ {X : Type 0} (f : X → List ℕ) (w : ℕ) where
-  pub flat-length : ((x : X) → length (f x) ≡ w) → (xs : List X) → length (flatMap f xs) ≡ w * length xs
-  unfolding flatMap
-  flat-length h xs = elim xs [
-    | [] ↦ sym (mul-zero w)
-    | x ∷ (xs → ih) ↦ length-append (f x) (flatMap f xs) ∙ omega (arith, h x, mul-suc w (length xs))
-  ]
-
-  pub flat-most : ((x : X) → length (f x) ≤ w) → (xs : List X) → length (flatMap f xs) ≤ w * length xs
-  unfolding flatMap
-  flat-most h xs = elim xs [
-    | [] ↦ omega arith
-    | x ∷ (xs → ih) ↦ omega (arith, length-append (f x) (flatMap f xs), h x, mul-suc w (length xs))
-  ]
 
 -- Numbers.
 digits-most : (most n : ℕ) → length (digits most n) ≤ most

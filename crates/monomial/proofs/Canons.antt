@@ -199,8 +199,3 @@ insert-length p m xs = elim xs [
       (λ e. omega (arith, ih))
       (λ e. omega (arith, keep-length (plus p m x) t))
 ]
-
-pub sum-length : (ms acc : List Monomial) → length (insertAll ms acc) ≤ length ms + length acc
-unfolding insertAll
-sum-length [] acc = omega arith
-sum-length (m ∷ ms) acc = omega (arith, sum-length ms (insertMonomial prime m acc), insert-length prime m acc)

@@ -97,9 +97,6 @@ list-fits-at words at n ms e k h f = rw k (list-fits words at ms e h f, list-the
 pub stored-list : (pool : List ℕ) (i : ℕ) (ms : List Monomial) → Stored pool i ms → listIn pool (getD pool (2 * i) 0) (getD pool (2 * i + 1) 0) ≡ ms
 stored-list pool i ms s = list-fits-at pool (getD pool (2 * i) 0) (getD pool (2 * i + 1) 0) ms (s .words-are) (s .count-is) (s .inside) (s .fit) .1
 
-pub stored-fits : (pool : List ℕ) (i : ℕ) (ms : List Monomial) → Stored pool i ms → ListFits pool (getD pool (2 * i) 0) (getD pool (2 * i + 1) 0)
-stored-fits pool i ms s = list-fits-at pool (getD pool (2 * i) 0) (getD pool (2 * i + 1) 0) ms (s .words-are) (s .count-is) (s .inside) (s .fit) .0
-
 -- The first monomial of a list in the words.
 pub list-in-suc : (words : List ℕ) (at n : ℕ) → listIn words at (suc n) ≡ readMonomial (drop at words) ∷ listIn words (at + 2 + getD words at 0) n
 list-in-suc words at n =

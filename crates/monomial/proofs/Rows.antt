@@ -4,7 +4,7 @@ use mathlib.Core.List.{List, [], _∷_, _++_, map, append-assoc, append-nil}
 use Prim.Native.Nat.{ℕ, zero, suc, _+_, _*_, _-_, _≤_, _<_}
 use native.Mathlib.Omega.{arith}
 use lib.ListN.{length, getD, take, drop, set, length-drop, length-map, take-append-drop}
-use lib.Seq.{take-append-le, drop-append-le, take-at, drop-at, drop-drop, getD-drop, getD-append-add, take-all, length-take-le, take-set-le, drop-set-add, set-append-left, paste, paste-suc}
+use lib.Seq.{take-append-le, drop-append-le, take-at, drop-at, drop-drop, getD-append-add, take-all, length-take-le, take-set-le, drop-set-add, set-append-left, paste, paste-suc}
 use Rattle.semantics.specs.Monomial as semantics
 use Rattle.semantics.specs.Group.{rows}
 use Rattle.packed_var.proofs.PackedVar as packed
@@ -140,16 +140,6 @@ row-set ws at w i v h l =
     ∙ ap (λ (r : List ℕ). take at ws ++ r)
     (ap (λ (r : List ℕ). set r i v) (sym (take-append-drop w d)) ∙ set-append-left (take w d) (drop w d) i v (omega arith)
     ∙ ap (λ (r : List ℕ). set (take w d) i v ++ r) (drop-drop w at ws))
-
--- The monomial whose words stand at a place.
-pub read-is : (ws vs : List ℕ) (at : ℕ) → take (getD ws at 0) vs ≡ take (getD ws at 0) (drop (at + 2) ws)
-    → _≡_ {A = semantics.Monomial} (record { vars = take (getD ws at 0) vs; coef = getD ws (at + 1) 0 }) (readMonomial (drop at ws))
-unfolding readMonomial
-read-is ws vs at e =
-    let z : at + 0 ≡ at = omega arith in
-    let c : getD (drop at ws) 0 0 ≡ getD ws at 0 = getD-drop at ws 0 0 ∙ ap (λ (i : ℕ). getD ws i 0) z in
-    let v : take (getD ws at 0) vs ≡ take (getD (drop at ws) 0 0) (drop 2 (drop at ws)) = e ∙ (λ t. take (sym c t) (sym (drop-drop 2 at ws) t)) in
-    λ t. record { vars = v t; coef = sym (getD-drop at ws 1 0) t }
 
 -- A monomial put behind the first k.
 pub held-more : (ws vs rest : List ℕ) (k n c : ℕ) → 16 * k ≤ length ws → length vs ≡ 14

@@ -51,12 +51,13 @@ pub fn find_monomial(work: &[u32], count: usize, m: Monomial) -> Found
     ensures { λ r. ⌜ Stands (monomialOf m) (held count (now (work .entry))) r ⌝ }
 {
     let vars = m.vars;
+    let mine = vars::numbers(vars);
     let n = m.count;
     let mut low: usize = 0;
     let mut high = count;
     while low < high {
         let k = (low + high) / 2;
-        let order = vars::order_at(work, 16 * k + 2, slot_count(work, k), vars, n);
+        let order = vars::order_at(&mine, 0, n, work, 16 * k + 2, slot_count(work, k));
         match order {
             Order::Same => {
                 return Found::At(k);

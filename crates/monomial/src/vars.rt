@@ -16,10 +16,10 @@ pub enum Order {
     After,
 }
 
-// Where variables in hand stand in the order, seen from the m variables that stand at `at`.
-pub fn order_at(words: &[u32], at: usize, m: usize, vars: [PackedVar; 14], n: usize) -> Order
-    requires { ⌜ (n ≤ 14) × (at + m ≤ length (now words)) ⌝ }
-    ensures { λ r. ⌜ r ≡ orderOf (take n (nums vars)) (take m (drop at (now (words .entry)))) ⌝ }
+// Where the n variables that stand at `at` are in the order, seen from the m variables that stand at `from` of the other words, which may be the same.
+pub fn order_at(words: &[u32], at: usize, n: usize, other: &[u32], from: usize, m: usize) -> Order
+    requires { ⌜ (at + n ≤ length (now words)) × (from + m ≤ length (now other)) ⌝ }
+    ensures { λ r. ⌜ r ≡ orderOf (take n (drop at (now (words .entry)))) (take m (drop from (now (other .entry)))) ⌝ }
 {
     if n < m {
         return Order::Before;
@@ -29,17 +29,31 @@ pub fn order_at(words: &[u32], at: usize, m: usize, vars: [PackedVar; 14], n: us
     }
     let mut i: usize = 0;
     while i < n {
-        let x = vars[i];
-        let y = PackedVar(words[at + i]);
-        if x.below(y) {
+        let x = words[at + i];
+        let y = other[from + i];
+        if x < y {
             return Order::Before;
         }
-        if y.below(x) {
+        if y < x {
             return Order::After;
         }
         i += 1;
     }
     Order::Same
+}
+
+// The numbers of variables in hand.
+pub fn numbers(vars: [PackedVar; 14]) -> [u32; 14]
+    ensures { λ r. ⌜ r ≡ nums vars ⌝ }
+{
+    let mut r: [u32; 14] = [0; 14];
+    let mut i: usize = 0;
+    while i < 14 {
+        let v = vars[i];
+        r[i] = v.0;
+        i += 1;
+    }
+    r
 }
 
 // The next variable of two lists, and how far it takes the left one.

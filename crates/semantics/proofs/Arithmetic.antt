@@ -139,15 +139,6 @@ module _ (p : ℕ) (big : 1 < p) where
   pub addM-cancel : (a b c : ℕ) → a < p → b < p → addM p a c ≡ addM p b c → a ≡ b
   addM-cancel a b c ha hb e = cc (add-back a c ha, add-back b c hb)
 
-  pub subM-self : (a : ℕ) → subM p a a ≡ 0
-  subM-self a = simp (subM-add, addM-negM)
-
-  pub subM-addM : (a b c d : ℕ) → subM p (addM p a b) (addM p c d) ≡ addM p (subM p a c) (subM p b d)
-  subM-addM a b c d = simp (subM-add, negM-addM, addM-assoc p, addM-left-comm p)
-
-  pub mulM-subM : (a b c : ℕ) → mulM p a (subM p b c) ≡ subM p (mulM p a b) (mulM p a c)
-  mulM-subM a b c = simp (subM-add, mulM-addM p, mulM-negM)
-
 module _ (p : ℕ) where
   pub mulM-zero : (a : ℕ) → mulM p a 0 ≡ 0
   unfolding mulM
@@ -179,10 +170,6 @@ module _ (p : ℕ) (big : 1 < p) where
 
   pub zero-neg : (a : ℕ) → addM p 0 (negM p a) ≡ negM p a
   zero-neg a = zero-addM p big (negM p a) (negM-lt p big a)
-
-pub negM-mod : (p a : ℕ) → negM p a % p ≡ negM p (a % p)
-unfolding negM
-negM-mod p a = simp mods
 
 -- What sorts sums, products, and both: for `simp`, in any scope that has `1 < p`.
 pub ruleset sums = (addM-assoc, addM-comm, addM-left-comm)

@@ -8,6 +8,7 @@ use native.Mathlib.Nat.{mod-add-div, div-div-eq-div-mul, zero-sub, sub-zero, suc
 use lib.ListN.{length, drop, replicate, length-append}
 use lib.Seq.{drop-at, take-nil, take-all, drop-nil}
 use borrow.Author.Tests.{eq-eqb, ne-eqb, le-ltb}
+use Rattle.slices.proofs.Lists.{flat-length}
 use Rattle.semantics.specs.Answer.{Answer, good, refused, andThen}
 use Rattle.semantics.specs.Sheet.{Sheet, Inside, encode, lengthOf}
 use Rattle.semantics.specs.Check.{check}
@@ -43,9 +44,8 @@ words-back [] bs h = refl
 words-back (w ∷ ws) bs h = λ i. word-back w (flatMap wordBytes ws ++ bs) (h .0) i ∷ words-back ws bs (h .1) i
 
 pub bytes-length : (ws : List ℕ) → length (flatMap wordBytes ws) ≡ 4 * length ws
-unfolding flatMap wordBytes
-bytes-length [] = refl
-bytes-length (w ∷ ws) = omega (arith, bytes-length ws)
+unfolding wordBytes
+bytes-length = flat-length wordBytes 4 (λ w. refl)
 
 -- The first words, with zeros where there are none.
 first-zero : (ws : List ℕ) → firstWords zero ws ≡ []

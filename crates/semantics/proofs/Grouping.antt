@@ -9,6 +9,7 @@ use lib.Dec.{eqb}
 use lib.ListN.{length, getD, length-append}
 use lib.Seq.{take-at, drop-at, take-append-seam}
 use borrow.Author.Tests.{eqb-true, eqb-false, eq-eqb, ne-eqb}
+use Rattle.slices.proofs.Lists.{flat-length}
 use Rattle.semantics.specs.Arithmetic.{addM, mulM}
 use Rattle.semantics.specs.Sheet.{Interaction, Sheet}
 use Rattle.semantics.specs.Value.{Leaf}
@@ -36,13 +37,6 @@ headers-length vo to [] = refl
 headers-length vo to (g ∷ gs) = ap (λ (n : ℕ). suc (suc (suc (suc n)))) (headers-length _ _ gs) ∙ omega arith
 
 module _ (term : Item → List ℕ) (width : ℕ) (wide : (t : Item) → length (term t) ≡ width) where
-  pub terms-length : (ts : List Item) → length (flatMap term ts) ≡ width * length ts
-  unfolding flatMap
-  terms-length ts = elim ts [
-    | [] ↦ omega arith
-    | t ∷ (ts → ih) ↦ length-append (term t) (flatMap term ts) ∙ omega (arith, wide t)
-  ]
-
   rows-terms : (ts : List Item) (rest : List ℕ) → rows width (length ts) (flatMap term ts ++ rest) ≡ map term ts
   unfolding rows flatMap
   rows-terms ts rest = elim ts [
@@ -67,7 +61,7 @@ module _ (term : Item → List ℕ) (width : ℕ) (wide : (t : Item) → length 
   read-back (g ∷ gs) vs ts vo to h k =
       let ih = read-back gs (vs ++ g .vars) (ts ++ flatMap term (g .terms)) (vo + length (g .vars)) (to + length (g .terms))
       (length-append vs (g .vars) ∙ omega arith)
-      (length-append ts (flatMap term (g .terms)) ∙ omega (arith, terms-length (g .terms))) in
+      (length-append ts (flatMap term (g .terms)) ∙ omega (arith, flat-length term width wide (g .terms))) in
       simp (read-one g vs ts (variables gs) (terms term gs) vo to h k)
       (ap (λ (l : List Listed). shown term g ∷ l)
       (rw (append-assoc vs (g .vars) (variables gs), append-assoc ts (flatMap term (g .terms)) (terms term gs)) at ih))

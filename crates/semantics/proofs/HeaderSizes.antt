@@ -6,6 +6,7 @@ use Prim.Native.Nat.{ℕ, suc, _+_, _*_, _/_, _≤_}
 use native.Mathlib.Omega.{arith}
 use lib.Dec.{eqb}
 use lib.ListN.{length, length-append, length-map}
+use Rattle.slices.proofs.Lists.{flat-length}
 use Rattle.semantics.specs.Answer.{good}
 use Rattle.semantics.specs.Sheet.{Interaction, Sheet, Inside, Each, GoodInteraction}
 use Rattle.semantics.specs.Walk.{order}
@@ -146,17 +147,14 @@ messages-short n i (x ∷ xs) w =
     rw (length-append (x .message) (flatMap (λ (y : Interaction). y .message) xs))
     (omega (arith, interaction-facts n x (w .0) .short, messages-short n (suc i) xs (w .1)))
 
-counts-length : (xs : List Interaction) → length (flatMap (λ (x : Interaction). x .count ∷ []) xs) ≡ length xs
-unfolding flatMap
-counts-length [] = refl
-counts-length (x ∷ xs) = ap suc (counts-length xs)
-
 module _ (p : ℕ) (s : Sheet) (w : Inside p s) where
   pub constraints-few : length (constraintRoots s) ≤ 64512
   constraints-few = omega (arith, nodes-length (constraintRoots s) (s .constraints) (constraint-nodes s), head-limits s (w .head) .1)
 
   pub counts-few : length (countRoots s) ≤ 64512
-  counts-few = omega (arith, nodes-length (countRoots s) _ (count-nodes s), counts-length (s .interactions), head-limits s (w .head) .2)
+  counts-few =
+      let l = flat-length (λ (x : Interaction). x .count ∷ []) 1 (λ x. refl) (s .interactions) in
+      omega (arith, nodes-length (countRoots s) _ (count-nodes s), head-limits s (w .head) .2)
 
   pub fields-few : length (fieldRoots s) ≤ 64512
   fields-few =

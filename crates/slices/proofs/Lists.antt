@@ -1,16 +1,33 @@
 -- Laws of lists that the kit does not have.
 use mathlib.Core.Path.{_≡_, refl, sym, ap, _∙_}
 use mathlib.Core.List.{List, [], _∷_, _++_, map, flatMap, append-assoc}
-use Prim.Native.Nat.{ℕ, zero, suc, _+_, _<_, min}
+use Prim.Native.Nat.{ℕ, zero, suc, _+_, _*_, _≤_, _<_, min}
+use native.Mathlib.Nat.{mul-suc, mul-zero}
 use native.Mathlib.Numerals.{add-one}
 use native.Mathlib.Omega.{arith}
-use lib.ListN.{length, getD, take, drop, set, length-set}
+use lib.ListN.{length, getD, take, drop, set, length-set, length-append}
 use lib.Seq.{take-nil, take-suc, take-set-le, getD-drop, getD-set-same}
 
 pub flat-append : {X Y : Type 0} (f : X → List Y) (us vs : List X) → flatMap f (us ++ vs) ≡ flatMap f us ++ flatMap f vs
 unfolding flatMap
 flat-append f [] vs = refl
 flat-append {Y = Y} f (u ∷ us) vs = ap (λ (l : List Y). f u ++ l) (flat-append f us vs) ∙ sym (append-assoc (f u) (flatMap f us) (flatMap f vs))
+
+-- Pieces of one length, and pieces of at most one length.
+module _ {X Y : Type 0} (f : X → List Y) (w : ℕ) where
+  pub flat-length : ((x : X) → length (f x) ≡ w) → (xs : List X) → length (flatMap f xs) ≡ w * length xs
+  unfolding flatMap
+  flat-length h xs = elim xs [
+    | [] ↦ sym (mul-zero w)
+    | x ∷ (xs → ih) ↦ length-append (f x) (flatMap f xs) ∙ omega (arith, h x, mul-suc w (length xs))
+  ]
+
+  pub flat-most : ((x : X) → length (f x) ≤ w) → (xs : List X) → length (flatMap f xs) ≤ w * length xs
+  unfolding flatMap
+  flat-most h xs = elim xs [
+    | [] ↦ omega arith
+    | x ∷ (xs → ih) ↦ omega (arith, length-append (f x) (flatMap f xs), h x, mul-suc w (length xs))
+  ]
 
 pub map-set : {X Y : Type 0} (f : X → Y) (l : List X) (i : ℕ) (x : X) → map f (set l i x) ≡ set (map f l) i (f x)
 map-set f [] i x = refl

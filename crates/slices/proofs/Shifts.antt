@@ -4,7 +4,7 @@ use mathlib.Core.List.{List, [], _∷_, _++_, append-assoc}
 use Prim.Native.Nat.{ℕ, suc, _+_, _-_, _≤_, _<_}
 use native.Mathlib.Omega.{arith}
 use lib.ListN.{length, getD, take, drop, set, length-drop, take-append-drop, List·getD-append}
-use lib.Seq.{take-suc, drop-cons, set-at, getD-take, getD-drop, length-take-le, paste, paste-zero, paste-suc, length-paste, drop-paste}
+use lib.Seq.{take-suc, drop-cons, set-at, getD-take, getD-drop, length-take-le, paste, paste-zero, paste-suc, drop-paste}
 
 -- The words from i to `end` stand `by` places higher; below i + by all is as it was.
 abbrev pub Raised : (s s₀ : List ℕ) (i end by : ℕ) → Type 0
@@ -52,10 +52,6 @@ module _ (s s₀ : List ℕ) (at i by : ℕ) (h : at ≤ i) (l : i + by ≤ leng
 
   place : at + (i - at) ≡ i
   place = omega arith
-
-  lowered-length : length s ≡ length s₀
-  unfolding moved
-  lowered-length = ap length r ∙ length-paste s₀ at moved (i - at) (omega arith) moved-long
 
   -- What was not reached yet stands as it did.
   lowered-rest : drop i s ≡ drop i s₀

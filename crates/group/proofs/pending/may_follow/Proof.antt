@@ -20,8 +20,8 @@ mul-last c = search needs
 shared-slice-read-last : tie.Need-shared-slice-read-last
 shared-slice-read-last c = search needs
 
-add-order-in : tie.Need-add-order-in
-add-order-in c = search needs
+add-order-at : tie.Need-add-order-at
+add-order-at c = search needs
 
 mul-wide : tie.Need-mul-wide
 mul-wide c = search needs
@@ -32,8 +32,8 @@ shared-slice-read-wide c = search needs
 wide-requires : tie.Need-wide-requires
 wide-requires c κs = search needs
 
-add-order-in-2 : tie.Need-add-order-in-2
-add-order-in-2 c = let a = c .before .before .before .before .before .before .before .args in
+add-order-at-2 : tie.Need-add-order-at-2
+add-order-at-2 c = let a = c .before .before .before .before .before .before .before .args in
     let i = c .before .before .before .before .before .before .before .pre .2 (a .b - 1) (omega (arith, c .before .before .before .before .if1 .left)) in
     omega (arith, i .2)
 
@@ -50,8 +50,8 @@ shared-slice-read-wide-2 c = let a = c .before .before .before .before .before .
 wide-requires-2 : tie.Need-wide-requires-2
 wide-requires-2 c κs = search needs
 
-order-in-requires : tie.Need-order-in-requires
-order-in-requires c κs =
+order-at-requires : tie.Need-order-at-requires
+order-at-requires c κs =
     let a = c .before .before .before .before .before .before .before .before .before .args in
     let p = c .before .before .before .before .before .before .before .before .before .pre in
     let i = p .2 (a .b - 1) (omega (arith, c .before .before .before .before .before .before .if1 .left)) in
@@ -72,7 +72,7 @@ returns-3 : tie.Need-returns-3
 returns-3 c =
     let a = c .before .before .before .before .before .before .before .before .before .before .before .before .args in
     let l = c .before .before .before .before .before .before .before .before .if2 .left in
-    let o = c .before .before .order-in in
+    let o = c .before .before .order-at in
     (omega arith, follows-last (a .pool .now) (a .places .now) (a .b) (a .at) (o .result) (c .before .before .before .before .before .wide .result) (c .before .before .before .wide2 .result) (o .ensures) (c .before .before .before .before .before .wide .ensures) (c .before .before .before .wide2 .ensures) (c .enum-told .given .1))
 
 returns-4 : tie.Need-returns-4
@@ -90,15 +90,15 @@ may-follow-spec =
     sub-last
     mul-last
     shared-slice-read-last
-    add-order-in
+    add-order-at
     mul-wide
     shared-slice-read-wide
     wide-requires
-    add-order-in-2
+    add-order-at-2
     mul-wide-2
     shared-slice-read-wide-2
     wide-requires-2
-    order-in-requires
+    order-at-requires
     enum-told
     enum-told-2
     enum-told-3

@@ -6,8 +6,8 @@ use Rattle.group.proofs.search.order_of_row.Tie as tie
 mul-row : tie.Need-mul-row
 mul-row c = search needs
 
-add-order-in : tie.Need-add-order-in
-add-order-in c = search needs
+add-order-at : tie.Need-add-order-at
+add-order-at c = search needs
 
 mul-wide : tie.Need-mul-wide
 mul-wide c = search needs
@@ -27,8 +27,8 @@ shared-slice-read-wide-2 c = search needs
 wide-requires-2 : tie.Need-wide-requires-2
 wide-requires-2 c κs = search needs
 
-add-order-in-2 : tie.Need-add-order-in-2
-add-order-in-2 c = search needs
+add-order-at-2 : tie.Need-add-order-at-2
+add-order-at-2 c = search needs
 
 add-wide : tie.Need-add-wide
 add-wide c = search needs
@@ -42,8 +42,8 @@ shared-slice-read-wide-3 c = search needs
 wide-requires-3 : tie.Need-wide-requires-3
 wide-requires-3 c κs = search needs
 
-order-in-requires : tie.Need-order-in-requires
-order-in-requires c κs = search needs
+order-at-requires : tie.Need-order-at-requires
+order-at-requires c κs = search needs
 
 returns : tie.Need-returns
 returns c =
@@ -51,24 +51,24 @@ returns c =
     let x = c .before .before .before .wide2 in
     let y = c .before .wide3 in
     let z = c .before .before .before .before .before .wide in
-    order-read (a .pool .now) (a .at) (c .order-in .result) (z .result) (x .result) _ (y .result) _ (c .order-in .ensures) (z .ensures) (x .ensures) (y .ensures)
+    order-read (a .pool .now) (a .at) (c .order-at .result) (z .result) (x .result) _ (y .result) _ (c .order-at .ensures) (z .ensures) (x .ensures) (y .ensures)
 
 pub order-of-row-spec : {M : Type 1} → statement M
 order-of-row-spec =
     tie.close
     (tie.spec
     mul-row
-    add-order-in
+    add-order-at
     mul-wide
     shared-slice-read-wide
     wide-requires
     mul-wide-2
     shared-slice-read-wide-2
     wide-requires-2
-    add-order-in-2
+    add-order-at-2
     add-wide
     mul-wide-3
     shared-slice-read-wide-3
     wide-requires-3
-    order-in-requires
+    order-at-requires
     returns)

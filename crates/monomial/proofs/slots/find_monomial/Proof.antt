@@ -1,27 +1,62 @@
-use Prim.Native.Nat.{_+_, _-_, _/_, _≤_}
+-- The search halves the slots that are left. The loop's invariant: those below `low` stand before the variables, those from `high` on behind them.
+use mathlib.Core.Path.{ap, subst, _∙_}
+use mathlib.Core.List.{List}
+use Prim.Native.Nat.{ℕ, _+_, _*_, _-_, _/_, _≤_, _<_}
 use native.Mathlib.Omega.{arith}
 use borrow.Author.Needs.{needs}
-use lib.ListN.{take}
-use Rattle.monomial.specs.Words.{nums, monomialOf, held}
+use lib.ListN.{length, take}
+use Rattle.semantics.specs.Monomial.{Monomial}
+use Rattle.monomial.specs.Words.{held}
 use Rattle.monomial.specs.Places.{FirstBefore, RestAfter}
 use Rattle.monomial.proofs.Rows.{held-length}
 use Rattle.monomial.proofs.Searches.{found-same, found-after, found-before}
 use Rattle.monomial.proofs.slots.find_monomial.Statement.{statement}
 use Rattle.monomial.proofs.slots.find_monomial.Tie as tie
 
+-- A monomial with the variables that are looked for.
+abbrev sought : (numbers : List ℕ) (n : ℕ) → Monomial
+sought numbers n = record { vars = take n numbers; coef = 0 }
+
 abbrev Inv-loop : tie.InvT-loop
-Inv-loop work count vars n low₀ high₀ low high = (low ≤ high) × (high ≤ count) × FirstBefore (record { vars = take n (nums vars); coef = 0 }) (held count work) low × RestAfter (record { vars = take n (nums vars); coef = 0 }) (held count work) high
+Inv-loop work count mine n low₀ high₀ low high =
+    (low ≤ high) × (high ≤ count) × FirstBefore (sought mine n) (held count work) low × RestAfter (sought mine n) (held count work) high
 
 abbrev μ-loop : tie.MeasureT-loop
-μ-loop work count vars n low₀ high₀ low high = high - low
+μ-loop work count mine n low₀ high₀ low high = high - low
+
+abbrev start : tie.At-loop Inv-loop μ-loop → tie.Start Inv-loop μ-loop
+start c = c .before .before .before .before
+
+abbrev numbers-of : tie.At-loop Inv-loop μ-loop → List ℕ
+numbers-of c = c .before .numbers .result
+
+abbrev turn : tie.After-order-at Inv-loop μ-loop → tie.At-loop Inv-loop μ-loop
+turn c = c .before .before .before .before
+
+abbrev middle : tie.At-loop Inv-loop μ-loop → ℕ
+middle c = (c .loop .low + c .loop .high) / 2
+
+-- The slot in the middle is one of those that are searched.
+module _ (c : tie.After-order-at Inv-loop μ-loop) where
+  inside : middle (turn c) < start (turn c) .args .count
+  inside = let h = turn c .loop .inv in let t = c .before .before .before .loop-test .taken in omega arith
+
+  room : 16 * start (turn c) .args .count ≤ length (start (turn c) .args .work .now)
+  room = start (turn c) .pre .1
+
+numbers-requires : tie.Need-numbers-requires Inv-loop μ-loop
+numbers-requires c κs = search needs
 
 loop-holds : tie.Need-loop-holds Inv-loop μ-loop
 loop-holds c =
-    let a = c .before .before .args in
+    let a = c .before .before .before .args in
     (omega arith, omega arith, λ i h. absurd (omega arith), λ i h k. absurd (omega (arith, held-length (a .count) (a .work .now))))
 
 add-k : tie.Need-add-k Inv-loop μ-loop
 add-k c = search needs
+
+slice-aggregate-order-at : tie.Need-slice-aggregate-order-at Inv-loop μ-loop
+slice-aggregate-order-at c = search needs
 
 mul-order-at : tie.Need-mul-order-at Inv-loop μ-loop
 mul-order-at c = search needs
@@ -40,12 +75,15 @@ enum-told c = search needs
 
 returns : tie.Need-returns Inv-loop μ-loop
 returns c =
-    let a = c .before .before .before .before .before .before .before .before .args in
-    let b = c .before .before .before .before .before .loop in
+    let o = c .before .before in
+    let b = turn o in
+    let a = start b .args in
+    let s = o .before .slot-count in
     let l = held-length (a .count) (a .work .now) in (
-      omega arith,
-      found-same (monomialOf (a .m)) (a .work .now) ((b .low + b .high) / 2) (a .count) (omega arith) (omega arith) (c .before .before .before .slot-count .result) (c .before .before .before .slot-count .ensures)
-          (c .before .before .order-at .result) (c .before .before .order-at .ensures) (c .enum-told .given .1),
+      omega (arith, inside o),
+      found-same (sought (numbers-of b) (a .m .count)) (a .work .now) (middle b) (a .count) (inside o) (room o) (s .result) (s .ensures)
+          (o .order-at .result) (o .order-at .ensures) (c .enum-told .given .1)
+          ∙ ap (take (a .m .count)) (b .before .numbers .ensures),
     )
 
 enum-told-2 : tie.Need-enum-told-2 Inv-loop μ-loop
@@ -59,13 +97,15 @@ loop-less c = search needs
 
 loop-again : tie.Need-loop-again Inv-loop μ-loop
 loop-again c =
-    let a = c .before .before .before .before .before .before .before .before .args in
-    let b = c .before .before .before .before .before .loop in
-    let h = b .inv in (
+    let o = c .before .before in
+    let b = turn o in
+    let a = start b .args in
+    let s = o .before .slot-count in
+    let h = b .loop .inv in (
       omega arith,
       omega arith,
-      found-after (monomialOf (a .m)) (a .work .now) ((b .low + b .high) / 2) (a .count) (omega arith) (omega arith) (c .before .before .before .slot-count .result) (c .before .before .before .slot-count .ensures)
-          (c .before .before .order-at .result) (c .before .before .order-at .ensures) (c .before .before .before .before .before .before .before .before .pre .3) (c .enum-told2 .given .1),
+      found-after (sought (numbers-of b) (a .m .count)) (a .work .now) (middle b) (a .count) (inside o) (room o) (s .result) (s .ensures)
+          (o .order-at .result) (o .order-at .ensures) (start b .pre .3) (c .enum-told2 .given .1),
       h .3,
     )
 
@@ -77,23 +117,29 @@ loop-less-2 c = search needs
 
 loop-again-2 : tie.Need-loop-again-2 Inv-loop μ-loop
 loop-again-2 c =
-    let a = c .before .before .before .before .before .before .before .before .args in
-    let b = c .before .before .before .before .before .loop in
-    let h = b .inv in (
+    let o = c .before .before in
+    let b = turn o in
+    let a = start b .args in
+    let s = o .before .slot-count in
+    let h = b .loop .inv in (
       omega arith,
       omega arith,
       h .2,
-      found-before (monomialOf (a .m)) (a .work .now) ((b .low + b .high) / 2) (a .count) (omega arith) (omega arith) (c .before .before .before .slot-count .result) (c .before .before .before .slot-count .ensures)
-          (c .before .before .order-at .result) (c .before .before .order-at .ensures) (c .before .before .before .before .before .before .before .before .pre .3) (c .enum-told3 .given .1),
+      found-before (sought (numbers-of b) (a .m .count)) (a .work .now) (middle b) (a .count) (inside o) (room o) (s .result) (s .ensures)
+          (o .order-at .result) (o .order-at .ensures) (start b .pre .3) (c .enum-told3 .given .1),
     )
 
 returns-2 : tie.Need-returns-2 Inv-loop μ-loop
 returns-2 c =
-    let a = c .before .before .before .before .args in
-    let b = c .before .loop in
-    let h = b .inv in
+    let b = c .before in
+    let a = start b .args in
+    let h = b .loop .inv in
     let l = held-length (a .count) (a .work .now) in
-    (omega arith, h .2, λ i k m. h .3 i (omega arith) m)
+    let low = b .loop .low in (
+      omega arith,
+      subst (λ (v : List ℕ). FirstBefore (sought v (a .m .count)) (held (a .count) (a .work .now)) low) (b .before .numbers .ensures) (h .2),
+      subst (λ (v : List ℕ). RestAfter (sought v (a .m .count)) (held (a .count) (a .work .now)) low) (b .before .numbers .ensures) (λ i k m. h .3 i (omega arith) m),
+    )
 
 pub find-monomial-spec : {M : Type 1} → statement M
 find-monomial-spec =
@@ -101,8 +147,10 @@ find-monomial-spec =
     (tie.spec
     Inv-loop
     μ-loop
+    numbers-requires
     loop-holds
     add-k
+    slice-aggregate-order-at
     mul-order-at
     add-order-at
     slot-count-requires
