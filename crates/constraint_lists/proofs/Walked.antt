@@ -7,14 +7,14 @@ use lib.ListN.{length, getD, replicate, length-append, length-replicate, getD-re
 use Rattle.semantics.specs.Arithmetic.{prime}
 use Rattle.semantics.specs.Answer.{good}
 use Rattle.semantics.specs.Check.{readSheet, check}
-use Rattle.semantics.specs.Walk.{order}
+use Rattle.semantics.specs.Walk.{Mem, Below, order}
 use Rattle.semantics.specs.Monomial.{listAt}
 use Rattle.semantics.specs.Group.{Root, constraintRoots}
-use Rattle.semantics.proofs.Members.{Mem, mem-here, mem-there, Below}
+use Rattle.semantics.specs.Lists.{All}
+use Rattle.semantics.proofs.Members.{mem-here, mem-there}
 use Rattle.semantics.proofs.Orders.{order-roots, order-below, order-distinct, distinct-length}
 use Rattle.semantics.proofs.GraphSheets.{named-below}
 use Rattle.semantics.proofs.Demands.{constraint-nodes}
-use Rattle.semantics.proofs.Sorting.{All}
 use Rattle.records.specs.Access.{recordsOf, part, constraintsAt, NamesInside}
 use Rattle.records.specs.Orders.{Visiting}
 use Rattle.records.proofs.Reading.{constraints-are, constraints-inside, counts-small}

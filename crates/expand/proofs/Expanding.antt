@@ -8,8 +8,8 @@ use native.Mathlib.Omega.{arith}
 use lib.Dec.{eqb}
 use lib.ListN.{length, getD}
 use borrow.Author.Tests.{eqb-true, eqb-false}
-use Rattle.semantics.specs.Walk.{childrenAt, member}
-use Rattle.semantics.proofs.Members.{Mem, mem-here, mem-there, not-in, cons-below}
+use Rattle.semantics.specs.Walk.{Mem, childrenAt, member}
+use Rattle.semantics.proofs.Members.{mem-here, mem-there, not-in, cons-below}
 use Rattle.answers.specs.declared.Refusal.{Refusal}
 use Rattle.records.specs.Access.{nodeIn, recordsOf}
 use Rattle.records.proofs.Steps.{child-low, child-inside}

@@ -4,9 +4,9 @@ use mathlib.Core.List.{List, [], _++_, append-assoc}
 use Prim.Native.Nat.{ℕ, _≤_}
 use lib.ListN.{length}
 use Rattle.semantics.specs.Answer.{andThen}
-use Rattle.semantics.specs.Walk.{childrenAt, foldLeft, visit}
+use Rattle.semantics.specs.Walk.{Below, childrenAt, foldLeft, visit}
 use Rattle.semantics.specs.Expand.{expandAll}
-use Rattle.semantics.proofs.Members.{not-in, Below, append-below}
+use Rattle.semantics.proofs.Members.{not-in, append-below}
 use Rattle.answers.specs.declared.Refusal.{Refusal}
 use Rattle.records.specs.Access.{recordsOf}
 use Rattle.records.specs.Orders.{Visiting}

@@ -13,11 +13,10 @@ use Rattle.semantics.specs.Sheet.{Record, GoodRecord}
 use Rattle.semantics.specs.Check.{readSheet, check}
 use Rattle.semantics.specs.Packing.{packFault}
 use Rattle.semantics.specs.Value.{Node, add, sub, neg, mul, nodeOf, recordAt}
-use Rattle.semantics.specs.Walk.{childrenAt, member}
+use Rattle.semantics.specs.Walk.{Mem, childrenAt, member}
 use Rattle.semantics.specs.Monomial.{Monomial, negMonomial, products, combine, working, finished, recordList, listAt}
 use Rattle.semantics.specs.Expand.{workFault, recordFault}
 use Rattle.semantics.proofs.Basics.{by-test, cond-true}
-use Rattle.semantics.proofs.Members.{Mem}
 use Rattle.semantics.proofs.Expansions.{list-at}
 use Rattle.records.specs.declared.Record as declared
 use Rattle.records.specs.Access.{fiveWords, nodeIn, recordsOf}

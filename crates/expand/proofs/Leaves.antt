@@ -16,8 +16,8 @@ use Rattle.semantics.specs.Call.{packCall}
 use Rattle.semantics.specs.Value.{Node, nodeOf}
 use Rattle.semantics.specs.Monomial.{Monomial, working, finished, recordList, above}
 use Rattle.semantics.specs.Expand.{longer, workFault}
+use Rattle.semantics.specs.Lists.{All, Sorted}
 use Rattle.semantics.proofs.Basics.{by-test, and-true, true-and}
-use Rattle.semantics.proofs.Sorting.{All, Sorted}
 use Rattle.semantics.proofs.Records.{fitsRow, isKind, kind-good, words-fit}
 use Rattle.packed_var.specs.declared.Packed.{Packed}
 use Rattle.packed_var.specs.declared.Packed.the-variants.{Var, Refused}

@@ -8,9 +8,9 @@ use lib.Seq.{take-add}
 use Rattle.semantics.specs.Arithmetic.{prime}
 use Rattle.semantics.specs.Answer.{good}
 use Rattle.semantics.specs.Check.{readSheet, check}
-use Rattle.semantics.specs.Walk.{order}
+use Rattle.semantics.specs.Walk.{Below, order}
 use Rattle.semantics.specs.Expand.{expandAll}
-use Rattle.semantics.proofs.Members.{not-in, Below, cons-below}
+use Rattle.semantics.proofs.Members.{not-in, cons-below}
 use Rattle.answers.specs.declared.Refusal.{Refusal}
 use Rattle.records.specs.declared.Interaction.{Interaction}
 use Rattle.records.specs.Access.{recordsOf, part, messageLength, interactionFrom, eachWords, NamesInside, RootsInside, AllRootsInside}

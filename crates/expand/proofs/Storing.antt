@@ -15,10 +15,10 @@ use Rattle.semantics.specs.Check.{readSheet, check}
 use Rattle.semantics.specs.Walk.{member}
 use Rattle.semantics.specs.Monomial.{Monomial, listAt}
 use Rattle.semantics.specs.Expand.{listSize, recordFault, expandRecord, expandAll}
+use Rattle.semantics.specs.Lists.{All}
 use Rattle.semantics.proofs.Basics.{by-test, not-both}
 use Rattle.semantics.proofs.Members.{mem-cases}
 use Rattle.semantics.proofs.Orders.{distinct-length}
-use Rattle.semantics.proofs.Sorting.{All}
 use Rattle.records.specs.Access.{recordsOf}
 use Rattle.records.specs.Orders.{Order}
 use Rattle.records.proofs.Steps.{few-records}

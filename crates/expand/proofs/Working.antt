@@ -8,10 +8,10 @@ use lib.Dec.{ltb}
 use lib.ListN.{length, drop, length-append, length-map}
 use borrow.Author.Tests.{lt-ltb, le-ltb, ltb-true, ltb-false}
 use Rattle.semantics.specs.Arithmetic.{prime}
-use Rattle.semantics.specs.Monomial.{Monomial, negMonomial, mulMonomial, products, combine}
+use Rattle.semantics.specs.Monomial.{Asc, Monomial, negMonomial, mulMonomial, products, combine}
 use Rattle.semantics.specs.Expand.{longer, workFault}
-use Rattle.semantics.proofs.Sorting.{All, all-append, all-map}
-use Rattle.semantics.proofs.Combining.{Asc}
+use Rattle.semantics.specs.Lists.{All}
+use Rattle.semantics.proofs.Sorting.{all-append, all-map}
 use Rattle.monomial.specs.Words.{held, listIn, readList, longestOf, insertAll, signed, Fits, ListFits, Summed}
 use Rattle.expand.specs.Making.{Makes}
 use Rattle.expand.specs.declared.kinds.Made.the-variants.{Held, Fault}

@@ -3,7 +3,7 @@ use mathlib.Core.Path.{_≡_}
 use mathlib.Core.List.{List, [], _∷_}
 use Prim.Native.Nat.{ℕ, _≤_}
 use Rattle.semantics.specs.Monomial.{Monomial}
-use Rattle.semantics.proofs.Sorting.{All}
+use Rattle.semantics.specs.Lists.{All}
 use Rattle.packed_var.specs.declared.Packed.{Packed}
 use Rattle.packed_var.specs.declared.Packed.the-variants.{Var, Refused}
 use Rattle.monomial.specs.Words.{held, Fits}

@@ -9,7 +9,7 @@ use Rattle.semantics.specs.Check.{primeOf, readSheet, check}
 use Rattle.semantics.specs.Walk.{member}
 use Rattle.semantics.specs.Monomial.{Monomial, listAt}
 use Rattle.semantics.specs.Expand.{listSize, expandAll}
-use Rattle.semantics.proofs.Sorting.{All}
+use Rattle.semantics.specs.Lists.{All}
 use Rattle.records.specs.Access.{recordsOf}
 use Rattle.records.specs.Orders.{Order, There}
 use Rattle.monomial.specs.Words.{held, listWords, Fits, Stored}

@@ -12,10 +12,9 @@ use Rattle.semantics.specs.Arithmetic.{prime}
 use Rattle.semantics.specs.Answer.{good}
 use Rattle.semantics.specs.Sheet.{Sheet, recordWords, interactionWords, headWords, encode, lengthOf, place}
 use Rattle.semantics.specs.Check.{readSheet, check}
-use Rattle.semantics.specs.Walk.{member}
+use Rattle.semantics.specs.Walk.{Below, member}
 use Rattle.semantics.specs.Graph.{sortedOnce, graphOf}
 use Rattle.semantics.specs.Call.{zeros, padded}
-use Rattle.semantics.proofs.Members.{Below}
 use Rattle.semantics.proofs.Places.{records-end}
 use Rattle.semantics.proofs.Encoding.{sheet-length, check-inside}
 use Rattle.semantics.proofs.GraphSheets.{graph-shorter}

@@ -8,9 +8,9 @@ use lib.Dec.{eqb}
 use lib.ListN.{length, getD, set}
 use lib.Seq.{ext-getD}
 use borrow.Author.Tests.{eqb-true, eqb-false, ne-eqb, lt-ltb, le-ltb, le-leb, lt-leb}
-use Rattle.semantics.specs.Walk.{member}
+use Rattle.semantics.specs.Walk.{Below, member}
 use Rattle.semantics.specs.Graph.{setNum, insertOnce, sortedOnce}
-use Rattle.semantics.proofs.Members.{mem-here, mem-there, Below}
+use Rattle.semantics.proofs.Members.{mem-here, mem-there}
 use Rattle.records.specs.Access.{part}
 use Rattle.records.proofs.Parts.{part-more}
 use Rattle.nodes.specs.Memory.{tabulate}

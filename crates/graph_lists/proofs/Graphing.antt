@@ -8,19 +8,19 @@ use lib.Seq.{sets}
 use Rattle.semantics.specs.Arithmetic.{prime}
 use Rattle.semantics.specs.Sheet.{Sheet, interactionWords, encode, lengthOf, place}
 use Rattle.semantics.specs.Check.{readSheet}
-use Rattle.semantics.specs.Walk.{member}
+use Rattle.semantics.specs.Walk.{Mem, Below, member}
 use Rattle.semantics.specs.Graph.{Built, built, graphRoots, graphOf, sortedOnce, renamed}
 use Rattle.semantics.proofs.Basics.{by-test}
-use Rattle.semantics.proofs.Members.{Mem, mem-right, mem-getD, Below, map-below}
+use Rattle.semantics.proofs.Members.{mem-right, mem-getD, map-below}
 use Rattle.semantics.proofs.Places.{place-head}
 use Rattle.semantics.proofs.Encoding.{sheet-length}
 use Rattle.semantics.proofs.Access.{constraint-word, words-count}
 use Rattle.semantics.proofs.Orders.{order-closed, order-roots, order-below, order-distinct, distinct-length}
 use Rattle.semantics.proofs.GraphSheets.{constraint-root, graph-roots, sorted-length}
-use Rattle.records.specs.Access.{recordsOf, constraintsAt, interactionsAt, part}
+use Rattle.records.specs.Access.{roots, recordsOf, constraintsAt, interactionsAt, part}
 use Rattle.records.specs.Orders.{Order}
 use Rattle.records.proofs.Steps.{inside, few-records, lows}
-use Rattle.records.proofs.Reading.{roots, counts-small, constraints-are, interactions-stand}
+use Rattle.records.proofs.Reading.{counts-small, constraints-are, interactions-stand}
 use Rattle.nodes.specs.Memory.{tabulate, mark, nodesOut, builtOf}
 use Rattle.nodes.proofs.States as states
 use Rattle.nodes.proofs.Marks.{tabulate-length}

@@ -6,9 +6,10 @@ use native.Mathlib.Omega.{arith}
 use lib.ListN.{length, getD, drop, length-map}
 use Rattle.semantics.specs.Sheet.{Interaction, interactionWords}
 use Rattle.semantics.specs.Graph.{renamed}
-use Rattle.semantics.proofs.Members.{Mem, mem-here, mem-there, mem-left, mem-right, mem-getD}
-use Rattle.records.specs.Access.{messageLength, eachWords}
-use Rattle.records.proofs.Reading.{roots, bus-is, weight-is, count-word, count-is, length-is, message-is, next-stands, interaction-inside, field-word, first-stands}
+use Rattle.semantics.specs.Walk.{Mem}
+use Rattle.semantics.proofs.Members.{mem-here, mem-there, mem-left, mem-right, mem-getD}
+use Rattle.records.specs.Access.{roots, messageLength, eachWords}
+use Rattle.records.proofs.Reading.{bus-is, weight-is, count-word, count-is, length-is, message-is, next-stands, interaction-inside, field-word, first-stands}
 use Rattle.graph_lists.specs.Lists.{nodeNumbers, marksOf, NamedInteraction, NamedInteractions, renamedWords, renamedAll}
 
 -- Two functions that agree on a list.

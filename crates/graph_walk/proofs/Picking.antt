@@ -12,11 +12,10 @@ use Rattle.semantics.specs.Answer.{good}
 use Rattle.semantics.specs.Sheet.{Record, place}
 use Rattle.semantics.specs.Check.{readSheet, check}
 use Rattle.semantics.specs.Value.{Node, nodeOf, recordAt}
-use Rattle.semantics.specs.Walk.{childrenAt}
+use Rattle.semantics.specs.Walk.{Mem, childrenAt}
 use Rattle.semantics.specs.Graph as graph
 use Rattle.semantics.specs.Graph.{Built, nodeFor, pick, addRule, subRule, negRule, mulRule}
 use Rattle.semantics.proofs.Basics.{by-test}
-use Rattle.semantics.proofs.Members.{Mem}
 use Rattle.semantics.proofs.Places.{place-below}
 use Rattle.semantics.proofs.Orders.{distinct-length}
 use Rattle.records.specs.declared.Record as declared

@@ -5,8 +5,7 @@ use Prim.Native.Nat.{ℕ, suc, _+_, _≤_, _<_}
 use native.Mathlib.Omega.{arith}
 use lib.ListN.{length, getD}
 use Rattle.semantics.specs.Sheet.{place}
-use Rattle.semantics.specs.Walk.{childrenAt, foldLeft, visit}
-use Rattle.semantics.proofs.Members.{Below}
+use Rattle.semantics.specs.Walk.{Below, childrenAt, foldLeft, visit}
 use Rattle.records.specs.Access.{recordsOf, part, messageLength, countAt, fieldsAt, rootWords, NamesInside, RootsInside, AllRootsInside}
 use Rattle.records.specs.Orders.{Order}
 use Rattle.records.proofs.Rooting.{order-walk, visiting-none, visiting-both, visiting-name, names-below, names-fewer, roots-below, Passed, passed-none, passed-done, passed-next, passed-more}

@@ -14,9 +14,9 @@ use Rattle.semantics.specs.Arithmetic.{prime}
 use Rattle.semantics.specs.Answer.{good}
 use Rattle.semantics.specs.Sheet.{Record}
 use Rattle.semantics.specs.Check.{readSheet, check}
-use Rattle.semantics.specs.Walk.{childrenAt, member}
+use Rattle.semantics.specs.Walk.{Mem, childrenAt, member}
 use Rattle.semantics.proofs.Basics.{by-test}
-use Rattle.semantics.proofs.Members.{Mem, mem-here, mem-there, mem-cases, mem-either, not-in}
+use Rattle.semantics.proofs.Members.{mem-here, mem-there, mem-cases, mem-either, not-in}
 use Rattle.records.specs.Access.{nodeIn, recordsOf}
 use Rattle.records.specs.Orders.{Visiting}
 use Rattle.records.proofs.Steps.{child-low, child-inside}

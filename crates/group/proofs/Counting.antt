@@ -12,7 +12,8 @@ use Rattle.slices.proofs.Lists.{map-set}
 use Rattle.semantics.specs.Monomial.{beforeVars}
 use Rattle.semantics.specs.Group.{rows}
 use Rattle.semantics.specs.Call.{zeros}
-use Rattle.semantics.proofs.Sorting.{All, all-within}
+use Rattle.semantics.specs.Lists.{All}
+use Rattle.semantics.proofs.Sorting.{all-within}
 use Rattle.semantics.proofs.Order.{beforeVars-trans, beforeVars-total}
 use Rattle.monomial.specs.declared.vars.Order.{Order}
 use Rattle.monomial.specs.declared.vars.Order.the-variants.{Before, Same, After}

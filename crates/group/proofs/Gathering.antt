@@ -6,9 +6,10 @@ use mathlib.Core.List.{List, [], _∷_}
 use Prim.Native.Nat.{ℕ}
 use Rattle.semantics.specs.Monomial.{beforeVars, insertSorted, sort}
 use Rattle.semantics.specs.Group.{Item, later, Group, push, split}
+use Rattle.semantics.specs.Lists.{All}
 use Rattle.semantics.proofs.Basics.{not-both, cond-true, cond-false}
 use Rattle.semantics.proofs.Order.{beforeVars-irrefl, beforeVars-trans, beforeVars-total, beforeVars-asym}
-use Rattle.semantics.proofs.Sorting.{All, sort-all, insert-by, insert-nil, sort-nil, sort-cons}
+use Rattle.semantics.proofs.Sorting.{sort-all, insert-by, insert-nil, sort-nil, sort-cons}
 use Rattle.semantics.proofs.Grouping.{later-asym, later-vars}
 use Rattle.group.specs.Grouped.{byOrder}
 

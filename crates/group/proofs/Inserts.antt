@@ -10,7 +10,7 @@ use lib.Seq.{sets, sets-eq, drop-drop, drop-at, take-append-le, drop-append-le, 
 use Rattle.semantics.specs.Monomial.{beforeVars}
 use Rattle.semantics.specs.Group.{rows}
 use Rattle.semantics.specs.Call.{zeros}
-use Rattle.semantics.proofs.Sorting.{All}
+use Rattle.semantics.specs.Lists.{All}
 use Rattle.semantics.proofs.Calls.{drop-zeros}
 use Rattle.group.specs.declared.Found.the-variants.{Missing}
 use Rattle.group.specs.declared.Tallied.the-variants.{Headers}

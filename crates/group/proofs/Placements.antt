@@ -13,8 +13,9 @@ use Rattle.slices.proofs.Lists.{map-set, flat-length}
 use Rattle.semantics.specs.Monomial.{Monomial}
 use Rattle.semantics.specs.Group.{Item, itemsOf, constraintTerm, interactionTerm, rows}
 use Rattle.semantics.specs.Call.{zeros, padded}
+use Rattle.semantics.specs.Lists.{All}
 use Rattle.semantics.proofs.Basics.{cond-true, cond-false}
-use Rattle.semantics.proofs.Sorting.{All, all-within}
+use Rattle.semantics.proofs.Sorting.{all-within}
 use Rattle.semantics.proofs.Grouping.{constraint-wide, interaction-wide}
 use Rattle.semantics.proofs.Lists.{getD-map}
 use Rattle.semantics.proofs.Calls.{padded-is, padded-length}

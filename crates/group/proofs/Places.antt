@@ -11,7 +11,8 @@ use Rattle.slices.proofs.Lists.{flat-length}
 use Rattle.semantics.specs.Monomial.{beforeVars}
 use Rattle.semantics.specs.Group.{Item, Group, terms}
 use Rattle.semantics.specs.Call.{zeros, padded}
-use Rattle.semantics.proofs.Sorting.{All, all-within}
+use Rattle.semantics.specs.Lists.{All}
+use Rattle.semantics.proofs.Sorting.{all-within}
 use Rattle.semantics.proofs.Calls.{zeros-add, zeros-long, padded-is, padded-length}
 use Rattle.group.specs.Grouped.{byOrder, Tally, select, Ascends, countOf, total, placed, cursors, Room, none}
 use Rattle.group.proofs.Gathering.{Side, side, less-is, more-is, same-is}

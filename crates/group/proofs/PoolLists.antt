@@ -12,8 +12,8 @@ use Rattle.slices.proofs.Lists.{getD-front}
 use Rattle.semantics.specs.Monomial.{Monomial}
 use Rattle.semantics.specs.Expand.{listSize}
 use Rattle.semantics.specs.Group.{Root, itemsOf}
+use Rattle.semantics.specs.Lists.{All}
 use Rattle.semantics.proofs.Basics.{by-test, cond-true, cond-false}
-use Rattle.semantics.proofs.Sorting.{All}
 use Rattle.monomial.specs.Words.{monomialWords, listWords, readMonomial, readList, listIn, Fits, Stored}
 use Rattle.monomial.proofs.ListLaws.{words-cons, size-cons, one-length, words-length, front-count, stored-list, list-in-suc}
 use Rattle.group.specs.Grouped.{Tally, tallyAll, nonZero, Standing, listOf, InPool}

@@ -9,8 +9,9 @@ use native.Mathlib.Omega.{arith}
 use lib.ListN.{length}
 use Rattle.semantics.specs.Monomial.{beforeVars}
 use Rattle.semantics.specs.Group.{Item, Group}
+use Rattle.semantics.specs.Lists.{All}
 use Rattle.semantics.proofs.Order.{beforeVars-trans}
-use Rattle.semantics.proofs.Sorting.{All, all-imply}
+use Rattle.semantics.proofs.Sorting.{all-imply}
 use Rattle.group.specs.Grouped.{byOrder, Tally, tally, tallyAll, select, Ascends, countOf, total}
 use Rattle.group.proofs.Gathering.{Side, side, less-is, more-is, same-is, alone, joined, gather, gathered}
 

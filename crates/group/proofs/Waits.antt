@@ -10,8 +10,9 @@ use lib.ListN.{length, getD, take, drop, set, length-set, length-append, length-
 use lib.Seq.{getD-set-same, getD-set-other, getD-take, drop-cons, take-suc-set, length-take-le}
 use borrow.Author.Tests.{ltb-true, ltb-false}
 use Rattle.semantics.specs.Monomial.{beforeVars}
+use Rattle.semantics.specs.Lists.{All}
 use Rattle.semantics.proofs.Order.{beforeVars-trans, beforeVars-irrefl}
-use Rattle.semantics.proofs.Sorting.{All, all-within}
+use Rattle.semantics.proofs.Sorting.{all-within}
 use Rattle.monomial.specs.declared.vars.Order.{Order}
 use Rattle.monomial.specs.declared.vars.Order.the-variants.{After}
 use Rattle.monomial.specs.Orders.{orderOf}

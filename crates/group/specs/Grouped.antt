@@ -5,11 +5,11 @@ use mathlib.Core.List.{List, [], _∷_, _++_, map, flatMap}
 use Prim.Native.Nat.{ℕ, zero, suc, _+_, _*_, _-_, _≤_, _<_}
 use lib.Dec.{eqb}
 use lib.ListN.{length, getD, take, drop, set}
-use Rattle.semantics.specs.Monomial.{Monomial, beforeVars}
+use Rattle.semantics.specs.Monomial.{BeforeVars, Monomial, beforeVars}
 use Rattle.semantics.specs.Expand.{listSize}
 use Rattle.semantics.specs.Group.{Item, itemsOf, constraintTerm, interactionTerm, rows}
 use Rattle.semantics.specs.Call.{zeros, padded}
-use Rattle.semantics.proofs.Sorting.{All}
+use Rattle.semantics.specs.Lists.{AscendBy, All}
 use Rattle.monomial.specs.Words.{listIn, Stored}
 use Rattle.group.specs.declared.Found.{Found}
 use Rattle.group.specs.declared.Found.the-variants.{There, Missing}
@@ -43,8 +43,7 @@ select v (t ∷ ts) = byOrder v (t .vars) (select v ts) (select v ts) (t ∷ sel
 
 -- Variables ascend strictly.
 abbrev pub Ascends : List Tally → Type 0
-Ascends [] = Unit {0}
-Ascends (g ∷ gs) = All (λ (h : Tally). beforeVars (g .vars) (h .vars) ≡ true) gs × Ascends gs
+Ascends gs = AscendBy BeforeVars (λ (g : Tally). g .vars) gs
 
 -- How many monomials are counted: with these variables, and in all.
 unfoldable pub countOf : List ℕ → List Tally → ℕ

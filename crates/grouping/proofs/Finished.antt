@@ -10,7 +10,7 @@ use lib.Seq.{getD-set-other, getD-set-same, length-take-le, take-add, take-appen
 use Rattle.semantics.specs.Monomial.{Monomial}
 use Rattle.semantics.specs.Group.{Root, Item, itemsOf, rows}
 use Rattle.semantics.specs.Call.{zeros, padded}
-use Rattle.semantics.proofs.Sorting.{All}
+use Rattle.semantics.specs.Lists.{All}
 use Rattle.semantics.proofs.Calls.{zeros-add, zeros-long, padded-is}
 use Rattle.group.specs.Grouped.{Tally, tallyAll, Ascends, total, tallyRow, tallied, RowInside, Rows, column, sum, totalled, cursors, select, placed}
 use Rattle.group.specs.Grouped.{itemsAt, termOf, widthOf, Placing, varsIn, headersOf, Vacant, Rooted, varsNamed}

@@ -15,8 +15,8 @@ use Rattle.semantics.specs.Monomial.{Monomial, listAt}
 use Rattle.semantics.specs.Check.{readSheet}
 use Rattle.semantics.specs.Group.{Root, Item, itemsOf, items, Group, groups, headers, variables, terms, layout, rows}
 use Rattle.semantics.specs.Call.{zeros, padded, firstShort}
+use Rattle.semantics.specs.Lists.{All}
 use Rattle.semantics.proofs.Basics.{cond-true, cond-false}
-use Rattle.semantics.proofs.Sorting.{All}
 use Rattle.semantics.proofs.Grouping.{headers-length}
 use Rattle.semantics.proofs.HeaderSizes.{constraints-few, counts-few, fields-few}
 use Rattle.semantics.proofs.Calls.{padded-is}

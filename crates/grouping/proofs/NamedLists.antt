@@ -6,7 +6,7 @@ use native.Mathlib.Omega.{arith}
 use lib.ListN.{length, getD, take, drop, length-append}
 use lib.Seq.{drop-cons}
 use Rattle.slices.proofs.Lists.{flat-append}
-use Rattle.semantics.proofs.Sorting.{All}
+use Rattle.semantics.specs.Lists.{All}
 use Rattle.records.specs.declared.Interaction.{Interaction}
 use Rattle.records.specs.Access.{recordsOf, part, eachWords, RootsInside, AllRootsInside}
 use Rattle.records.proofs.Takings.{Taken, taken-words, taken-names}

@@ -13,7 +13,7 @@ use Rattle.semantics.specs.Sheet.{Interaction, interactionWords}
 use Rattle.semantics.specs.Check.{readSheet, check}
 use Rattle.semantics.specs.Monomial.{Monomial}
 use Rattle.semantics.specs.Group.{Root, labelled, constraintRoots, countRoots, fieldRoots, Item, itemsOf, items}
-use Rattle.semantics.proofs.Sorting.{All}
+use Rattle.semantics.specs.Lists.{All}
 use Rattle.records.specs.declared.Interaction as places
 use Rattle.records.specs.Access.{recordsOf, constraintsAt, interactionsAt, part, countAt, fieldsAt, countWords, fieldWords, RootsInside, AllRootsInside}
 use Rattle.records.proofs.Reading.{count-word, message-is, next-stands, first-stands, counts-small, constraints-are, constraints-inside, interactions-stand, interactions-inside, counts-are, fields-are}

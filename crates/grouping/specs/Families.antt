@@ -12,7 +12,7 @@ use Rattle.semantics.specs.Monomial.{Monomial, listAt}
 use Rattle.semantics.specs.Expand.{listSize}
 use Rattle.semantics.specs.Group.{Root, labelled, constraintRoots, countRoots, fieldRoots, Item, items, Group, groups, headers, variables, terms, layout}
 use Rattle.semantics.specs.Call.{firstShort}
-use Rattle.semantics.proofs.Sorting.{All}
+use Rattle.semantics.specs.Lists.{All}
 use Rattle.records.specs.declared.Interaction.{Interaction}
 use Rattle.records.specs.Access.{recordsOf, messageLength, interactionFrom, fieldsAt}
 use Rattle.monomial.specs.Words.{Stored}

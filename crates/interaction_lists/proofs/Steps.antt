@@ -13,8 +13,7 @@ use Rattle.semantics.specs.Expand.{expandAll}
 use Rattle.semantics.specs.Group.{Root, Group, countRoots, fieldRoots, interactionTerm, headers, variables, terms, layout}
 use Rattle.semantics.specs.Call.{Result, fitted, firstShort, family, interactionOutputs, maxFieldsLen}
 use Rattle.semantics.proofs.Demands.{count-nodes, field-nodes}
-use Rattle.records.specs.Access.{recordsOf}
-use Rattle.records.proofs.Reading.{counts, fields}
+use Rattle.records.specs.Access.{counts, fields, recordsOf}
 use Rattle.answers.specs.declared.Refusal.{Refusal}
 use Rattle.expand.specs.declared.Expanded.{Expanded}
 use Rattle.expand.specs.declared.Expanded.the-variants as expanded

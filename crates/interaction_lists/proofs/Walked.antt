@@ -7,14 +7,14 @@ use Rattle.semantics.specs.Arithmetic.{prime}
 use Rattle.semantics.specs.Answer.{good}
 use Rattle.semantics.specs.Sheet.{Interaction, GoodInteraction}
 use Rattle.semantics.specs.Check.{readSheet, check}
-use Rattle.semantics.specs.Walk.{order}
+use Rattle.semantics.specs.Walk.{Mem, Below, order}
 use Rattle.semantics.specs.Group.{countRoots, fieldRoots}
-use Rattle.semantics.proofs.Members.{Mem, Below, append-below, cons-below, flat-below, not-in, mem-left, mem-right}
+use Rattle.semantics.proofs.Members.{append-below, cons-below, flat-below, not-in, mem-left, mem-right}
 use Rattle.semantics.proofs.GraphSheets.{interaction-facts}
 use Rattle.semantics.proofs.Demands.{count-nodes, field-nodes}
-use Rattle.records.specs.Access.{recordsOf, interactionsAt, countWords, fieldWords, AllRootsInside}
+use Rattle.records.specs.Access.{counts, fields, recordsOf, interactionsAt, countWords, fieldWords, AllRootsInside}
 use Rattle.records.specs.Orders.{Visiting}
-use Rattle.records.proofs.Reading.{counts, fields, counts-are, fields-are, interactions-stand, interactions-inside}
+use Rattle.records.proofs.Reading.{counts-are, fields-are, interactions-stand, interactions-inside}
 use Rattle.records.proofs.Rooting.{visiting-both}
 use Rattle.records.proofs.Steps.{inside}
 use Rattle.expand.specs.declared.Expanded.{Expanded}

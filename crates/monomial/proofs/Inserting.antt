@@ -9,10 +9,9 @@ use lib.ListN.{length, getD, take, drop, set, length-drop, length-set}
 use lib.Seq.{take-take, take-append-le, drop-at, getD-take, getD-drop, length-take-le}
 use borrow.Author.Tests.{eq-eqb, ne-eqb}
 use Rattle.semantics.specs.Arithmetic.{addM}
-use Rattle.semantics.specs.Monomial.{Monomial, beforeVars, keep, plus, insertMonomial}
+use Rattle.semantics.specs.Monomial.{Asc, Monomial, beforeVars, keep, plus, insertMonomial}
 use Rattle.semantics.proofs.Basics.{cond-true, cond-false}
 use Rattle.semantics.proofs.Order.{beforeVars-irrefl, beforeVars-asym}
-use Rattle.semantics.proofs.Combining.{Asc}
 use Rattle.monomial.specs.Words.{readMonomial, held}
 use Rattle.monomial.specs.Places.{one, varsAt, FirstBefore, RestAfter}
 use Rattle.monomial.proofs.Rows.{take-rows, drop-rows, row-at, row-changed, row-put, row-out, row-set}

@@ -11,7 +11,7 @@ use lib.Seq.{take-append-seam, drop-at, drop-drop}
 use Rattle.slices.proofs.Lists.{flat-append, getD-front}
 use Rattle.semantics.specs.Monomial.{Monomial}
 use Rattle.semantics.specs.Expand.{listSize}
-use Rattle.semantics.proofs.Sorting.{All}
+use Rattle.semantics.specs.Lists.{All}
 use Rattle.monomial.specs.Words.{monomialWords, listWords, readMonomial, readList, listIn, Fits, ListFits, Stored}
 
 pub words-nil : listWords [] ≡ []

@@ -9,8 +9,9 @@ use lib.ListN.{length, getD, take, drop, set, length-map, List·getD-map}
 use lib.Seq.{drop-cons, take-suc-set}
 use borrow.Author.Tests.{ltb-true, ltb-false, lt-ltb, le-ltb}
 use Rattle.semantics.specs.Monomial.{above, insertSorted, sort}
+use Rattle.semantics.specs.Lists.{All, Ahead, Sorted}
 use Rattle.semantics.proofs.Basics.{by-test, cond-true, cond-false}
-use Rattle.semantics.proofs.Sorting.{All, all-append, Ahead, Sorted, insert-nil, sort-nil, sort-cons, sort-all}
+use Rattle.semantics.proofs.Sorting.{all-append, insert-nil, sort-nil, sort-cons, sort-all}
 use Rattle.packed_var.specs.declared.PackedVar.{PackedVar}
 use Rattle.monomial.specs.Words.{num, nums}
 use Rattle.monomial.specs.Merged.{merged}

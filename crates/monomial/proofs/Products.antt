@@ -7,7 +7,7 @@ use native.Mathlib.Omega.{arith}
 use lib.ListN.{length, take, drop, length-take}
 use Rattle.semantics.specs.Arithmetic.{prime}
 use Rattle.semantics.specs.Monomial.{Monomial, mulMonomial, products}
-use Rattle.semantics.proofs.Sorting.{All}
+use Rattle.semantics.specs.Lists.{All}
 use Rattle.monomial.specs.Words.{readMonomial, listIn, longestOf, held, insertAll, Fits, ListFits, Summed}
 use Rattle.monomial.proofs.Canons.{sum-nil, sum-append, asc-sum, fits-sum, fits-product}
 use Rattle.monomial.proofs.ListLaws.{varsIn, left-cons, left-rest, left-all, none-left}

@@ -9,9 +9,8 @@ use native.Mathlib.Omega.{arith}
 use lib.ListN.{length, getD, take, drop}
 use lib.Seq.{take-all, getD-take, getD-drop, drop-drop}
 use Rattle.slices.proofs.Lists.{take-min}
-use Rattle.semantics.specs.Monomial.{Monomial, beforeVars}
+use Rattle.semantics.specs.Monomial.{Above, Asc, Monomial, beforeVars}
 use Rattle.semantics.proofs.Order.{beforeVars-trans}
-use Rattle.semantics.proofs.Combining.{Above, Asc}
 use Rattle.monomial.specs.Words.{readMonomial, held}
 use Rattle.monomial.specs.declared.vars.Order.{Order}
 use Rattle.monomial.specs.declared.vars.Order.the-variants.{Before, Same, After}

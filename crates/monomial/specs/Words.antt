@@ -6,11 +6,10 @@ use Prim.Native.Nat.{ℕ, zero, suc, _+_, _*_, _≤_, _<_, max}
 use lib.ListN.{length, getD, take, drop}
 use Rattle.semantics.specs.Arithmetic.{prime}
 use Rattle.semantics.specs.Monomial as semantics
-use Rattle.semantics.specs.Monomial.{above, insertMonomial, negMonomial}
+use Rattle.semantics.specs.Monomial.{Asc, above, insertMonomial, negMonomial}
 use Rattle.semantics.specs.Expand.{listSize}
 use Rattle.semantics.specs.Group.{rows}
-use Rattle.semantics.proofs.Sorting.{All, Sorted}
-use Rattle.semantics.proofs.Combining.{Asc}
+use Rattle.semantics.specs.Lists.{All, Sorted}
 use Rattle.packed_var.specs.declared.PackedVar.{PackedVar}
 use Rattle.monomial.specs.declared.Monomial.{Monomial}
 

@@ -4,7 +4,7 @@ ghost use mathlib.Core.Path.{_≡_};
 ghost use Prim.Native.Nat.{_+_, _≤_};
 ghost use Rattle.semantics.specs.Arithmetic.{prime};
 ghost use Rattle.semantics.specs.Monomial.{above, mulMonomial, negMonomial};
-ghost use Rattle.semantics.proofs.Sorting.{Sorted};
+ghost use Rattle.semantics.specs.Lists.{Sorted};
 ghost use Rattle.monomial.specs.Words.{monomialOf};
 
 mod list_steps;

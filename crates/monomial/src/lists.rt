@@ -6,7 +6,7 @@ ghost use lib.ListN.{length, drop};
 ghost use Rattle.semantics.specs.Arithmetic.{prime};
 ghost use Rattle.semantics.specs.Monomial.{negMonomial, products, insertMonomial};
 ghost use Rattle.semantics.specs.Expand.{listSize};
-ghost use Rattle.semantics.proofs.Sorting.{All};
+ghost use Rattle.semantics.specs.Lists.{All};
 ghost use Rattle.monomial.specs.Words.{monomialOf, held, listIn, listWords, longestOf, insertAll, signed, Fits, ListFits, Summed};
 use crate::Monomial;
 use crate::list_steps::combine_row;

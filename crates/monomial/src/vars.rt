@@ -5,7 +5,7 @@ ghost use mathlib.Core.List.{_∷_, _++_};
 ghost use Prim.Native.Nat.{_+_, _-_, _≤_, _<_};
 ghost use lib.ListN.{length, take, drop};
 ghost use Rattle.semantics.specs.Monomial.{sort, above};
-ghost use Rattle.semantics.proofs.Sorting.{Sorted};
+ghost use Rattle.semantics.specs.Lists.{Sorted};
 ghost use Rattle.monomial.specs.Words.{num, nums};
 ghost use Rattle.monomial.specs.Merged.{merged};
 ghost use Rattle.monomial.specs.Orders.{orderOf};

@@ -9,10 +9,10 @@ use lib.ListN.{length, getD, List·getD-append}
 use borrow.Author.Tests.{ltb-true}
 use Rattle.semantics.specs.Sheet.{Record, Each}
 use Rattle.semantics.specs.Value.{nodeOf, noRecord, recordAt}
-use Rattle.semantics.specs.Walk.{children, childrenAt}
+use Rattle.semantics.specs.Walk.{Mem, children, childrenAt}
 use Rattle.semantics.specs.Graph.{equalRecords, find, intern}
 use Rattle.semantics.proofs.Basics.{by-test}
-use Rattle.semantics.proofs.Members.{Mem, mem-here, mem-there}
+use Rattle.semantics.proofs.Members.{mem-here, mem-there}
 use Rattle.semantics.proofs.Records.{LowRecord}
 use Rattle.semantics.proofs.Orders.{low}
 use Rattle.semantics.proofs.Graphs.{equal-is, find-le}

@@ -9,8 +9,8 @@ use lib.ListN.{length, getD}
 use Rattle.semantics.specs.Arithmetic.{prime}
 use Rattle.semantics.specs.Answer.{good}
 use Rattle.semantics.specs.Check.{readSheet, check}
-use Rattle.semantics.specs.Walk.{member}
-use Rattle.semantics.proofs.Members.{Mem, cons-below}
+use Rattle.semantics.specs.Walk.{Mem, member}
+use Rattle.semantics.proofs.Members.{cons-below}
 use Rattle.semantics.proofs.Orders.{distinct-length}
 use Rattle.semantics.proofs.Graphs.{Done, Good, build-good}
 use Rattle.records.specs.Access.{recordsOf}

@@ -6,8 +6,7 @@ use lib.ListN.{length}
 use Rattle.semantics.specs.Arithmetic.{prime}
 use Rattle.semantics.specs.Answer.{good}
 use Rattle.semantics.specs.Check.{readSheet, check}
-use Rattle.semantics.specs.Walk.{childrenAt}
-use Rattle.semantics.proofs.Members.{Mem}
+use Rattle.semantics.specs.Walk.{Mem, childrenAt}
 use Rattle.records.specs.declared.Record as declared
 use Rattle.records.specs.Access.{nodeIn, recordsOf}
 use Rattle.records.proofs.Visits.{none-is, one-is, two-is, has-a}

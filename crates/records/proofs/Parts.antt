@@ -6,7 +6,8 @@ use native.Mathlib.Omega.{arith}
 use native.Mathlib.Numerals.{add-one}
 use lib.ListN.{length, getD, take, drop, length-take, length-drop}
 use lib.Seq.{take-suc, getD-drop}
-use Rattle.semantics.proofs.Members.{Mem, not-in, Below, cons-below, append-below}
+use Rattle.semantics.specs.Walk.{Mem, Below}
+use Rattle.semantics.proofs.Members.{not-in, cons-below, append-below}
 use Rattle.records.specs.Access.{part}
 
 -- One more name.

@@ -15,7 +15,7 @@ use Rattle.semantics.proofs.Encoding.{head-limits, check-sound, sheet-back}
 use Rattle.semantics.proofs.Access.{spare, words-are, words-count, count-words, constraint-word, interactions-from}
 use Rattle.semantics.proofs.Members.{mem-getD}
 use Rattle.semantics.proofs.GraphSheets.{named-below, interaction-facts}
-use Rattle.records.specs.Access.{recordsOf, constraintsAt, interactionsAt, part, messageLength, eachWords, countAt, fieldsAt, rootWords, countWords, fieldWords, NamesInside, AllRootsInside}
+use Rattle.records.specs.Access.{rootsOf, roots, counts, fields, recordsOf, constraintsAt, interactionsAt, part, messageLength, eachWords, countAt, fieldsAt, rootWords, countWords, fieldWords, NamesInside, AllRootsInside}
 use Rattle.records.proofs.Steps.{inside}
 
 -- The sheet that was found is the one that the words read as.
@@ -23,19 +23,6 @@ pub read-found : (ws : List ℕ) (t : Sheet) → check prime ws ≡ good t → t
 read-found ws t e =
     let w = check-sound prime ws t e .1 in
     sym (ap readSheet (w .2) ∙ sheet-back t (replicate (w .0) 0))
-
--- The records that interactions name: the fields of each before its count; the counts alone; the fields alone.
-abbrev pub rootsOf : Interaction → List ℕ
-rootsOf x = x .message ++ (x .count ∷ [])
-
-abbrev pub roots : List Interaction → List ℕ
-roots xs = flatMap rootsOf xs
-
-abbrev pub counts : List Interaction → List ℕ
-counts xs = flatMap (λ (x : Interaction). x .count ∷ []) xs
-
-abbrev pub fields : List Interaction → List ℕ
-fields xs = flatMap (λ (x : Interaction). x .message) xs
 
 -- One interaction at `at`.
 module _ (ws : List ℕ) (at : ℕ) (x : Interaction) (tail : List ℕ) (e : drop at ws ≡ interactionWords x ++ tail) where

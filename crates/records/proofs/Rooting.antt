@@ -7,9 +7,9 @@ use lib.ListN.{length, getD}
 use Rattle.semantics.specs.Arithmetic.{prime}
 use Rattle.semantics.specs.Answer.{good}
 use Rattle.semantics.specs.Check.{readSheet, check}
-use Rattle.semantics.specs.Walk.{childrenAt, foldLeft, visit}
+use Rattle.semantics.specs.Walk.{Below, childrenAt, foldLeft, visit}
 use Rattle.semantics.proofs.Walks.{visit-fuel}
-use Rattle.semantics.proofs.Members.{mem-here, mem-there, not-in, Below, append-below}
+use Rattle.semantics.proofs.Members.{mem-here, mem-there, not-in, append-below}
 use Rattle.records.specs.Access.{recordsOf, part, messageLength, eachWords, countAt, fieldsAt, NamesInside, RootsInside, AllRootsInside}
 use Rattle.records.specs.Orders.{Order, Visiting}
 use Rattle.records.proofs.Steps.{child-low, order-visit}

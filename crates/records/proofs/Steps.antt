@@ -10,8 +10,8 @@ use Rattle.semantics.specs.Arithmetic.{prime}
 use Rattle.semantics.specs.Answer.{good}
 use Rattle.semantics.specs.Sheet.{Each, Inside}
 use Rattle.semantics.specs.Check.{readSheet, check}
-use Rattle.semantics.specs.Walk.{childrenAt, member, visit, Reaches}
-use Rattle.semantics.proofs.Members.{Mem, cons-below}
+use Rattle.semantics.specs.Walk.{Mem, childrenAt, member, visit, Reaches}
+use Rattle.semantics.proofs.Members.{cons-below}
 use Rattle.semantics.proofs.Records.{LowRecord, each-low}
 use Rattle.semantics.proofs.Encoding.{check-inside, head-limits}
 use Rattle.semantics.proofs.Walks.{visit-closed, visit-distinct, visit-reach, reach-le}

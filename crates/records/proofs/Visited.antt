@@ -11,9 +11,8 @@ use lib.ListN.{length}
 use Rattle.semantics.specs.Arithmetic.{prime}
 use Rattle.semantics.specs.Answer.{good}
 use Rattle.semantics.specs.Check.{readSheet, check}
-use Rattle.semantics.specs.Walk.{childrenAt, member, foldLeft, visit, Reaches}
+use Rattle.semantics.specs.Walk.{Mem, Below, childrenAt, member, foldLeft, visit, Reaches}
 use Rattle.semantics.proofs.Basics.{not-both}
-use Rattle.semantics.proofs.Members.{Mem, Below}
 use Rattle.semantics.proofs.Walks.{fold-keeps, fold-same, by-seen, visit-has, fold-has, visit-fuel, visit-reach, reach-le}
 use Rattle.semantics.proofs.Orders.{not-mem}
 use Rattle.records.specs.Access.{recordsOf}

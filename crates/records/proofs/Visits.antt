@@ -13,10 +13,10 @@ use Rattle.semantics.specs.Answer.{good}
 use Rattle.semantics.specs.Sheet.{Record, recordWords, place, GoodRecord}
 use Rattle.semantics.specs.Check.{readSheet, check}
 use Rattle.semantics.specs.Value.{Node, nodeOf, noRecord, recordAt}
-use Rattle.semantics.specs.Walk.{children, childrenAt}
+use Rattle.semantics.specs.Walk.{Mem, children, childrenAt}
 use Rattle.semantics.proofs.Basics.{by-test, and-true}
 use Rattle.semantics.proofs.Lists.{each-zero}
-use Rattle.semantics.proofs.Members.{Mem, mem-here, mem-there}
+use Rattle.semantics.proofs.Members.{mem-here, mem-there}
 use Rattle.semantics.proofs.Records.{isKind, kind-good}
 use Rattle.semantics.proofs.Places.{place-below}
 use Rattle.semantics.proofs.Access.{record-word, words-count}

@@ -1,5 +1,5 @@
 -- Where a sheet's records, constraints and interactions stand in its words (01, "The sheet").
-use mathlib.Core.List.{List, [], _++_}
+use mathlib.Core.List.{List, [], _∷_, _++_, flatMap}
 use Prim.Native.Nat.{ℕ, zero, suc, _+_, _≤_, _<_}
 use lib.ListN.{length, getD, take, drop}
 use Rattle.semantics.specs.Sheet as semantics
@@ -75,3 +75,16 @@ pub record RootsInside (bound : ℕ) (ws : List ℕ) (at : ℕ) : Type 0 where
 abbrev pub AllRootsInside : (bound : ℕ) (ws : List ℕ) (at n : ℕ) → Type 0
 AllRootsInside bound ws at zero = Unit {0}
 AllRootsInside bound ws at (suc n) = RootsInside bound ws at × AllRootsInside bound ws (at + (4 + messageLength ws at)) n
+
+-- The records that interactions name: the fields of each before its count; the counts alone; the fields alone.
+abbrev pub rootsOf : semantics.Interaction → List ℕ
+rootsOf x = x .message ++ (x .count ∷ [])
+
+abbrev pub roots : List semantics.Interaction → List ℕ
+roots xs = flatMap rootsOf xs
+
+abbrev pub counts : List semantics.Interaction → List ℕ
+counts xs = flatMap (λ (x : semantics.Interaction). x .count ∷ []) xs
+
+abbrev pub fields : List semantics.Interaction → List ℕ
+fields xs = flatMap (λ (x : semantics.Interaction). x .message) xs

@@ -4,9 +4,7 @@ use mathlib.Core.Bool.{true}
 use mathlib.Core.List.{List}
 use Prim.Native.Nat.{ℕ}
 use lib.ListN.{length}
-use Rattle.semantics.specs.Walk.{childrenAt, member, foldLeft, visit, Distinct}
-use Rattle.semantics.proofs.Members.{Below}
-use Rattle.semantics.proofs.Walks.{Closed}
+use Rattle.semantics.specs.Walk.{Below, Closed, childrenAt, member, foldLeft, visit, Distinct}
 use Rattle.records.specs.Access.{recordsOf}
 
 -- An order so far: children before parents, each once, records of the sheet.

@@ -12,14 +12,13 @@ use Rattle.semantics.specs.Sheet.{Record}
 use Rattle.semantics.specs.Check.{Scan, reading, stopped, scanWords, scanPart, scanParts, scanSpare, scanSheet, judged, check}
 use Rattle.semantics.specs.Packing.{packFault}
 use Rattle.semantics.specs.Value.{recordAt}
-use Rattle.semantics.specs.Walk.{member}
+use Rattle.semantics.specs.Walk.{Mem, member}
 use Rattle.semantics.specs.Monomial.{Monomial}
 use Rattle.semantics.specs.Expand.{longer, workFault, recordFault, expandRecord, expandAll}
 use Rattle.semantics.specs.Call.{Result, Accepted, outcome, needs, result, firstShort, fitted}
 use Rattle.semantics.specs.Refusals.{ofSheet}
+use Rattle.semantics.specs.Lists.{All}
 use Rattle.semantics.proofs.Basics.{by-test, not-both}
-use Rattle.semantics.proofs.Members.{Mem}
-use Rattle.semantics.proofs.Sorting.{All}
 use Rattle.semantics.proofs.Encoding.{good-injective, refused≢good}
 
 -- A refusal's number has the property; the property of each number that a step names is then enough.

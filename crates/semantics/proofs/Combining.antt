@@ -6,11 +6,12 @@ use Prim.Native.Nat.{ℕ, _<_}
 use lib.Dec.{eqb}
 use borrow.Author.Tests.{eqb-true, eqb-false}
 use Rattle.semantics.specs.Arithmetic.{addM}
-use Rattle.semantics.specs.Monomial.{Monomial, beforeVars, keep, plus, insertMonomial, combine}
+use Rattle.semantics.specs.Monomial.{Above, Asc, Monomial, beforeVars, keep, plus, insertMonomial, combine}
+use Rattle.semantics.specs.Lists.{All}
 use Rattle.semantics.proofs.Basics.{by-test}
 use Rattle.semantics.proofs.Arithmetic.{addM-lt, zero-addM, zero-mulM, addM-mulM, sums}
 use Rattle.semantics.proofs.Order.{beforeVars-trans, beforeVars-total}
-use Rattle.semantics.proofs.Sorting.{All, all-imply}
+use Rattle.semantics.proofs.Sorting.{all-imply}
 use Rattle.semantics.proofs.Monomials.{one, val, val-cons, val-one, val-lt}
 
 -- What holds of an insertion, by the three cases of its first step.
@@ -52,14 +53,7 @@ module _ (p : ℕ) (big : 1 < p) (w : List ℕ → ℕ) where
     | x ∷ (t → ih) ↦ simp (val-insert, val-cons, ih)
   ]
 
--- Every monomial of a list stands after `v`; a list ascends strictly; it has no coefficient 0.
-abbrev pub Above : List ℕ → List Monomial → Type 0
-Above v xs = All (λ (x : Monomial). beforeVars v (x .vars) ≡ true) xs
-
-abbrev pub Asc : List Monomial → Type 0
-Asc [] = Unit {0}
-Asc (x ∷ xs) = Above (x .vars) xs × Asc xs
-
+-- A list has no coefficient 0.
 abbrev pub NoZero : List Monomial → Type 0
 NoZero [] = Unit {0}
 NoZero (x ∷ xs) = (x .coef ≡ 0 → ⊥) × NoZero xs

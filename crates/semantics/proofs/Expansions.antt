@@ -12,12 +12,12 @@ use Rattle.semantics.specs.Answer.{Answer, good, refused, andThen}
 use Rattle.semantics.specs.Sheet.{Record, Each, GoodRecord}
 use Rattle.semantics.specs.Packing.{packed, packFault, unpacked}
 use Rattle.semantics.specs.Value.{Leaf, Node, leaf, const, add, sub, neg, mul, leafOf, nodeOf, noRecord, recordAt, fill, nodeValue, valueAt}
-use Rattle.semantics.specs.Walk.{children, childrenAt}
+use Rattle.semantics.specs.Walk.{Mem, Closed, children, childrenAt}
 use Rattle.semantics.specs.Monomial.{Monomial, working, finished, recordList, lists, listAt}
 use Rattle.semantics.specs.Expand.{recordFault, expandRecord, expandAll}
 use Rattle.semantics.specs.Demand.{productOf}
 use Rattle.semantics.proofs.Basics.{by-test}
-use Rattle.semantics.proofs.Members.{Mem, mem-here, mem-there, mem-cases, not-in}
+use Rattle.semantics.proofs.Members.{mem-here, mem-there, mem-cases, not-in}
 use Rattle.semantics.proofs.Arithmetic.{addM-zero, mulM-one, one-mulM, subM-add}
 use Rattle.semantics.proofs.Monomials.{one, val, val-append, val-neg, val-mul}
 use Rattle.semantics.proofs.Combining.{val-combine}
@@ -26,7 +26,6 @@ use Rattle.semantics.proofs.Passes.{fill-at}
 use Rattle.semantics.proofs.Encoding.{refused≢good}
 use Rattle.semantics.proofs.Packed.{leaf-back}
 use Rattle.semantics.proofs.Records.{LowNode, LowRecord, each-low, good-value, value-at}
-use Rattle.semantics.proofs.Walks.{Closed}
 
 -- A record's list is made of its children's.
 module _ (p : ℕ) where

@@ -8,13 +8,14 @@ use native.Mathlib.Omega.{arith}
 use lib.Dec.{ltb, leb}
 use lib.ListN.{length, getD, replicate, length-append, length-map}
 use borrow.Author.Tests.{ltb-true, ltb-false, leb-true, lt-ltb, le-leb}
+use Rattle.semantics.specs.Lists.{All, AscendBy}
 use Rattle.semantics.specs.Sheet.{Interaction, Sheet, interactionWords, headWords, lengthOf, place, names, interactionTests, headTests, passes, Each, Named, GoodInteraction, Inside}
 use Rattle.semantics.specs.Value.{Leaf, valueAt}
-use Rattle.semantics.specs.Walk.{order}
+use Rattle.semantics.specs.Walk.{Mem, Below, order}
 use Rattle.semantics.specs.Graph.{graphRoots, built, insertOnce, sortedOnce, renamed, graphOf}
 use Rattle.semantics.specs.Demand.{Assignment, noInteraction, constraintAt, interactionAt, fieldAt}
 use Rattle.semantics.proofs.Basics.{by-test, and-true, true-and}
-use Rattle.semantics.proofs.Members.{Mem, mem-here, mem-there, mem-cases, not-in, mem-left, mem-right, mem-either, mem-getD, Below, cons-below, append-below, flat-mem, flat-below, place-of, mem-map, map-below}
+use Rattle.semantics.proofs.Members.{mem-here, mem-there, mem-cases, not-in, mem-left, mem-right, mem-either, mem-getD, cons-below, append-below, flat-mem, flat-below, place-of, mem-map, map-below}
 use Rattle.semantics.proofs.Lists.{getD-map}
 use Rattle.semantics.proofs.Places.{place-most}
 use Rattle.semantics.proofs.Encoding.{sheet-length, head-limits}
@@ -175,12 +176,10 @@ renamed-length f (x ∷ xs) =
 
 -- Sorted once, numbers ascend strictly.
 abbrev pub Over : ℕ → List ℕ → Type 0
-Over n [] = Unit {0}
-Over n (x ∷ xs) = (n < x) × Over n xs
+Over n xs = All (λ (x : ℕ). n < x) xs
 
 abbrev pub Ascends : List ℕ → Type 0
-Ascends [] = Unit {0}
-Ascends (x ∷ xs) = Over x xs × Ascends xs
+Ascends xs = AscendBy _<_ (λ (x : ℕ). x) xs
 
 over-less : (m n : ℕ) (xs : List ℕ) → m < n → Over n xs → Over m xs
 over-less m n [] h k = tt

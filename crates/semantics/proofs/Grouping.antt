@@ -13,18 +13,19 @@ use Rattle.slices.proofs.Lists.{flat-length}
 use Rattle.semantics.specs.Arithmetic.{addM, mulM}
 use Rattle.semantics.specs.Sheet.{Interaction, Sheet}
 use Rattle.semantics.specs.Value.{Leaf}
-use Rattle.semantics.specs.Monomial.{Monomial, before, beforeVars, sort}
+use Rattle.semantics.specs.Monomial.{BeforeVars, Monomial, before, beforeVars, sort}
 use Rattle.semantics.specs.Group.{Root, labelled, constraintRoots, countRoots, fieldRoots, Item, itemsOf, items, key, later}
 use Rattle.semantics.specs.Group.{Group, push, split, groups, constraintTerm, interactionTerm}
 use Rattle.semantics.specs.Group.{headers, variables, terms, rows, Listed, listedAt, listed}
 use Rattle.semantics.specs.Demand.{productOf, sumTerms, sumOf, ofConstraint, ofCount, ofField, first, second}
-use Rattle.semantics.specs.Demand.{AllAfter, Ascending, NonZero, noInteraction, constraintAt, interactionAt, fieldAt}
+use Rattle.semantics.specs.Demand.{Ascending, NonZero, noInteraction, constraintAt, interactionAt, fieldAt}
+use Rattle.semantics.specs.Lists.{All, Ahead, Sorted}
 use Rattle.semantics.proofs.Basics.{by-test, not-both}
 use Rattle.semantics.proofs.Arithmetic.{addM-lt, mulM-lt, addM-zero, zero-addM, zero-mulM, addM-assoc, sums}
 use Rattle.semantics.proofs.Order.{lex-inv, lex-head, lex-tail, lex-irrefl, lex-trans, lex-total, beforeVars-trans, beforeVars-total}
 use Rattle.semantics.proofs.Monomials.{val, val-cons, val-one, val-lt}
 use Rattle.semantics.proofs.Combining.{Small}
-use Rattle.semantics.proofs.Sorting.{All, all-append, sort-all, sort-same, Ahead, Sorted, sorted-sort}
+use Rattle.semantics.proofs.Sorting.{all-imply, all-append, sort-all, sort-same, sorted-sort}
 
 -- A group as it reads.
 unfoldable pub shown : (Item → List ℕ) → Group → Listed
@@ -160,9 +161,10 @@ unfolding split
 split-first [] = tt
 split-first (t ∷ ts) = push-first t ts (split ts)
 
-after-trans : (u v : List ℕ) (hs : List Listed) → beforeVars u v ≡ true → AllAfter v hs → AllAfter u hs
-after-trans u v [] h k = tt
-after-trans u v (x ∷ hs) h k = (beforeVars-trans u v (x .vars) h (k .0), after-trans u v hs h (k .1))
+after-trans : (u v : List ℕ) (hs : List Listed) → BeforeVars u v → All (λ (h : Listed). BeforeVars v (h .vars)) hs
+    → All (λ (h : Listed). BeforeVars u (h .vars)) hs
+after-trans u v hs e =
+    all-imply (λ (h : Listed). BeforeVars v (h .vars)) (λ (h : Listed). BeforeVars u (h .vars)) (λ h. beforeVars-trans u v (h .vars) e) hs
 
 module _ (term : Item → List ℕ) where
   push-ascends : (t : Item) (ts : List Item) (gs : List Group) → Ahead later t ts → First ts gs

@@ -9,11 +9,8 @@ use lib.Dec.{eqb}
 use lib.ListN.{length, getD}
 use borrow.Author.Tests.{eqb-true, eq-eqb}
 use Rattle.semantics.specs.Sheet.{Each}
-use Rattle.semantics.specs.Walk.{member}
+use Rattle.semantics.specs.Walk.{Mem, Below, member}
 use Rattle.semantics.proofs.Basics.{by-test}
-
-abbrev pub Mem : ℕ → List ℕ → Type 0
-Mem x s = member x s ≡ true
 
 pub mem-here : (x : ℕ) (s : List ℕ) → Mem x (x ∷ s)
 unfolding member
@@ -58,10 +55,6 @@ pub mem-getD : (l : List ℕ) (j : ℕ) → j < length l → Mem (getD l j 0) l
 mem-getD [] j h = absurd (omega arith)
 mem-getD (x ∷ l) zero h = mem-here x l
 mem-getD (x ∷ l) (suc j) h = mem-there (getD l j 0) x l (mem-getD l j (omega arith))
-
--- Numbers below n.
-abbrev pub Below : ℕ → List ℕ → Type 0
-Below n s = (x : ℕ) → Mem x s → x < n
 
 pub cons-below : (b n : ℕ) (xs : List ℕ) → n < b → Below b xs → Below b (n ∷ xs)
 cons-below b n xs h w y m = go (mem-cases y n xs m)

@@ -10,12 +10,12 @@ use lib.ListN.{length, getD, List·getD-eq-default}
 use borrow.Author.Tests.{eqb-true, eqb-false, ltb-true, ltb-false}
 use Rattle.semantics.specs.Sheet.{Record, Each}
 use Rattle.semantics.specs.Value.{Node, leaf, const, add, sub, neg, mul, nodeOf, noRecord, recordAt}
-use Rattle.semantics.specs.Walk.{children, childrenAt, member, visit, order, Reaches, Distinct}
+use Rattle.semantics.specs.Walk.{Mem, Below, Closed, children, childrenAt, member, visit, order, Reaches, Distinct}
 use Rattle.semantics.proofs.Basics.{by-test, not-both}
-use Rattle.semantics.proofs.Members.{Mem, mem-here, mem-there, mem-cases, not-in, Below, cons-below}
+use Rattle.semantics.proofs.Members.{mem-here, mem-there, mem-cases, not-in, cons-below}
 use Rattle.semantics.proofs.Lists.{each-zero}
 use Rattle.semantics.proofs.Records.{LowNode, LowRecord}
-use Rattle.semantics.proofs.Walks.{fold-keeps, fold-has, Closed, visit-closed, fold-reach, visit-reach, closed-reach, reach-le, visit-distinct}
+use Rattle.semantics.proofs.Walks.{fold-keeps, fold-has, visit-closed, fold-reach, visit-reach, closed-reach, reach-le, visit-distinct}
 
 two-below : (n x y : ℕ) → x < n → y < n → Below n (x ∷ y ∷ [])
 two-below n x y h k = cons-below n x (y ∷ []) h (cons-below n y [] k (λ c m. not-in c m))

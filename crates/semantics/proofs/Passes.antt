@@ -7,7 +7,8 @@ use lib.ListN.{length, getD, length-append, List·getD-append}
 use lib.Seq.{getD-at}
 use Rattle.semantics.specs.Sheet.{Each}
 use Rattle.semantics.specs.Value.{fill}
-use Rattle.semantics.proofs.Sorting.{All, all-append, all-at}
+use Rattle.semantics.specs.Lists.{All}
+use Rattle.semantics.proofs.Sorting.{all-append, all-at}
 
 module _ {R X : Type 0} (step : R → (ℕ → X) → X) (d : X) where
   pub fill-length : (done : List X) (rs : List R) → length (fill step d done rs) ≡ length done + length rs

@@ -12,16 +12,17 @@ use Rattle.semantics.specs.Sheet.{Record, Sheet, recordWords, table, row
 use Rattle.semantics.specs.Check.{check}
 use Rattle.semantics.specs.Block.{blockGood, blockCheck, badLength, readBlocks}
 use Rattle.semantics.specs.Packing.{packFault, leafTests, packRecord, pack, handsOut, unpacked, unpack}
-use Rattle.semantics.specs.Walk.{member, order}
+use Rattle.semantics.specs.Walk.{Mem, member, order}
 use Rattle.semantics.specs.Expand.{expandAll}
 use Rattle.semantics.specs.Graph.{graphOf, maxRotation}
 use Rattle.semantics.specs.Group.{Root}
 use Rattle.semantics.specs.Call.{Result, outcome, needs, result, onSheet, fitted, expansion}
 use Rattle.semantics.specs.Call.{blockCheckCall, readerCall, writerCall, checkCall, builderCall, maxRotationCall, numConstraintsCall, conversionCall, packCall, variableCall, unpackCall, constraintCall, interactionCall}
 use Rattle.semantics.specs.Refusals.{Sends, ofSheet, ofExpansion, Refusals}
+use Rattle.semantics.specs.Lists.{All}
 use Rattle.semantics.proofs.Basics.{by-test}
-use Rattle.semantics.proofs.Members.{Mem, mem-there}
-use Rattle.semantics.proofs.Sorting.{All, all-at}
+use Rattle.semantics.proofs.Members.{mem-there}
+use Rattle.semantics.proofs.Sorting.{all-at}
 use Rattle.semantics.proofs.Acceptance.{Sent, Within, words-there, judged-sent, check-sent, then-sent, result-sent, needs-sent, pack-fault, walk-sent, fitted-sent}
 
 -- The number of a call's reply is 0 or that of its refusal.

@@ -5,13 +5,9 @@ use mathlib.Core.List.{List, [], _∷_, _++_, map}
 use Prim.Native.Nat.{ℕ, zero, suc, _<_}
 use native.Mathlib.Omega.{arith}
 use lib.ListN.{length, getD}
+use Rattle.semantics.specs.Lists.{All, Ahead, Sorted}
 use Rattle.semantics.specs.Monomial.{insertSorted, sort}
 use Rattle.semantics.proofs.Basics.{by-test, not-both}
-
--- A property of every element.
-abbrev pub All : {X : Type 0} → (X → Type 0) → List X → Type 0
-All P [] = Unit {0}
-All P (x ∷ xs) = P x × All P xs
 
 pub all-append : {X : Type 0} (P : X → Type 0) (xs ys : List X) → All P xs → All P ys → All P (xs ++ ys)
 all-append P [] ys h k = k
@@ -83,14 +79,6 @@ module _ {X : Type 0} (after : X → X → Bool) where
       | x ∷ (t → ih) ↦ ap F (sort-cons x t) ∙ insert-same x (sort after t) ∙ rest x (sort after t) t ih
     ]
 
-  -- Sorted: no element is after one that stands behind it.
-  abbrev pub Ahead : X → List X → Type 0
-  Ahead x ys = All (λ (y : X). after x y ≡ false) ys
-
-  abbrev pub Sorted : List X → Type 0
-  Sorted [] = Unit {0}
-  Sorted (x ∷ xs) = Ahead x xs × Sorted xs
-
   module _ (asym : (x y : X) → after x y ≡ true → after y x ≡ false)
       (trans : (x y z : X) → after x y ≡ true → after y z ≡ true → after x z ≡ true)
       (total : (x y : X) → after x y ≡ false → after y x ≡ false → x ≡ y) where
@@ -102,18 +90,18 @@ module _ {X : Type 0} (after : X → X → Bool) where
         go true true e f = not-both (trans x z y e f) h
         go true false e f = not-both e (subst (λ (q : X). after x q ≡ false) (total y z k f) h)
 
-    ahead-trans : (x y : X) (s : List X) → after x y ≡ false → Ahead y s → Ahead x s
+    ahead-trans : (x y : X) (s : List X) → after x y ≡ false → Ahead after y s → Ahead after x s
     ahead-trans x y [] h k = tt
     ahead-trans x y (z ∷ s) h k = (not-after-trans x y z h (k .0), ahead-trans x y s h (k .1))
 
-    sorted-insert : (x : X) (s : List X) → Sorted s → Sorted (insertSorted after x s)
+    sorted-insert : (x : X) (s : List X) → Sorted after s → Sorted after (insertSorted after x s)
     sorted-insert x s = elim s [
       | [] ↦ λ k. rw insert-nil (tt, tt)
-      | y ∷ (t → ih) ↦ λ k. insert-by Sorted x y t
+      | y ∷ (t → ih) ↦ λ k. insert-by (Sorted after) x y t
           (λ e. (insert-all (λ (z : X). after y z ≡ false) x t (asym x y e) (k .0), ih (k .1)))
           (λ e. ((e, ahead-trans x y t e (k .0)), k))
     ]
 
-    pub sorted-sort : (xs : List X) → Sorted (sort after xs)
+    pub sorted-sort : (xs : List X) → Sorted after (sort after xs)
     sorted-sort [] = rw sort-nil tt
     sorted-sort (x ∷ xs) = rw sort-cons (sorted-insert x (sort after xs) (sorted-sort xs))

@@ -5,9 +5,9 @@ use mathlib.Core.Bool.{Bool, true, false, cond, true≢false}
 use mathlib.Core.List.{List, [], _∷_}
 use Prim.Native.Nat.{ℕ, zero, suc, _≤_, _<_}
 use native.Mathlib.Omega.{arith}
-use Rattle.semantics.specs.Walk.{member, foldLeft, visit, Reaches, itself, through, Distinct}
+use Rattle.semantics.specs.Walk.{Closed, Mem, member, foldLeft, visit, Reaches, itself, through, Distinct}
 use Rattle.semantics.proofs.Basics.{by-test}
-use Rattle.semantics.proofs.Members.{Mem, mem-here, mem-there, mem-cases}
+use Rattle.semantics.proofs.Members.{mem-here, mem-there, mem-cases}
 
 -- A property that each step keeps, the fold keeps.
 pub fold-keeps : {S : Type 0} (P : S → Type 0) (f : S → ℕ → S) (cs : List ℕ) → ((s : S) (c : ℕ) → Mem c cs → P s → P (f s c)) → (s : S) → P s → P (foldLeft f s cs)
@@ -49,11 +49,6 @@ module _ (ch : ℕ → List ℕ) where
           fold-keeps (Mem c) (visit ch n) cs (λ u x m. visit-old n u x c) (visit ch n s d)
           (subst (λ (k : ℕ). Mem k (visit ch n s d)) (sym e) (visit-has n s d (b d (mem-here d cs))))
       go (inr m) ih = ih m
-
-  -- Every member's children stand behind it.
-  abbrev pub Closed : List ℕ → Type 0
-  Closed [] = Unit {0}
-  Closed (x ∷ s) = ((c : ℕ) → Mem c (ch x) → Mem c s) × Closed s
 
 module _ (ch : ℕ → List ℕ) (low : (r c : ℕ) → Mem c (ch r) → c < r) where
   pub visit-closed : (n : ℕ) (s : List ℕ) (r : ℕ) → r < n → Closed ch s → Closed ch (visit ch n s r)

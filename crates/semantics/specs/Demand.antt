@@ -5,6 +5,7 @@ use mathlib.Core.List.{List, [], _∷_}
 use Prim.Native.Nat.{ℕ, suc, _≤_, _<_}
 use lib.Dec.{eqb}
 use lib.ListN.{length, getD}
+use Rattle.semantics.specs.Lists.{AscendBy}
 use Rattle.semantics.specs.Answer.{good}
 use Rattle.semantics.specs.Arithmetic.{addM, mulM}
 use Rattle.semantics.specs.Sheet.{Record, Interaction, Sheet, encode, lengthOf}
@@ -13,7 +14,7 @@ use Rattle.semantics.specs.Packing.{unpacked}
 use Rattle.semantics.specs.Value.{Leaf, leafOf, valueAt}
 use Rattle.semantics.specs.Walk.{childrenAt, member, order, Reaches, Distinct}
 use Rattle.semantics.specs.Graph.{graphOf, graphRoots, built}
-use Rattle.semantics.specs.Monomial.{beforeVars}
+use Rattle.semantics.specs.Monomial.{BeforeVars}
 use Rattle.semantics.specs.Group.{Listed, listed}
 use Rattle.semantics.specs.Call.{Outcome, Accepted, handedBack, builderCall, constraintCall, interactionCall, constraintOutputs, interactionOutputs}
 
@@ -57,13 +58,8 @@ unfoldable pub first : List ℕ → ℕ
 first t = getD t 0 0
 
 -- Headers strictly ascend.
-abbrev pub AllAfter : List ℕ → List Listed → Type 0
-AllAfter v [] = Unit {0}
-AllAfter v (h ∷ hs) = (beforeVars v (h .vars) ≡ true) × AllAfter v hs
-
 abbrev pub Ascending : List Listed → Type 0
-Ascending [] = Unit {0}
-Ascending (h ∷ hs) = AllAfter (h .vars) hs × Ascending hs
+Ascending hs = AscendBy BeforeVars (λ (h : Listed). h .vars) hs
 
 -- Each coefficient is a value, 1 to p − 1.
 abbrev pub NonZeroTerms : (p : ℕ) → (List ℕ → ℕ) → List (List ℕ) → Type 0

@@ -1,4 +1,5 @@
 pub mod Arithmetic
+pub mod Lists
 pub mod Answer
 pub mod Sheet
 pub mod Check

@@ -1,10 +1,12 @@
 -- Monomials, and the list of each record (01, "Packing and expanding").
+use mathlib.Core.Path.{_≡_}
 use mathlib.Core.Bool.{Bool, true, false, cond}
 use mathlib.Core.List.{List, [], _∷_, _++_, map}
 use Prim.Native.Nat.{ℕ}
 use lib.Dec.{eqb, ltb}
 use lib.ListN.{length, getD}
 use Rattle.semantics.specs.Arithmetic.{addM, mulM, negM}
+use Rattle.semantics.specs.Lists.{All, AscendBy}
 use Rattle.semantics.specs.Sheet.{Record}
 use Rattle.semantics.specs.Packing.{packed}
 use Rattle.semantics.specs.Value.{Node, leaf, const, add, sub, neg, mul, nodeOf, fill}
@@ -24,6 +26,16 @@ before (x ∷ xs) (y ∷ ys) = cond (ltb x y) true (cond (ltb y x) false (before
 -- The order of variable lists: by length, then number by number.
 unfoldable pub beforeVars : List ℕ → List ℕ → Bool
 beforeVars xs ys = before (length xs ∷ xs) (length ys ∷ ys)
+
+abbrev pub BeforeVars : List ℕ → List ℕ → Type 0
+BeforeVars u v = beforeVars u v ≡ true
+
+-- Every monomial of a list stands after `v`; a list strictly ascends.
+abbrev pub Above : List ℕ → List Monomial → Type 0
+Above v ms = All (λ (m : Monomial). BeforeVars v (m .vars)) ms
+
+abbrev pub Asc : List Monomial → Type 0
+Asc ms = AscendBy BeforeVars (λ (m : Monomial). m .vars) ms
 
 -- A list sorted; `after x y` says that x comes after y.
 module _ {X : Type 0} (after : X → X → Bool) where

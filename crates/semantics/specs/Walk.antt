@@ -2,7 +2,7 @@
 use mathlib.Core.Path.{_≡_}
 use mathlib.Core.Bool.{Bool, true, false, cond}
 use mathlib.Core.List.{List, [], _∷_}
-use Prim.Native.Nat.{ℕ, zero, suc}
+use Prim.Native.Nat.{ℕ, zero, suc, _<_}
 use lib.Dec.{eqb}
 use lib.ListN.{length}
 use Rattle.semantics.specs.Sheet.{Record}
@@ -23,6 +23,13 @@ unfoldable pub member : ℕ → List ℕ → Bool
 member x [] = false
 member x (y ∷ ys) = cond (eqb x y) true (member x ys)
 
+-- That a list has a number; that all its numbers are below n.
+abbrev pub Mem : ℕ → List ℕ → Type 0
+Mem x s = member x s ≡ true
+
+abbrev pub Below : ℕ → List ℕ → Type 0
+Below n s = (x : ℕ) → Mem x s → x < n
+
 -- From the first of a list to its last.
 unfoldable pub foldLeft : {S : Type 0} → (S → ℕ → S) → S → List ℕ → S
 foldLeft f s [] = s
@@ -38,6 +45,12 @@ module _ (ch : ℕ → List ℕ) where
 -- The records that some roots reach, each once, newest first.
 unfoldable pub order : List Record → (roots : List ℕ) → List ℕ
 order rs roots = foldLeft (visit (childrenAt rs) (length rs)) [] roots
+
+-- Every member's children stand behind it.
+module _ (ch : ℕ → List ℕ) where
+  abbrev pub Closed : List ℕ → Type 0
+  Closed [] = Unit {0}
+  Closed (x ∷ s) = ((c : ℕ) → Mem c (ch x) → Mem c s) × Closed s
 
 -- "named by a constraint or interaction .., or through children of one"
 pub data Reaches (ch : ℕ → List ℕ) : ℕ → ℕ → Type 0 where

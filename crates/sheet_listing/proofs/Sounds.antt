@@ -12,10 +12,9 @@ use Rattle.semantics.specs.Check.{check}
 use Rattle.semantics.specs.Graph.{maxRotation}
 use Rattle.semantics.specs.Call.{Outcome, Result, Accepted, zeros, padded, paddedAll, outcome, result, onSheet, expansion, readerCall, builderCall, maxRotationCall, constraintCall, interactionCall}
 use Rattle.semantics.specs.Sheetlist.{decimal, line, refusedText, step}
-use Rattle.semantics.specs.Walk.{member}
+use Rattle.semantics.specs.Walk.{Mem, member}
 use Rattle.semantics.specs.Refusals.{ofSheet, ofExpansion}
 use Rattle.semantics.proofs.Basics.{not-both}
-use Rattle.semantics.proofs.Members.{Mem}
 use Rattle.semantics.proofs.Acceptance.{Within}
 use Rattle.semantics.proofs.Refusals.{check-within, reader-within, builder-within, expansion-within}
 use Rattle.answers.specs.declared.Refusal.{Refusal}

@@ -2,8 +2,7 @@ use mathlib.Core.Path.{sym, subst, _∙_}
 use Prim.Native.Nat.{ℕ}
 use native.Mathlib.Omega.{arith}
 use borrow.Author.Needs.{needs}
-use Rattle.semantics.specs.Walk.{childrenAt}
-use Rattle.semantics.proofs.Members.{Mem}
+use Rattle.semantics.specs.Walk.{Mem, childrenAt}
 use Rattle.records.specs.Access.{recordsOf}
 use Rattle.records.proofs.Visits.{record-inside, has-a, has-b}
 use Rattle.graph_walk.proofs.Picking.{Reads, child-there, picks-flat, picks-neg, picks-two}

@@ -8,8 +8,8 @@ use Rattle.semantics.specs.Check.{readSheet}
 use Rattle.semantics.specs.Walk.{order}
 use Rattle.semantics.specs.Group.{countRoots, fieldRoots}
 use Rattle.semantics.specs.Call.{interactionOutputs, maxFieldsLen}
-use Rattle.records.specs.Access.{recordsOf}
-use Rattle.records.proofs.Reading.{counts-small, counts, fields}
+use Rattle.records.specs.Access.{counts, fields, recordsOf}
+use Rattle.records.proofs.Reading.{counts-small}
 use Rattle.expand.specs.declared.Expanded.{Expanded}
 use Rattle.expand.specs.Walking.{Expands}
 use Rattle.interaction_lists.proofs.Walked.{counts-grouping, fields-grouping}

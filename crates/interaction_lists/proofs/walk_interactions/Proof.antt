@@ -5,7 +5,7 @@ use native.Mathlib.Omega.{arith}
 use lib.ListN.{length, take, drop, length-take}
 use Rattle.semantics.specs.Check.{readSheet}
 use Rattle.records.specs.Orders.{Visiting}
-use Rattle.records.proofs.Reading.{counts, fields}
+use Rattle.records.specs.Access.{counts, fields}
 use Rattle.expand.specs.Walking.{Holds, Expands}
 use Rattle.constraint_lists.proofs.Walked.{walk-starts, walk-ends}
 use Rattle.interaction_lists.proofs.Walked.{interactions-there, counts-there, fields-there, counts-below, first-refused, second-walking, both-walked}

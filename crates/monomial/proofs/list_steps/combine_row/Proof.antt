@@ -6,7 +6,7 @@ use lib.ListN.{length}
 use Rattle.semantics.specs.Arithmetic.{prime}
 use Rattle.semantics.specs.Monomial as semantics
 use Rattle.semantics.specs.Monomial.{above, mulMonomial}
-use Rattle.semantics.proofs.Sorting.{Sorted}
+use Rattle.semantics.specs.Lists.{Sorted}
 use Rattle.monomial.specs.Words.{nums, monomialOf, listIn, longestOf, Fits}
 use Rattle.monomial.proofs.Canons.{fits-product}
 use Rattle.monomial.proofs.ListLaws.{left-front}
