@@ -2,7 +2,6 @@
 ghost use mathlib.Core.Path.{_≡_};
 ghost use Rattle.semantics.specs.Call.{blockCheckCall};
 ghost use Rattle.block.specs.Checked.{blockOutcome};
-
 use answers::Refusal;
 
 pub mod words;

@@ -7,9 +7,9 @@ ghost use Rattle.semantics.specs.Block.{wordsOf, badLength, readBlocks};
 ghost use Rattle.semantics.specs.Call.{readerCall};
 ghost use Rattle.answers.specs.Replies.{writtenOutcome, finished};
 ghost use Rattle.block_reader.specs.Replies.{wordsOutcome};
-use block::words;
 use answers::Refusal;
 use answers::Written;
+use block::words;
 
 fn bad_length(n: usize) -> bool
     ensures { λ r. ⌜ r ≡ badLength n ⌝ }

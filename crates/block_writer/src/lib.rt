@@ -7,10 +7,10 @@ ghost use Rattle.semantics.specs.Check.{primeOf};
 ghost use Rattle.semantics.specs.Block.{wordsOf, wordBytes, firstWords, blockBytes, writeBlocks};
 ghost use Rattle.semantics.specs.Call.{writerCall};
 ghost use Rattle.answers.specs.Replies.{writtenOutcome, finished};
-use block::words;
-use sheet::Checked;
 use answers::Refusal;
 use answers::Written;
+use block::words;
+use sheet::Checked;
 
 // The word at i, 0 past the end.
 fn word_or_zero(s: &[u32], i: usize) -> u32
@@ -37,7 +37,8 @@ fn put_word(w: u32, out: &mut [u8], at: usize)
 // The 127 words from `from` on, zeros past the end, go as bytes to the output from `at` on, and can be read there.
 fn put_words(s: &[u32], from: usize, out: &mut [u8], at: usize)
     requires { ⌜ (from ≤ 90170) × (at + 508 ≤ length (now out)) ⌝ }
-    ensures { λ _. ⌜ (take (at + 508) (now (out .exit)) ≡ take at (now (out .entry)) ++ flatMap wordBytes (firstWords 127 (drop from (now (s .entry))))) × (wordsOf 127 (drop at (now (out .exit))) ≡ firstWords 127 (drop from (now (s .entry)))) ⌝ }
+    ensures { λ _. ⌜ (take (at + 508) (now (out .exit)) ≡ take at (now (out .entry)) ++ flatMap wordBytes (firstWords 127 (drop from (now (s .entry)))))
+        × (wordsOf 127 (drop at (now (out .exit))) ≡ firstWords 127 (drop from (now (s .entry)))) ⌝ }
 {
     let mut i: usize = 0;
     while i < 127 {
@@ -49,7 +50,8 @@ fn put_words(s: &[u32], from: usize, out: &mut [u8], at: usize)
 // Block k, counted from 0, with its check word.
 fn write_block(s: &[u32], k: usize, out: &mut [u8])
     requires { ⌜ (k < 710) × (512 * k + 512 ≤ length (now out)) ⌝ }
-    ensures { λ _. ⌜ take (512 * k + 512) (now (out .exit)) ≡ take (512 * k) (now (out .entry)) ++ blockBytes (k + 1) (firstWords 127 (drop (127 * k) (now (s .entry)))) ⌝ }
+    ensures { λ _. ⌜ take (512 * k + 512) (now (out .exit))
+        ≡ take (512 * k) (now (out .entry)) ++ blockBytes (k + 1) (firstWords 127 (drop (127 * k) (now (s .entry)))) ⌝ }
 {
     let at = 512 * k;
     put_words(s, 127 * k, out, at);

@@ -3,16 +3,15 @@ ghost use mathlib.Core.Path.{_≡_};
 ghost use Rattle.packed_var.specs.Packed.{packedReply};
 ghost use Rattle.packing.specs.Leaves.{unpackedReply};
 ghost use Rattle.block.specs.Checked.{blockReply};
-ghost use Rattle.answers.specs.Replies.{writtenReply};
+ghost use Rattle.answers.specs.Replies.{writtenReply, countedReply};
 ghost use Rattle.sheet.specs.Replies.{checkedReply};
-ghost use Rattle.answers.specs.Replies.{countedReply};
 ghost use Rattle.c_replies.specs.Fields.{packedFields, recordFields, blockFields, sheetFields, numberFields, writtenFields};
+use answers::Counted;
+use answers::Written;
 use block::BlockChecked;
 use packed_var::Packed;
 use packing::Unpacked;
 use sheet::Checked;
-use answers::Written;
-use answers::Counted;
 
 #[repr(C)]
 pub struct SuhkelvaPacked {

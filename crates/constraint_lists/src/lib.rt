@@ -7,10 +7,10 @@ ghost use Rattle.semantics.specs.Walk.{order};
 ghost use Rattle.records.specs.Access.{recordsOf};
 ghost use Rattle.expand.specs.Walking.{Expands};
 ghost use Rattle.constraint_lists.specs.Lists.{refusalOf, shortOf, ShortFew, constraintsIn, constraintAnswer, constraintsOf, Inside, CheckedSheet};
+use answers::Refusal;
 use expand::Expanded;
 use grouping::Grouped;
 use grouping::Lengths;
-use answers::Refusal;
 
 pub enum ConstraintLists {
     Written(Lengths),

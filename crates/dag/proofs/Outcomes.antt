@@ -22,8 +22,7 @@ use Rattle.sheet.specs.Replies.{checkedOutcome, refusalOf}
 use Rattle.sheet.proofs.Answers.{on-found, on-refused}
 use Rattle.records.proofs.Reading.{read-found}
 use Rattle.graph_lists.specs.Lists.{graphOut, graphLength}
-use Rattle.dag.specs.Calls.{builtOutcome, Clear}
-use Rattle.dag.specs.Calls.{Starting}
+use Rattle.dag.specs.Calls.{builtOutcome, Clear, Starting}
 
 pub clear-found : (ws : List ℕ) (t : Sheet) → check prime ws ≡ good t → (records words : ℕ) → records ≡ length (t .records) → words ≡ lengthOf t
     → (scratch out : List ℕ) → scratch ≡ zeros (length scratch) → out ≡ zeros (length out) → Clear ws records words scratch out

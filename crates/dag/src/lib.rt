@@ -7,9 +7,9 @@ ghost use Rattle.dag.specs.Calls.{builtOutcome, Clear};
 
 mod graph;
 
-use sheet::Checked;
 use answers::Refusal;
 use answers::Written;
+use sheet::Checked;
 
 // The graph of a checked sheet, where scratch and output are long enough.
 fn build_checked(
@@ -20,7 +20,8 @@ fn build_checked(
     out: &mut [u32],
 ) -> Written
     requires { ⌜ Clear (now s) records words (now scratch) (now out) ⌝ }
-    ensures { λ r. ⌜ builtOutcome r (zeros (length (now (scratch .entry)))) (now (out .exit)) ≡ builderCall (primeOf (now (s .entry))) (now (s .entry)) (length (now (scratch .entry))) (length (now (out .entry))) ⌝ }
+    ensures { λ r. ⌜ builtOutcome r (zeros (length (now (scratch .entry)))) (now (out .exit))
+        ≡ builderCall (primeOf (now (s .entry))) (now (s .entry)) (length (now (scratch .entry))) (length (now (out .entry))) ⌝ }
 {
     if scratch.len() < records {
         return Written::Refused(Refusal {
@@ -41,7 +42,8 @@ fn build_checked(
 // The graph of a sheet, in an output of zeros.
 fn build_clear(s: &[u32], scratch: &mut [u32], out: &mut [u32]) -> Written
     requires { ⌜ (now scratch ≡ zeros (length (now scratch))) × (now out ≡ zeros (length (now out))) ⌝ }
-    ensures { λ r. ⌜ builtOutcome r (zeros (length (now (scratch .entry)))) (now (out .exit)) ≡ builderCall (primeOf (now (s .entry))) (now (s .entry)) (length (now (scratch .entry))) (length (now (out .entry))) ⌝ }
+    ensures { λ r. ⌜ builtOutcome r (zeros (length (now (scratch .entry)))) (now (out .exit))
+        ≡ builderCall (primeOf (now (s .entry))) (now (s .entry)) (length (now (scratch .entry))) (length (now (out .entry))) ⌝ }
 {
     let checked = sheet::check_sheet(s);
     let Checked::Sheet(head) = checked else {
@@ -52,7 +54,8 @@ fn build_clear(s: &[u32], scratch: &mut [u32], out: &mut [u32]) -> Written
 
 // The builder: checks the sheet and writes its graph; scratch ends all zero.
 pub fn build(s: &[u32], scratch: &mut [u32], out: &mut [u32]) -> Written
-    ensures { λ r. ⌜ builtOutcome r (now (scratch .exit)) (now (out .exit)) ≡ builderCall (primeOf (now (s .entry))) (now (s .entry)) (length (now (scratch .entry))) (length (now (out .entry))) ⌝ }
+    ensures { λ r. ⌜ builtOutcome r (now (scratch .exit)) (now (out .exit))
+        ≡ builderCall (primeOf (now (s .entry))) (now (s .entry)) (length (now (scratch .entry))) (length (now (out .entry))) ⌝ }
 {
     slices::zero_all(scratch);
     slices::zero_all(out);

@@ -93,7 +93,8 @@ pub fn expand_leaf(work: &mut [u32], q: Record) -> Made
 // Neg: the child's list negated.
 pub fn expand_neg(work: &mut [u32], pool: &[u32], x: PoolList) -> Made
     requires { ⌜ (4096 ≤ length (now work)) × (x .count ≤ 256) × ListFits (now pool) (x .at) (x .count) ⌝ }
-    ensures { λ u. ⌜ Makes (now (work .exit)) u (workFault (map (negMonomial prime) (listIn (now (pool .entry)) (x .at) (x .count)))) (map (negMonomial prime) (listIn (now (pool .entry)) (x .at) (x .count))) ⌝ }
+    ensures { λ u. ⌜ Makes (now (work .exit)) u (workFault (map (negMonomial prime) (listIn (now (pool .entry)) (x .at) (x .count))))
+        (map (negMonomial prime) (listIn (now (pool .entry)) (x .at) (x .count))) ⌝ }
 {
     lists::negate_list(work, pool, x.at, x.count);
     Made::Held(x.count)
@@ -101,8 +102,11 @@ pub fn expand_neg(work: &mut [u32], pool: &[u32], x: PoolList) -> Made
 
 // Add and Sub: both children's lists summed, the right one negated for Sub.
 pub fn expand_sum(work: &mut [u32], pool: &[u32], l: PoolList, r: PoolList, negated: bool) -> Made
-    requires { ⌜ (4096 ≤ length (now work)) × ((l .count ≤ 256) × ListFits (now pool) (l .at) (l .count)) × (r .count ≤ 256) × ListFits (now pool) (r .at) (r .count) ⌝ }
-    ensures { λ u. ⌜ Makes (now (work .exit)) u (workFault (listIn (now (pool .entry)) (l .at) (l .count) ++ signed negated (listIn (now (pool .entry)) (r .at) (r .count)))) (combine prime (listIn (now (pool .entry)) (l .at) (l .count) ++ signed negated (listIn (now (pool .entry)) (r .at) (r .count)))) ⌝ }
+    requires { ⌜ (4096 ≤ length (now work)) × ((l .count ≤ 256) × ListFits (now pool) (l .at) (l .count))
+        × (r .count ≤ 256) × ListFits (now pool) (r .at) (r .count) ⌝ }
+    ensures { λ u. ⌜ Makes (now (work .exit)) u
+        (workFault (listIn (now (pool .entry)) (l .at) (l .count) ++ signed negated (listIn (now (pool .entry)) (r .at) (r .count))))
+        (combine prime (listIn (now (pool .entry)) (l .at) (l .count) ++ signed negated (listIn (now (pool .entry)) (r .at) (r .count)))) ⌝ }
 {
     if 256 < l.count + r.count {
         return Made::Fault(12);
@@ -114,8 +118,11 @@ pub fn expand_sum(work: &mut [u32], pool: &[u32], l: PoolList, r: PoolList, nega
 
 // Mul: every left monomial times every right one, summed.
 pub fn expand_product(work: &mut [u32], pool: &[u32], l: PoolList, r: PoolList) -> Made
-    requires { ⌜ (4096 ≤ length (now work)) × ((l .count ≤ 256) × ListFits (now pool) (l .at) (l .count)) × (r .count ≤ 256) × ListFits (now pool) (r .at) (r .count) ⌝ }
-    ensures { λ u. ⌜ Makes (now (work .exit)) u (workFault (products prime (listIn (now (pool .entry)) (l .at) (l .count)) (listIn (now (pool .entry)) (r .at) (r .count)))) (combine prime (products prime (listIn (now (pool .entry)) (l .at) (l .count)) (listIn (now (pool .entry)) (r .at) (r .count)))) ⌝ }
+    requires { ⌜ (4096 ≤ length (now work)) × ((l .count ≤ 256) × ListFits (now pool) (l .at) (l .count))
+        × (r .count ≤ 256) × ListFits (now pool) (r .at) (r .count) ⌝ }
+    ensures { λ u. ⌜ Makes (now (work .exit)) u
+        (workFault (products prime (listIn (now (pool .entry)) (l .at) (l .count)) (listIn (now (pool .entry)) (r .at) (r .count))))
+        (combine prime (products prime (listIn (now (pool .entry)) (l .at) (l .count)) (listIn (now (pool .entry)) (r .at) (r .count)))) ⌝ }
 {
     if 256 < l.count * r.count {
         return Made::Fault(12);

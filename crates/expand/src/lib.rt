@@ -17,8 +17,8 @@ ghost use Rattle.expand.specs.Walking.{Holds, Expands, refusedBy, Storin
 mod kinds;
 
 use crate::kinds::Made;
-use monomial::lists;
 use answers::Refusal;
+use monomial::lists;
 
 // How many words of the pool are taken then, or a refusal.
 pub enum Expanded {
@@ -29,7 +29,8 @@ pub enum Expanded {
 // Makes the list of a record whose children are expanded.
 fn make_list(sheet: &[u32], work: &mut [u32], pool: &[u32], r: usize) -> Made
     requires { ⌜ ((used : ℕ) × Finishing (now sheet) r (now work) (now pool) used) ⌝ }
-    ensures { λ u. ⌜ Makes (now (work .exit)) u (recordFault (primeOf (now (sheet .entry))) (recordsOf (now (sheet .entry))) r) (listAt (primeOf (now (sheet .entry))) (recordsOf (now (sheet .entry))) r) ⌝ }
+    ensures { λ u. ⌜ Makes (now (work .exit)) u (recordFault (primeOf (now (sheet .entry))) (recordsOf (now (sheet .entry))) r)
+        (listAt (primeOf (now (sheet .entry))) (recordsOf (now (sheet .entry))) r) ⌝ }
 {
     let q = records::record_at(sheet, r);
     if q.kind < 6 {
@@ -86,7 +87,9 @@ fn finish_record(
     used: usize,
 ) -> Expanded
     requires { ⌜ Finishing (now sheet) r (now work) (now pool) used ⌝ }
-    ensures { λ u. ⌜ ((done : List ℕ) → Order (now (sheet .entry)) done → member r done ≡ false → There (now (sheet .entry)) r done → Holds (now (sheet .entry)) done (now (pool .entry)) used → Expands (now (sheet .entry)) (now (pool .exit)) u (r ∷ done)) ⌝ }
+    ensures { λ u. ⌜ ((done : List ℕ) → Order (now (sheet .entry)) done → member r done ≡ false
+        → There (now (sheet .entry)) r done → Holds (now (sheet .entry)) done (now (pool .entry)) used
+        → Expands (now (sheet .entry)) (now (pool .exit)) u (r ∷ done)) ⌝ }
 {
     let made = make_list(sheet, work, pool, r);
     let Made::Held(count) = made else {
@@ -99,7 +102,8 @@ fn finish_record(
 // so a level keeps one answer and no record: a word is read when it is needed.
 fn expand_node(sheet: &[u32], work: &mut [u32], pool: &mut [u32], r: usize, used: usize) -> Expanded
     requires { ⌜ Ready (now sheet) r (now work) (now pool) used ⌝ }
-    ensures { λ u. ⌜ ((done : List ℕ) → Order (now (sheet .entry)) done → Holds (now (sheet .entry)) done (now (pool .entry)) used → Expands (now (sheet .entry)) (now (pool .exit)) u (visit (childrenAt (recordsOf (now (sheet .entry)))) (suc r) done r)) ⌝ }
+    ensures { λ u. ⌜ ((done : List ℕ) → Order (now (sheet .entry)) done → Holds (now (sheet .entry)) done (now (pool .entry)) used
+        → Expands (now (sheet .entry)) (now (pool .exit)) u (visit (childrenAt (recordsOf (now (sheet .entry)))) (suc r) done r)) ⌝ }
 {
     let mut answer = Expanded::Used(used);
     if pool[2 * r] != 0 {
@@ -135,7 +139,8 @@ pub fn expand_names(
     used: usize,
 ) -> Expanded
     requires { ⌜ Walking (now sheet) (now work) (now pool) used × NamesInside (now sheet) at count ⌝ }
-    ensures { λ u. ⌜ Visiting (now (sheet .entry)) (part at count (now (sheet .entry))) (λ d. Holds (now (sheet .entry)) d (now (pool .entry)) used) (Expands (now (sheet .entry)) (now (pool .exit)) u) ⌝ }
+    ensures { λ u. ⌜ Visiting (now (sheet .entry)) (part at count (now (sheet .entry))) (λ d. Holds (now (sheet .entry)) d (now (pool .entry)) used)
+        (Expands (now (sheet .entry)) (now (pool .exit)) u) ⌝ }
 {
     let mut taken = used;
     let mut j: usize = 0;
@@ -161,7 +166,8 @@ pub fn expand_counts(
     used: usize,
 ) -> Expanded
     requires { ⌜ Walking (now sheet) (now work) (now pool) used × AllRootsInside (length (recordsOf (now sheet))) (now sheet) at count ⌝ }
-    ensures { λ u. ⌜ Visiting (now (sheet .entry)) (countWords (now (sheet .entry)) at count) (λ d. Holds (now (sheet .entry)) d (now (pool .entry)) used) (Expands (now (sheet .entry)) (now (pool .exit)) u) ⌝ }
+    ensures { λ u. ⌜ Visiting (now (sheet .entry)) (countWords (now (sheet .entry)) at count)
+        (λ d. Holds (now (sheet .entry)) d (now (pool .entry)) used) (Expands (now (sheet .entry)) (now (pool .exit)) u) ⌝ }
 {
     let mut taken = used;
     let mut from = at;
@@ -189,7 +195,8 @@ pub fn expand_fields(
     used: usize,
 ) -> Expanded
     requires { ⌜ Walking (now sheet) (now work) (now pool) used × AllRootsInside (length (recordsOf (now sheet))) (now sheet) at count ⌝ }
-    ensures { λ u. ⌜ Visiting (now (sheet .entry)) (fieldWords (now (sheet .entry)) at count) (λ d. Holds (now (sheet .entry)) d (now (pool .entry)) used) (Expands (now (sheet .entry)) (now (pool .exit)) u) ⌝ }
+    ensures { λ u. ⌜ Visiting (now (sheet .entry)) (fieldWords (now (sheet .entry)) at count)
+        (λ d. Holds (now (sheet .entry)) d (now (pool .entry)) used) (Expands (now (sheet .entry)) (now (pool .exit)) u) ⌝ }
 {
     let mut taken = used;
     let mut from = at;

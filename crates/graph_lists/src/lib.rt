@@ -7,7 +7,8 @@ ghost use Rattle.semantics.specs.Check.{readSheet};
 ghost use Rattle.records.specs.Access.{constraintsAt, part, messageLength};
 ghost use Rattle.nodes.specs.Memory.{tabulate};
 ghost use Rattle.slices.specs.Putting.{put};
-ghost use Rattle.graph_lists.specs.Lists.{flagWord, plainWord, plainBelow, flagged, flaggedAmong, chosen, Wanted, nodeNumbers, marksOf, Named, NamedInteraction, NamedInteractions, renamedWords, renamedAll, Finishing, graphOut, graphLength};
+ghost use Rattle.graph_lists.specs.Lists.{flagWord, plainWord, plainBelow, flagged, flaggedAmong, chosen, Wanted, nodeNumbers, marksOf, Named};
+ghost use Rattle.graph_lists.specs.Lists.{NamedInteraction, NamedInteractions, renamedWords, renamedAll, Finishing, graphOut, graphLength};
 
 // Above every mark: a mark is a node's number counted from 1.
 const FLAG: u32 = 65536;
@@ -35,7 +36,8 @@ fn flag_node(scratch: &mut [u32], node: usize)
 // Flags the nodes that the records named from `at` on have.
 fn flag_nodes(sheet: &[u32], at: usize, count: usize, scratch: &mut [u32])
     requires { ⌜ Named (now sheet) at count (now scratch) ⌝ }
-    ensures { λ _. ⌜ now (scratch .exit) ≡ tabulate 0 (length (now (scratch .entry))) (flagged (marksOf (now (scratch .entry))) (nodeNumbers (marksOf (now (scratch .entry))) (part at count (now (sheet .entry))))) ⌝ }
+    ensures { λ _. ⌜ now (scratch .exit) ≡ tabulate 0 (length (now (scratch .entry)))
+        (flagged (marksOf (now (scratch .entry))) (nodeNumbers (marksOf (now (scratch .entry))) (part at count (now (sheet .entry))))) ⌝ }
 {
     let mut j = 0;
     while j < count {
@@ -48,7 +50,8 @@ fn flag_nodes(sheet: &[u32], at: usize, count: usize, scratch: &mut [u32])
 // Takes the flag off a node, and says whether it had one.
 fn unflag_node(scratch: &mut [u32], node: usize) -> bool
     requires { ⌜ node < length (now scratch) ⌝ }
-    ensures { λ r. ⌜ (r ≡ leb 65536 (getD (now (scratch .entry)) node 0)) × (now (scratch .exit) ≡ set (now (scratch .entry)) node (plainWord (getD (now (scratch .entry)) node 0))) ⌝ }
+    ensures { λ r. ⌜ (r ≡ leb 65536 (getD (now (scratch .entry)) node 0))
+        × (now (scratch .exit) ≡ set (now (scratch .entry)) node (plainWord (getD (now (scratch .entry)) node 0))) ⌝ }
 {
     let word = scratch[node];
     if word < FLAG {
@@ -73,7 +76,9 @@ fn put_node(out: &mut [u32], at: usize, node: usize, wanted: bool) -> usize
 // Writes the flagged nodes in ascending order from `at` on, takes their flags off, and hands back where the output goes on.
 fn write_flagged(scratch: &mut [u32], nodes: usize, out: &mut [u32], at: usize) -> usize
     requires { ⌜ (nodes ≤ length (now scratch)) × (nodes < 4294967296) × (at + length (flaggedAmong 0 nodes (now scratch)) ≤ length (now out)) ⌝ }
-    ensures { λ r. ⌜ (now (scratch .exit) ≡ tabulate 0 (length (now (scratch .entry))) (plainBelow nodes (now (scratch .entry)))) × (now (out .exit) ≡ put (now (out .entry)) at (flaggedAmong 0 nodes (now (scratch .entry)))) × (r ≡ at + length (flaggedAmong 0 nodes (now (scratch .entry)))) ⌝ }
+    ensures { λ r. ⌜ (now (scratch .exit) ≡ tabulate 0 (length (now (scratch .entry))) (plainBelow nodes (now (scratch .entry))))
+        × (now (out .exit) ≡ put (now (out .entry)) at (flaggedAmong 0 nodes (now (scratch .entry))))
+        × (r ≡ at + length (flaggedAmong 0 nodes (now (scratch .entry)))) ⌝ }
 {
     let mut next = at;
     let mut node = 0;
@@ -102,7 +107,8 @@ fn write_names(sheet: &[u32], at: usize, count: usize, scratch: &[u32], out: &mu
 // Writes an interaction with its names turned into nodes, and hands back where the output goes on.
 fn write_interaction(sheet: &[u32], at: usize, scratch: &[u32], out: &mut [u32], to: usize) -> usize
     requires { ⌜ NamedInteraction (now sheet) at (now scratch) × (to + (4 + messageLength (now sheet) at) ≤ length (now out)) ⌝ }
-    ensures { λ r. ⌜ (now (out .exit) ≡ put (now (out .entry)) to (renamedWords (now (sheet .entry)) (now (scratch .entry)) at)) × (r ≡ to + (4 + messageLength (now (sheet .entry)) at)) ⌝ }
+    ensures { λ r. ⌜ (now (out .exit) ≡ put (now (out .entry)) to (renamedWords (now (sheet .entry)) (now (scratch .entry)) at))
+        × (r ≡ to + (4 + messageLength (now (sheet .entry)) at)) ⌝ }
 {
     let x = records::interaction_at(sheet, at);
     let y = records::interaction_from(to, x.message);
@@ -124,8 +130,10 @@ fn write_interactions(
     out: &mut [u32],
     to: usize,
 ) -> usize
-    requires { ⌜ NamedInteractions (now sheet) (now scratch) at count × (to + length (renamedAll (now sheet) (now scratch) at count) ≤ length (now out)) ⌝ }
-    ensures { λ r. ⌜ (now (out .exit) ≡ put (now (out .entry)) to (renamedAll (now (sheet .entry)) (now (scratch .entry)) at count)) × (r ≡ to + length (renamedAll (now (sheet .entry)) (now (scratch .entry)) at count)) ⌝ }
+    requires { ⌜ NamedInteractions (now sheet) (now scratch) at count
+        × (to + length (renamedAll (now sheet) (now scratch) at count) ≤ length (now out)) ⌝ }
+    ensures { λ r. ⌜ (now (out .exit) ≡ put (now (out .entry)) to (renamedAll (now (sheet .entry)) (now (scratch .entry)) at count))
+        × (r ≡ to + length (renamedAll (now (sheet .entry)) (now (scratch .entry)) at count)) ⌝ }
 {
     let mut from = at;
     let mut next = to;
@@ -150,7 +158,8 @@ pub fn write_graph(
     out: &mut [u32],
     n: usize,
 ) -> usize
-    requires { ⌜ Finishing (now sheet) (now scratch) (now out) n × (at ≡ constraintsAt (now sheet)) × (constraints ≡ length (readSheet (now sheet) .constraints)) × (interactions ≡ length (readSheet (now sheet) .interactions)) ⌝ }
+    requires { ⌜ Finishing (now sheet) (now scratch) (now out) n × (at ≡ constraintsAt (now sheet))
+        × (constraints ≡ length (readSheet (now sheet) .constraints)) × (interactions ≡ length (readSheet (now sheet) .interactions)) ⌝ }
     ensures { λ r. ⌜ (now (out .exit) ≡ graphOut (length (now (out .entry))) (now (sheet .entry))) × (r ≡ graphLength (now (sheet .entry))) ⌝ }
 {
     flag_nodes(sheet, at, constraints, scratch);

@@ -21,14 +21,18 @@ use nodes::rules::Pick;
 // What the rules look at in the node of a record that is added.
 fn built_child(scratch: &[u32], out: &[u32], c: usize) -> Child
     requires { ⌜ (c < length (now scratch)) × (0 < getD (now scratch) c 0) × (place 5 (getD (now scratch) c 0 - 1) + 5 ≤ length (now out)) ⌝ }
-    ensures { λ x. ⌜ (x .number ≡ getD (now (scratch .entry)) c 0 - 1) × (x .kind ≡ nodeIn (now (out .entry)) (getD (now (scratch .entry)) c 0 - 1) .kind) × (x .a ≡ nodeIn (now (out .entry)) (getD (now (scratch .entry)) c 0 - 1) .a) ⌝ }
+    ensures { λ x. ⌜ (x .number ≡ getD (now (scratch .entry)) c 0 - 1)
+        × (x .kind ≡ nodeIn (now (out .entry)) (getD (now (scratch .entry)) c 0 - 1) .kind)
+        × (x .a ≡ nodeIn (now (out .entry)) (getD (now (scratch .entry)) c 0 - 1) .a) ⌝ }
 {
     nodes::child(out, scratch[c] - 1)
 }
 
 // The rule for a record with two children.
 fn two_rule(kind: u32, l: Child, r: Child, g: u32) -> Pick
-    ensures { λ x. ⌜ pickOf x ≡ cond (eqb kind 6) (addRule prime (l .number) (r .number) (viewOf l) (viewOf r) g) (cond (eqb kind 7) (subRule prime (l .number) (r .number) (viewOf l) (viewOf r) g) (mulRule prime (l .number) (r .number) (viewOf l) (viewOf r) g)) ⌝ }
+    ensures { λ x. ⌜ pickOf x ≡ cond (eqb kind 6) (addRule prime (l .number) (r .number) (viewOf l) (viewOf r) g)
+        (cond (eqb kind 7) (subRule prime (l .number) (r .number) (viewOf l) (viewOf r) g)
+        (mulRule prime (l .number) (r .number) (viewOf l) (viewOf r) g)) ⌝ }
 {
     if kind == 6 {
         return rules::add_rule(l, r, g);
@@ -42,7 +46,9 @@ fn two_rule(kind: u32, l: Child, r: Child, g: u32) -> Pick
 // The node of a record whose children are added.
 fn pick_node(sheet: &[u32], scratch: &[u32], out: &[u32], r: usize) -> Pick
     requires { ⌜ ((n : ℕ) × Adding (now sheet) r (now scratch) (now out) n) ⌝ }
-    ensures { λ x. ⌜ ((done : List ℕ) → Order (now (sheet .entry)) done → There (now (sheet .entry)) r done → (n : ℕ) → Holds (now (sheet .entry)) done (now (scratch .entry)) (now (out .entry)) n → pickOf x ≡ pickOfRecord (now (sheet .entry)) r done) ⌝ }
+    ensures { λ x. ⌜ ((done : List ℕ) → Order (now (sheet .entry)) done → There (now (sheet .entry)) r done
+        → (n : ℕ) → Holds (now (sheet .entry)) done (now (scratch .entry)) (now (out .entry)) n
+        → pickOf x ≡ pickOfRecord (now (sheet .entry)) r done) ⌝ }
 {
     let q = records::record_at(sheet, r);
     if q.kind < 6 {
@@ -63,7 +69,9 @@ fn pick_node(sheet: &[u32], scratch: &[u32], out: &[u32], r: usize) -> Pick
 // Adds a record whose children are added, and hands back the number of nodes.
 fn add_record(sheet: &[u32], scratch: &mut [u32], out: &mut [u32], r: usize, n: usize) -> usize
     requires { ⌜ Adding (now sheet) r (now scratch) (now out) n ⌝ }
-    ensures { λ u. ⌜ ((done : List ℕ) → Order (now (sheet .entry)) done → member r done ≡ false → There (now (sheet .entry)) r done → Holds (now (sheet .entry)) done (now (scratch .entry)) (now (out .entry)) n → Holds (now (sheet .entry)) (r ∷ done) (now (scratch .exit)) (now (out .exit)) u) ⌝ }
+    ensures { λ u. ⌜ ((done : List ℕ) → Order (now (sheet .entry)) done → member r done ≡ false
+        → There (now (sheet .entry)) r done → Holds (now (sheet .entry)) done (now (scratch .entry)) (now (out .entry)) n
+        → Holds (now (sheet .entry)) (r ∷ done) (now (scratch .exit)) (now (out .exit)) u) ⌝ }
 {
     match pick_node(sheet, scratch, out, r) {
         Pick::Present(k) => {
@@ -97,7 +105,9 @@ fn child_at(sheet: &[u32], r: usize, i: usize) -> usize
 // The call for a child stands once, in a loop: a second one would have room of its own in the stack of each level.
 fn add_expr(sheet: &[u32], scratch: &mut [u32], out: &mut [u32], r: usize, n: usize) -> usize
     requires { ⌜ Ready (now sheet) r (now scratch) (now out) n ⌝ }
-    ensures { λ u. ⌜ ((done : List ℕ) → Order (now (sheet .entry)) done → Holds (now (sheet .entry)) done (now (scratch .entry)) (now (out .entry)) n → Holds (now (sheet .entry)) (visit (childrenAt (recordsOf (now (sheet .entry)))) (suc r) done r) (now (scratch .exit)) (now (out .exit)) u) ⌝ }
+    ensures { λ u. ⌜ ((done : List ℕ) → Order (now (sheet .entry)) done → Holds (now (sheet .entry)) done (now (scratch .entry)) (now (out .entry)) n
+        → Holds (now (sheet .entry)) (visit (childrenAt (recordsOf (now (sheet .entry)))) (suc r) done r) (now (scratch .exit))
+        (now (out .exit)) u) ⌝ }
 {
     if scratch[r] != 0 {
         return n;
@@ -125,7 +135,8 @@ pub fn add_names(
     n: usize,
 ) -> usize
     requires { ⌜ Walking (now sheet) (now scratch) (now out) n × NamesInside (now sheet) at count ⌝ }
-    ensures { λ u. ⌜ Walks (now (sheet .entry)) (part at count (now (sheet .entry))) (now (scratch .entry)) (now (out .entry)) n (now (scratch .exit)) (now (out .exit)) u ⌝ }
+    ensures { λ u. ⌜ Walks (now (sheet .entry)) (part at count (now (sheet .entry))) (now (scratch .entry)) (now (out .entry)) n (now (scratch .exit))
+        (now (out .exit)) u ⌝ }
 {
     let mut used = n;
     let mut j: usize = 0;
@@ -146,7 +157,8 @@ fn add_interaction(
     n: usize,
 ) -> usize
     requires { ⌜ Walking (now sheet) (now scratch) (now out) n × RootsInside (length (recordsOf (now sheet))) (now sheet) at ⌝ }
-    ensures { λ u. ⌜ Walks (now (sheet .entry)) (fieldsAt (now (sheet .entry)) at ++ countAt (now (sheet .entry)) at) (now (scratch .entry)) (now (out .entry)) n (now (scratch .exit)) (now (out .exit)) u ⌝ }
+    ensures { λ u. ⌜ Walks (now (sheet .entry)) (fieldsAt (now (sheet .entry)) at ++ countAt (now (sheet .entry)) at) (now (scratch .entry))
+        (now (out .entry)) n (now (scratch .exit)) (now (out .exit)) u ⌝ }
 {
     let x = records::interaction_at(sheet, at);
     let fields = add_names(sheet, x.fields, x.message, scratch, out, n);
@@ -163,7 +175,8 @@ pub fn add_interactions(
     n: usize,
 ) -> usize
     requires { ⌜ Walking (now sheet) (now scratch) (now out) n × AllRootsInside (length (recordsOf (now sheet))) (now sheet) at count ⌝ }
-    ensures { λ u. ⌜ Walks (now (sheet .entry)) (rootWords (now (sheet .entry)) at count) (now (scratch .entry)) (now (out .entry)) n (now (scratch .exit)) (now (out .exit)) u ⌝ }
+    ensures { λ u. ⌜ Walks (now (sheet .entry)) (rootWords (now (sheet .entry)) at count) (now (scratch .entry)) (now (out .entry)) n
+        (now (scratch .exit)) (now (out .exit)) u ⌝ }
 {
     let mut used = n;
     let mut from = at;

@@ -24,7 +24,8 @@ pub enum Tallied {
 // Counts the monomials of a list that stands at `at`: in runs, each of which has the monomials without a row put in at its end.
 fn tally_list(headers: &mut [u32], n: usize, pool: &[u32], at: usize, count: usize) -> Tallied
     requires { ⌜ Rows n (now headers) (now pool) × Standing count (now pool) at × (total (tallied n (now headers) (now pool)) + count ≤ 4294967295) ⌝ }
-    ensures { λ r. ⌜ Counted (now (headers .exit)) (now (pool .entry)) (tallyAll (nonZero (listIn (now (pool .entry)) at count)) (tallied n (now (headers .entry)) (now (pool .entry)))) r ⌝ }
+    ensures { λ r. ⌜ Counted (now (headers .exit)) (now (pool .entry))
+        (tallyAll (nonZero (listIn (now (pool .entry)) at count)) (tallied n (now (headers .entry)) (now (pool .entry)))) r ⌝ }
 {
     let mut rows = n;
     let mut place = at;
@@ -54,8 +55,10 @@ fn tally_list(headers: &mut [u32], n: usize, pool: &[u32], at: usize, count: usi
 
 // Counts the monomials of a record's list.
 pub fn tally_root(headers: &mut [u32], n: usize, pool: &[u32], node: usize) -> Tallied
-    requires { ⌜ Rows n (now headers) (now pool) × InPool (now pool) node × (total (tallied n (now headers) (now pool)) + length (listOf (now pool) node) ≤ 4294967295) ⌝ }
-    ensures { λ r. ⌜ Counted (now (headers .exit)) (now (pool .entry)) (tallyAll (nonZero (listOf (now (pool .entry)) node)) (tallied n (now (headers .entry)) (now (pool .entry)))) r ⌝ }
+    requires { ⌜ Rows n (now headers) (now pool) × InPool (now pool) node
+        × (total (tallied n (now headers) (now pool)) + length (listOf (now pool) node) ≤ 4294967295) ⌝ }
+    ensures { λ r. ⌜ Counted (now (headers .exit)) (now (pool .entry))
+        (tallyAll (nonZero (listOf (now (pool .entry)) node)) (tallied n (now (headers .entry)) (now (pool .entry)))) r ⌝ }
 {
     let at = answers::wide(pool[2 * node]);
     let count = answers::wide(pool[2 * node + 1]);

@@ -41,7 +41,8 @@ fn put_row(headers: &mut [u32], at: usize, place: u32, count: u32)
 
 // Whether the monomial that stands at `at` may wait behind the b that do: there is room, and it comes after the last of them.
 fn may_follow(places: &[usize], b: usize, pool: &[u32], at: usize) -> bool
-    requires { ⌜ (b ≤ length (now places)) × (0 < length (now places)) × ((j : ℕ) → j < b → Inside (now pool) (getD (now places) j 0)) × Inside (now pool) at ⌝ }
+    requires { ⌜ (b ≤ length (now places)) × (0 < length (now places)) × ((j : ℕ) → j < b → Inside (now pool) (getD (now places) j 0))
+        × Inside (now pool) at ⌝ }
     ensures { λ r. ⌜ MayFollow b (now (places .entry)) (now (pool .entry)) at r ⌝ }
 {
     if b == 0 {
@@ -51,7 +52,14 @@ fn may_follow(places: &[usize], b: usize, pool: &[u32], at: usize) -> bool
         return false;
     }
     let last = places[b - 1];
-    let order = vars::order_at(pool, at + 2, answers::wide(pool[at]), pool, last + 2, answers::wide(pool[last]));
+    let order = vars::order_at(
+        pool,
+        at + 2,
+        answers::wide(pool[at]),
+        pool,
+        last + 2,
+        answers::wide(pool[last]),
+    );
     match order {
         Order::After => true,
         Order::Same => false,
@@ -75,8 +83,10 @@ fn tally_near(
     fronts: &mut [usize],
     b: usize,
 ) -> Next
-    requires { ⌜ Batch n b (now headers) (now pool) (now places) (now fronts) × Inside (now pool) at × (total (tallied n (now headers) (now pool)) < 4294967295) ⌝ }
-    ensures { λ r. ⌜ Nexts n b (varsAt (now (pool .entry)) at ∷ []) (batched n b (now (headers .entry)) (now (pool .entry)) (now (places .entry))) (now (headers .exit)) (now (pool .entry)) (now (places .exit)) (now (fronts .exit)) r ⌝ }
+    requires { ⌜ Batch n b (now headers) (now pool) (now places) (now fronts) × Inside (now pool) at
+        × (total (tallied n (now headers) (now pool)) < 4294967295) ⌝ }
+    ensures { λ r. ⌜ Nexts n b (varsAt (now (pool .entry)) at ∷ []) (batched n b (now (headers .entry)) (now (pool .entry)) (now (places .entry)))
+        (now (headers .exit)) (now (pool .entry)) (now (places .exit)) (now (fronts .exit)) r ⌝ }
 {
     let found = search::find_near(headers, n, pool, at, near);
     match found {
@@ -107,8 +117,11 @@ fn tally_kept(
     fronts: &mut [usize],
     b: usize,
 ) -> Next
-    requires { ⌜ Batch n b (now headers) (now pool) (now places) (now fronts) × Inside (now pool) at × (total (tallied n (now headers) (now pool)) < 4294967295) ⌝ }
-    ensures { λ r. ⌜ Nexts n b (nonZero (readMonomial (drop at (now (pool .entry))) ∷ [])) (batched n b (now (headers .entry)) (now (pool .entry)) (now (places .entry))) (now (headers .exit)) (now (pool .entry)) (now (places .exit)) (now (fronts .exit)) r ⌝ }
+    requires { ⌜ Batch n b (now headers) (now pool) (now places) (now fronts) × Inside (now pool) at
+        × (total (tallied n (now headers) (now pool)) < 4294967295) ⌝ }
+    ensures { λ r. ⌜ Nexts n b (nonZero (readMonomial (drop at (now (pool .entry))) ∷ []))
+        (batched n b (now (headers .entry)) (now (pool .entry)) (now (places .entry))) (now (headers .exit)) (now (pool .entry))
+        (now (places .exit)) (now (fronts .exit)) r ⌝ }
 {
     if pool[at + 1] == 0 {
         return Next::Taken(b, near);
@@ -126,8 +139,10 @@ pub fn tally_run(
     places: &mut [usize],
     fronts: &mut [usize],
 ) -> Run
-    requires { ⌜ Rows n (now headers) (now pool) × Standing count (now pool) at × (total (tallied n (now headers) (now pool)) + count ≤ 4294967295) × (0 < length (now places)) × (length (now fronts) ≡ length (now places)) ⌝ }
-    ensures { λ r. ⌜ Ran n (now (pool .entry)) at count (tallied n (now (headers .entry)) (now (pool .entry))) (now (headers .exit)) (now (places .exit)) (now (fronts .exit)) r ⌝ }
+    requires { ⌜ Rows n (now headers) (now pool) × Standing count (now pool) at × (total (tallied n (now headers) (now pool)) + count ≤ 4294967295)
+        × (0 < length (now places)) × (length (now fronts) ≡ length (now places)) ⌝ }
+    ensures { λ r. ⌜ Ran n (now (pool .entry)) at count (tallied n (now (headers .entry)) (now (pool .entry))) (now (headers .exit))
+        (now (places .exit)) (now (fronts .exit)) r ⌝ }
 {
     let mut place = at;
     let mut near = n;

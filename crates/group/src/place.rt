@@ -33,7 +33,8 @@ fn put_interaction_term(terms: &mut [u32], at: usize, coef: u32, index: u32, fie
 // A term of one of the two families.
 fn put_term(terms: &mut [u32], at: usize, interaction: bool, index: u32, field: u32, coef: u32)
     requires { ⌜ widthOf interaction * at + widthOf interaction ≤ length (now terms) ⌝ }
-    ensures { λ _. ⌜ ((t : Item) → (t .index ≡ index) → (t .field ≡ field) → (t .coef ≡ coef) → now (terms .exit) ≡ sets (now (terms .entry)) (widthOf interaction * at) (termOf interaction t)) ⌝ }
+    ensures { λ _. ⌜ ((t : Item) → (t .index ≡ index) → (t .field ≡ field) → (t .coef ≡ coef)
+        → now (terms .exit) ≡ sets (now (terms .entry)) (widthOf interaction * at) (termOf interaction t)) ⌝ }
 {
     if interaction {
         put_interaction_term(terms, at, coef, index, field);
@@ -54,8 +55,10 @@ pub fn place_monomial(
     terms: &mut [u32],
     near: usize,
 ) -> usize
-    requires { ⌜ ToPlace interaction n (now headers) (now pool) (now terms) (itemAt index field (readMonomial (drop at (now pool))) ∷ []) × (getD (now pool) at 0 ≤ 14) × (at + 2 + getD (now pool) at 0 ≤ length (now pool)) ⌝ }
-    ensures { λ _. ⌜ Places interaction n (now (pool .entry)) (now (headers .entry)) (now (terms .entry)) (now (headers .exit)) (now (terms .exit)) (itemAt index field (readMonomial (drop at (now (pool .entry)))) ∷ []) ⌝ }
+    requires { ⌜ ToPlace interaction n (now headers) (now pool) (now terms) (itemAt index field (readMonomial (drop at (now pool))) ∷ [])
+        × (getD (now pool) at 0 ≤ 14) × (at + 2 + getD (now pool) at 0 ≤ length (now pool)) ⌝ }
+    ensures { λ _. ⌜ Places interaction n (now (pool .entry)) (now (headers .entry)) (now (terms .entry)) (now (headers .exit)) (now (terms .exit))
+        (itemAt index field (readMonomial (drop at (now (pool .entry)))) ∷ []) ⌝ }
 {
     let coef = pool[at + 1];
     let found = crate::search::find_near(headers, n, pool, at, near);
@@ -64,7 +67,14 @@ pub fn place_monomial(
     };
     let row = 4 * k;
     let cursor = headers[row + 1];
-    put_term(terms, answers::wide(cursor), interaction, index, field, coef);
+    put_term(
+        terms,
+        answers::wide(cursor),
+        interaction,
+        index,
+        field,
+        coef,
+    );
     headers[row + 1] = cursor + 1;
     k
 }
@@ -81,8 +91,10 @@ fn place_kept(
     terms: &mut [u32],
     near: usize,
 ) -> usize
-    requires { ⌜ ToPlace interaction n (now headers) (now pool) (now terms) (itemsAt index field (readMonomial (drop at (now pool)) ∷ [])) × (getD (now pool) at 0 ≤ 14) × (at + 2 + getD (now pool) at 0 ≤ length (now pool)) ⌝ }
-    ensures { λ _. ⌜ Places interaction n (now (pool .entry)) (now (headers .entry)) (now (terms .entry)) (now (headers .exit)) (now (terms .exit)) (itemsAt index field (readMonomial (drop at (now (pool .entry))) ∷ [])) ⌝ }
+    requires { ⌜ ToPlace interaction n (now headers) (now pool) (now terms) (itemsAt index field (readMonomial (drop at (now pool)) ∷ []))
+        × (getD (now pool) at 0 ≤ 14) × (at + 2 + getD (now pool) at 0 ≤ length (now pool)) ⌝ }
+    ensures { λ _. ⌜ Places interaction n (now (pool .entry)) (now (headers .entry)) (now (terms .entry)) (now (headers .exit)) (now (terms .exit))
+        (itemsAt index field (readMonomial (drop at (now (pool .entry))) ∷ [])) ⌝ }
 {
     if pool[at + 1] == 0 {
         return near;
@@ -102,8 +114,10 @@ pub fn place_list(
     field: u32,
     terms: &mut [u32],
 )
-    requires { ⌜ ToPlace interaction n (now headers) (now pool) (now terms) (itemsAt index field (listIn (now pool) at count)) × Standing count (now pool) at ⌝ }
-    ensures { λ _. ⌜ Places interaction n (now (pool .entry)) (now (headers .entry)) (now (terms .entry)) (now (headers .exit)) (now (terms .exit)) (itemsAt index field (listIn (now (pool .entry)) at count)) ⌝ }
+    requires { ⌜ ToPlace interaction n (now headers) (now pool) (now terms) (itemsAt index field (listIn (now pool) at count))
+        × Standing count (now pool) at ⌝ }
+    ensures { λ _. ⌜ Places interaction n (now (pool .entry)) (now (headers .entry)) (now (terms .entry)) (now (headers .exit)) (now (terms .exit))
+        (itemsAt index field (listIn (now (pool .entry)) at count)) ⌝ }
 {
     let mut near = n;
     let mut place = at;
@@ -137,7 +151,8 @@ pub fn place_root(
     terms: &mut [u32],
 )
     requires { ⌜ ToPlace interaction n (now headers) (now pool) (now terms) (itemsAt index field (listOf (now pool) node)) × InPool (now pool) node ⌝ }
-    ensures { λ _. ⌜ Places interaction n (now (pool .entry)) (now (headers .entry)) (now (terms .entry)) (now (headers .exit)) (now (terms .exit)) (itemsAt index field (listOf (now (pool .entry)) node)) ⌝ }
+    ensures { λ _. ⌜ Places interaction n (now (pool .entry)) (now (headers .entry)) (now (terms .entry)) (now (headers .exit)) (now (terms .exit))
+        (itemsAt index field (listOf (now (pool .entry)) node)) ⌝ }
 {
     let at = answers::wide(pool[2 * node]);
     let count = answers::wide(pool[2 * node + 1]);
@@ -156,8 +171,11 @@ pub fn place_root(
 
 // The variables of row i go to `at`; hands back where the next go.
 fn write_row(headers: &[u32], i: usize, pool: &[u32], variables: &mut [u32], at: usize) -> usize
-    requires { ⌜ (4 * i + 4 ≤ length (now headers)) × (getD (now headers) (4 * i) 0 + 2 + getD (now headers) (4 * i + 2) 0 ≤ length (now pool)) × (at + getD (now headers) (4 * i + 2) 0 ≤ length (now variables)) ⌝ }
-    ensures { λ r. ⌜ (r ≡ at + getD (now (headers .entry)) (4 * i + 2) 0) × (now (variables .exit) ≡ take at (now (variables .entry)) ++ (take (getD (now (headers .entry)) (4 * i + 2) 0) (drop (getD (now (headers .entry)) (4 * i) 0 + 2) (now (pool .entry))) ++ drop (at + getD (now (headers .entry)) (4 * i + 2) 0) (now (variables .entry)))) ⌝ }
+    requires { ⌜ (4 * i + 4 ≤ length (now headers)) × (getD (now headers) (4 * i) 0 + 2 + getD (now headers) (4 * i + 2) 0 ≤ length (now pool))
+        × (at + getD (now headers) (4 * i + 2) 0 ≤ length (now variables)) ⌝ }
+    ensures { λ r. ⌜ (r ≡ at + getD (now (headers .entry)) (4 * i + 2) 0) × (now (variables .exit) ≡ take at (now (variables .entry)) ++
+        (take (getD (now (headers .entry)) (4 * i + 2) 0) (drop (getD (now (headers .entry)) (4 * i) 0 + 2) (now (pool .entry)))
+        ++ drop (at + getD (now (headers .entry)) (4 * i + 2) 0) (now (variables .entry)))) ⌝ }
 {
     let row = 4 * i;
     let from = answers::wide(headers[row]) + 2;
@@ -170,7 +188,8 @@ fn write_row(headers: &[u32], i: usize, pool: &[u32], variables: &mut [u32], at:
 // The variables of the rows, one after another.
 pub fn write_variables(headers: &[u32], n: usize, pool: &[u32], variables: &mut [u32])
     requires { ⌜ Rows n (now headers) (now pool) × (length (varsIn (tallied n (now headers) (now pool))) ≤ length (now variables)) ⌝ }
-    ensures { λ _. ⌜ now (variables .exit) ≡ varsIn (tallied n (now (headers .entry)) (now (pool .entry))) ++ drop (length (varsIn (tallied n (now (headers .entry)) (now (pool .entry))))) (now (variables .entry)) ⌝ }
+    ensures { λ _. ⌜ now (variables .exit) ≡ varsIn (tallied n (now (headers .entry)) (now (pool .entry)))
+        ++ drop (length (varsIn (tallied n (now (headers .entry)) (now (pool .entry))))) (now (variables .entry)) ⌝ }
 {
     let mut at: usize = 0;
     let mut i: usize = 0;

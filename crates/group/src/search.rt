@@ -11,8 +11,10 @@ use monomial::vars::Order;
 
 // Where the monomial that stands at `at` is in the order, seen from row i.
 fn order_of_row(headers: &[u32], i: usize, pool: &[u32], at: usize) -> Order
-    requires { ⌜ (4 * i + 4 ≤ length (now headers)) × (getD (now headers) (4 * i) 0 + 2 + getD (now headers) (4 * i + 2) 0 ≤ length (now pool)) × (at + 2 + getD (now pool) at 0 ≤ length (now pool)) ⌝ }
-    ensures { λ r. ⌜ r ≡ orderOf (readMonomial (drop at (now (pool .entry))) .vars) (take (getD (now (headers .entry)) (4 * i + 2) 0) (drop (getD (now (headers .entry)) (4 * i) 0 + 2) (now (pool .entry)))) ⌝ }
+    requires { ⌜ (4 * i + 4 ≤ length (now headers)) × (getD (now headers) (4 * i) 0 + 2 + getD (now headers) (4 * i + 2) 0 ≤ length (now pool))
+        × (at + 2 + getD (now pool) at 0 ≤ length (now pool)) ⌝ }
+    ensures { λ r. ⌜ r ≡ orderOf (readMonomial (drop at (now (pool .entry))) .vars)
+        (take (getD (now (headers .entry)) (4 * i + 2) 0) (drop (getD (now (headers .entry)) (4 * i) 0 + 2) (now (pool .entry)))) ⌝ }
 {
     let row = 4 * i;
     vars::order_at(
@@ -27,7 +29,8 @@ fn order_of_row(headers: &[u32], i: usize, pool: &[u32], at: usize) -> Order
 
 // Searches the rows between two: those below `from` stand before the monomial's variables, those from `to` on behind them.
 fn search_rows(headers: &[u32], n: usize, from: usize, to: usize, pool: &[u32], at: usize) -> Found
-    requires { ⌜ Rows n (now headers) (now pool) × (at + 2 + getD (now pool) at 0 ≤ length (now pool)) × Between (readMonomial (drop at (now pool)) .vars) (tallied n (now headers) (now pool)) from to ⌝ }
+    requires { ⌜ Rows n (now headers) (now pool) × (at + 2 + getD (now pool) at 0 ≤ length (now pool))
+        × Between (readMonomial (drop at (now pool)) .vars) (tallied n (now headers) (now pool)) from to ⌝ }
     ensures { λ r. ⌜ Spot (readMonomial (drop at (now (pool .entry))) .vars) (tallied n (now (headers .entry)) (now (pool .entry))) r ⌝ }
 {
     let mut low = from;
@@ -46,7 +49,8 @@ fn search_rows(headers: &[u32], n: usize, from: usize, to: usize, pool: &[u32], 
 
 // Searches the rows from `from` on, in steps that double: those below stand before the monomial's variables.
 fn search_on(headers: &[u32], n: usize, from: usize, pool: &[u32], at: usize) -> Found
-    requires { ⌜ Rows n (now headers) (now pool) × (at + 2 + getD (now pool) at 0 ≤ length (now pool)) × Between (readMonomial (drop at (now pool)) .vars) (tallied n (now headers) (now pool)) from n ⌝ }
+    requires { ⌜ Rows n (now headers) (now pool) × (at + 2 + getD (now pool) at 0 ≤ length (now pool))
+        × Between (readMonomial (drop at (now pool)) .vars) (tallied n (now headers) (now pool)) from n ⌝ }
     ensures { λ r. ⌜ Spot (readMonomial (drop at (now (pool .entry))) .vars) (tallied n (now (headers .entry)) (now (pool .entry))) r ⌝ }
 {
     let mut low = from;

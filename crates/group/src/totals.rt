@@ -39,7 +39,8 @@ pub fn total_terms(headers: &[u32], n: usize) -> usize
 // The cursor of each row is set to where its first term goes: the total of the terms before it.
 pub fn start_terms(headers: &mut [u32], n: usize)
     requires { ⌜ (4 * n ≤ length (now headers)) × (sum (column 3 n (now headers)) ≤ 4294967295) ⌝ }
-    ensures { λ _. ⌜ (rows 4 n (now (headers .exit)) ≡ totalled 1 3 0 (rows 4 n (now (headers .entry)))) × (drop (4 * n) (now (headers .exit)) ≡ drop (4 * n) (now (headers .entry))) ⌝ }
+    ensures { λ _. ⌜ (rows 4 n (now (headers .exit)) ≡ totalled 1 3 0 (rows 4 n (now (headers .entry))))
+        × (drop (4 * n) (now (headers .exit)) ≡ drop (4 * n) (now (headers .entry))) ⌝ }
 {
     let mut total: u32 = 0;
     let mut i: usize = 0;
@@ -55,7 +56,8 @@ pub fn start_terms(headers: &mut [u32], n: usize)
 // Both offsets of each row are set to the totals over the rows before it, in one pass over headers.
 pub fn fill_offsets(headers: &mut [u32], n: usize)
     requires { ⌜ (4 * n ≤ length (now headers)) × (sum (column 2 n (now headers)) ≤ 4294967295) × (sum (column 3 n (now headers)) ≤ 4294967295) ⌝ }
-    ensures { λ _. ⌜ (rows 4 n (now (headers .exit)) ≡ totalled 1 3 0 (totalled 0 2 0 (rows 4 n (now (headers .entry))))) × (drop (4 * n) (now (headers .exit)) ≡ drop (4 * n) (now (headers .entry))) ⌝ }
+    ensures { λ _. ⌜ (rows 4 n (now (headers .exit)) ≡ totalled 1 3 0 (totalled 0 2 0 (rows 4 n (now (headers .entry)))))
+        × (drop (4 * n) (now (headers .exit)) ≡ drop (4 * n) (now (headers .entry))) ⌝ }
 {
     words::fill_words(headers, n)
 }

@@ -12,10 +12,10 @@ ghost use Rattle.expand.specs.Walking.{Expands};
 ghost use Rattle.grouping.specs.Families.{Grouping};
 ghost use Rattle.constraint_lists.specs.Lists.{CheckedSheet};
 ghost use Rattle.interaction_lists.specs.Lists.{longestFrom, interactionAnswer, interactionsOf, BothInside};
+use answers::Refusal;
 use expand::Expanded;
 use grouping::Grouped;
 use grouping::Lengths;
-use answers::Refusal;
 
 // How many words each list of the interactions takes, and the two numbers.
 pub struct InteractionLengths {

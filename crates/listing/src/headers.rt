@@ -63,8 +63,10 @@ fn put_terms(
     from: usize,
     count: usize,
 ) -> usize
-    requires { ⌜ (from + widthOf family * count ≤ length (now terms)) × Room (now out) at (flatMap (lineOf family) (rows (widthOf family) count (drop from (now terms)))) ⌝ }
-    ensures { λ r. ⌜ Puts (now (out .entry)) at (flatMap (lineOf family) (rows (widthOf family) count (drop from (now (terms .entry))))) (now (out .exit)) r ⌝ }
+    requires { ⌜ (from + widthOf family * count ≤ length (now terms))
+        × Room (now out) at (flatMap (lineOf family) (rows (widthOf family) count (drop from (now terms)))) ⌝ }
+    ensures { λ r. ⌜ Puts (now (out .entry)) at (flatMap (lineOf family) (rows (widthOf family) count (drop from (now (terms .entry)))))
+        (now (out .exit)) r ⌝ }
 {
     let step = width(family);
     let mut next = at;
@@ -123,8 +125,12 @@ fn put_header(
     variables: &[u32],
     terms: &[u32],
 ) -> usize
-    requires { ⌜ (h + 4 ≤ length (now headers)) × HeaderInside (widthOf family) (take 4 (drop h (now headers))) (now variables) (now terms) × Room (now out) at (headerText family (listedAt (widthOf family) (now variables) (now terms) (take 4 (drop h (now headers))))) ⌝ }
-    ensures { λ r. ⌜ Puts (now (out .entry)) at (headerText family (listedAt (widthOf family) (now (variables .entry)) (now (terms .entry)) (take 4 (drop h (now (headers .entry)))))) (now (out .exit)) r ⌝ }
+    requires { ⌜ (h + 4 ≤ length (now headers)) × HeaderInside (widthOf family) (take 4 (drop h (now headers))) (now variables) (now terms)
+        × Room (now out) at (headerText family (listedAt (widthOf family) (now variables) (now terms) (take 4 (drop h (now headers))))) ⌝ }
+    ensures { λ r. ⌜ Puts (now (out .entry)) at
+        (headerText family
+        (listedAt (widthOf family) (now (variables .entry)) (now (terms .entry)) (take 4 (drop h (now (headers .entry))))))
+        (now (out .exit)) r ⌝ }
 {
     let vars = answers::wide(headers[h]);
     let first = width(family) * answers::wide(headers[h + 1]);
@@ -143,8 +149,10 @@ pub fn put_headers(
     variables: &[u32],
     terms: &[u32],
 ) -> usize
-    requires { ⌜ HeadersInside (widthOf family) (now headers) (now variables) (now terms) × Room (now out) at (familyLines family (now headers) (now variables) (now terms)) ⌝ }
-    ensures { λ r. ⌜ Puts (now (out .entry)) at (familyLines family (now (headers .entry)) (now (variables .entry)) (now (terms .entry))) (now (out .exit)) r ⌝ }
+    requires { ⌜ HeadersInside (widthOf family) (now headers) (now variables) (now terms)
+        × Room (now out) at (familyLines family (now headers) (now variables) (now terms)) ⌝ }
+    ensures { λ r. ⌜ Puts (now (out .entry)) at (familyLines family (now (headers .entry)) (now (variables .entry)) (now (terms .entry)))
+        (now (out .exit)) r ⌝ }
 {
     let count = headers.len() / 4;
     let mut next = at;

@@ -31,7 +31,8 @@ pub fn vars_in(words: &[u32], at: usize) -> usize
 // The monomial that stands at `at`; the words may end within its variables.
 pub fn monomial_in(words: &[u32], at: usize) -> Monomial
     requires { ⌜ (at + 2 ≤ length (now words)) × (length (readMonomial (drop at (now words)) .vars) ≤ 14) ⌝ }
-    ensures { λ r. ⌜ (monomialOf r ≡ readMonomial (drop at (now (words .entry)))) × (r .count ≡ length (readMonomial (drop at (now (words .entry))) .vars)) ⌝ }
+    ensures { λ r. ⌜ (monomialOf r ≡ readMonomial (drop at (now (words .entry))))
+        × (r .count ≡ length (readMonomial (drop at (now (words .entry))) .vars)) ⌝ }
 {
     let mut vars = [PackedVar(0); 14];
     let count = vars_in(words, at);
@@ -62,7 +63,9 @@ pub fn copy_part(list: &[u32], from: usize, n: usize, out: &mut [u32], at: usize
 // Writes the words of the monomial with n variables whose row is at `from`.
 pub fn write_row(work: &[u32], from: usize, n: usize, out: &mut [u32], at: usize)
     requires { ⌜ (n ≤ 14) × (from + 2 + n ≤ length (now work)) × (at + 2 + n ≤ length (now out)) ⌝ }
-    ensures { λ _. ⌜ now (out .exit) ≡ take at (now (out .entry)) ++ ((n ∷ getD (now (work .entry)) (from + 1) 0 ∷ take n (drop (from + 2) (now (work .entry)))) ++ drop (at + 2 + n) (now (out .entry))) ⌝ }
+    ensures { λ _. ⌜ now (out .exit)
+        ≡ take at (now (out .entry)) ++ ((n ∷ getD (now (work .entry)) (from + 1) 0 ∷ take n (drop (from + 2) (now (work .entry))))
+        ++ drop (at + 2 + n) (now (out .entry))) ⌝ }
 {
     out[at] = n as u32;
     out[at + 1] = work[from + 1];
@@ -88,8 +91,11 @@ pub fn combine_row(
     at: usize,
     m: usize,
 ) -> usize
-    requires { ⌜ (count + m ≤ 256) × Summed count (now work) × ListFits (now pool) at m × (left .count ≤ 14) × Fits (monomialOf left) × (left .count + longestOf (listIn (now pool) at m) ≤ 14) ⌝ }
-    ensures { λ r. ⌜ (held r (now (work .exit)) ≡ insertAll (map (mulMonomial prime (monomialOf left)) (listIn (now (pool .entry)) at m)) (held count (now (work .entry)))) × (r ≤ count + m) ⌝ }
+    requires { ⌜ (count + m ≤ 256) × Summed count (now work) × ListFits (now pool) at m
+        × (left .count ≤ 14) × Fits (monomialOf left) × (left .count + longestOf (listIn (now pool) at m) ≤ 14) ⌝ }
+    ensures { λ r. ⌜ (held r (now (work .exit))
+        ≡ insertAll (map (mulMonomial prime (monomialOf left)) (listIn (now (pool .entry)) at m)) (held count (now (work .entry))))
+        × (r ≤ count + m) ⌝ }
 {
     let mut total = count;
     let mut from = at;

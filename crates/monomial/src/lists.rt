@@ -49,7 +49,8 @@ pub fn combine_list(
     negated: bool,
 ) -> usize
     requires { ⌜ (count + n ≤ 256) × Summed count (now work) × ListFits (now pool) at n ⌝ }
-    ensures { λ r. ⌜ (held r (now (work .exit)) ≡ insertAll (signed negated (listIn (now (pool .entry)) at n)) (held count (now (work .entry)))) × (r ≤ count + n) ⌝ }
+    ensures { λ r. ⌜ (held r (now (work .exit)) ≡ insertAll (signed negated (listIn (now (pool .entry)) at n)) (held count (now (work .entry))))
+        × (r ≤ count + n) ⌝ }
 {
     let mut total = count;
     let mut from = at;
@@ -89,8 +90,11 @@ pub fn multiply_lists(
     right: usize,
     m: usize,
 ) -> usize
-    requires { ⌜ (n * m ≤ 256) × (4096 ≤ length (now work)) × ListFits (now pool) left n × ListFits (now pool) right m × (longestOf (listIn (now pool) left n) + longestOf (listIn (now pool) right m) ≤ 14) ⌝ }
-    ensures { λ r. ⌜ (held r (now (work .exit)) ≡ insertAll (products prime (listIn (now (pool .entry)) left n) (listIn (now (pool .entry)) right m)) []) × (r ≤ n * m) ⌝ }
+    requires { ⌜ (n * m ≤ 256) × (4096 ≤ length (now work)) × ListFits (now pool) left n
+        × ListFits (now pool) right m × (longestOf (listIn (now pool) left n) + longestOf (listIn (now pool) right m) ≤ 14) ⌝ }
+    ensures { λ r. ⌜ (held r (now (work .exit))
+        ≡ insertAll (products prime (listIn (now (pool .entry)) left n) (listIn (now (pool .entry)) right m)) [])
+        × (r ≤ n * m) ⌝ }
 {
     let mut total: usize = 0;
     let mut from = left;
@@ -139,8 +143,10 @@ pub fn list_size(work: &[u32], count: usize) -> usize
 
 // Writes the work list to the front of what is lent.
 pub fn write_list(work: &[u32], count: usize, out: &mut [u32])
-    requires { ⌜ (count ≤ 256) × (16 * count ≤ length (now work)) × All Fits (held count (now work)) × (listSize (held count (now work)) ≤ length (now out)) ⌝ }
-    ensures { λ _. ⌜ now (out .exit) ≡ listWords (held count (now (work .entry))) ++ drop (listSize (held count (now (work .entry)))) (now (out .entry)) ⌝ }
+    requires { ⌜ (count ≤ 256) × (16 * count ≤ length (now work)) × All Fits (held count (now work))
+        × (listSize (held count (now work)) ≤ length (now out)) ⌝ }
+    ensures { λ _. ⌜ now (out .exit)
+        ≡ listWords (held count (now (work .entry))) ++ drop (listSize (held count (now (work .entry)))) (now (out .entry)) ⌝ }
 {
     let mut at: usize = 0;
     let mut k: usize = 0;

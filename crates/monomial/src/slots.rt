@@ -21,7 +21,8 @@ pub enum Found {
 // Writes the sixteen words of slot k.
 pub fn put_slot(work: &mut [u32], k: usize, m: Monomial)
     requires { ⌜ (m .count ≤ 14) × (16 * k + 16 ≤ length (now work)) ⌝ }
-    ensures { λ _. ⌜ now (work .exit) ≡ take (16 * k) (now (work .entry)) ++ ((m .count ∷ m .coef ∷ nums (m .vars)) ++ drop (16 * k + 16) (now (work .entry))) ⌝ }
+    ensures { λ _. ⌜ now (work .exit)
+        ≡ take (16 * k) (now (work .entry)) ++ ((m .count ∷ m .coef ∷ nums (m .vars)) ++ drop (16 * k + 16) (now (work .entry))) ⌝ }
 {
     let at = 16 * k;
     let vars = m.vars;
@@ -76,7 +77,9 @@ pub fn find_monomial(work: &[u32], count: usize, m: Monomial) -> Found
 // Puts m in front of slot k, unless its coefficient is 0.
 pub fn insert_at(work: &mut [u32], count: usize, k: usize, m: Monomial) -> usize
     requires { ⌜ (k ≤ count) × (count + 1 ≤ 256) × (4096 ≤ length (now work)) × (m .count ≤ 14) ⌝ }
-    ensures { λ r. ⌜ (held r (now (work .exit)) ≡ take k (held count (now (work .entry))) ++ keep (monomialOf m) (drop k (held count (now (work .entry))))) × (r ≤ count + 1) ⌝ }
+    ensures { λ r. ⌜ (held r (now (work .exit))
+        ≡ take k (held count (now (work .entry))) ++ keep (monomialOf m) (drop k (held count (now (work .entry)))))
+        × (r ≤ count + 1) ⌝ }
 {
     if m.coef == 0 {
         return count;
@@ -89,7 +92,9 @@ pub fn insert_at(work: &mut [u32], count: usize, k: usize, m: Monomial) -> usize
 // Sums m into slot k, and takes the slot out where the sum is 0.
 pub fn sum_at(work: &mut [u32], count: usize, k: usize, m: Monomial) -> usize
     requires { ⌜ (k < count) × (count ≤ 256) × (4096 ≤ length (now work)) ⌝ }
-    ensures { λ r. ⌜ (held r (now (work .exit)) ≡ take k (held count (now (work .entry))) ++ keep (plus prime (monomialOf m) (getD (held count (now (work .entry))) k one)) (drop (k + 1) (held count (now (work .entry))))) × (r ≤ count) ⌝ }
+    ensures { λ r. ⌜ (held r (now (work .exit)) ≡ take k (held count (now (work .entry)))
+        ++ keep (plus prime (monomialOf m) (getD (held count (now (work .entry))) k one)) (drop (k + 1) (held count (now (work .entry)))))
+        × (r ≤ count) ⌝ }
 {
     let sum = field::add(m.coef, work[16 * k + 1]);
     if sum == 0 {

@@ -65,7 +65,10 @@ struct Next {
 // The lower of the first variables that are left: of a from i to n, of b from j to m.
 fn next_var(a: [PackedVar; 14], i: usize, n: usize, b: [PackedVar; 14], j: usize, m: usize) -> Next
     requires { ⌜ (i ≤ n) × (n ≤ 14) × (j ≤ m) × (m ≤ 14) × (i + j < n + m) ⌝ }
-    ensures { λ r. ⌜ (r .left ≤ 1) × (i + r .left ≤ n) × (j + (1 - r .left) ≤ m) × (merged (take (n - i) (drop i (nums a))) (take (m - j) (drop j (nums b))) ≡ num (r .var) ∷ merged (take (n - (i + r .left)) (drop (i + r .left) (nums a))) (take (m - (j + (1 - r .left))) (drop (j + (1 - r .left)) (nums b)))) ⌝ }
+    ensures { λ r. ⌜ (r .left ≤ 1) × (i + r .left ≤ n) × (j + (1 - r .left) ≤ m) ×
+        (merged (take (n - i) (drop i (nums a))) (take (m - j) (drop j (nums b)))
+        ≡ num (r .var) ∷ merged (take (n - (i + r .left)) (drop (i + r .left) (nums a)))
+        (take (m - (j + (1 - r .left))) (drop (j + (1 - r .left)) (nums b)))) ⌝ }
 {
     if m <= j {
         return Next { var: a[i], left: 1 };

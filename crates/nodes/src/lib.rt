@@ -73,7 +73,10 @@ fn find_node(out: &[u32], n: usize, from: usize, r: Record) -> usize
 // The node equal to r, which no node below `from` is; appended where there is none.
 pub fn intern_node(out: &mut [u32], n: usize, from: usize, r: Record) -> Interned
     requires { ⌜ (from ≤ n) × (place 5 (n + 1) ≤ length (now out)) ⌝ }
-    ensures { λ x. ⌜ ((ns : List semantics.Record) → now (out .entry) ≡ nodesOut (length (now (out .entry))) ns → n ≡ length ns → NoneBefore from (fiveWords r) ns → (x .index ≡ find (fiveWords r) ns) × (now (out .exit) ≡ nodesOut (length (now (out .entry))) (intern (fiveWords r) ns)) × (x .count ≡ length (intern (fiveWords r) ns))) ⌝ }
+    ensures { λ x. ⌜ ((ns : List semantics.Record) → now (out .entry) ≡ nodesOut (length (now (out .entry))) ns
+        → n ≡ length ns → NoneBefore from (fiveWords r) ns
+        → (x .index ≡ find (fiveWords r) ns) × (now (out .exit) ≡ nodesOut (length (now (out .entry))) (intern (fiveWords r) ns))
+        × (x .count ≡ length (intern (fiveWords r) ns))) ⌝ }
 {
     let at = find_node(out, n, from, r);
     if at < n {

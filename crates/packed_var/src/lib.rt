@@ -1,6 +1,6 @@
 // Packed variables, as PackedVar in monomial.rs.
-use symbolic_variable::Entry;
 use answers::Refusal;
+use symbolic_variable::Entry;
 use symbolic_variable::SymbolicVariable;
 ghost use mathlib.Core.Path.{_≡_};
 ghost use Prim.Native.Nat.{_+_, _*_, _<_};

@@ -1,6 +1,6 @@
 // The leaf that a record's five words encode: a variable or a row mark.
-use symbolic_variable::Entry;
 use answers::Refusal;
+use symbolic_variable::Entry;
 use symbolic_variable::SymbolicVariable;
 ghost use mathlib.Core.Path.{_≡_};
 ghost use Prim.Native.Nat.{_≤_};

@@ -1,9 +1,9 @@
 // Packing and unpacking: from a record's five words to a packed variable, and back.
+use answers::Refusal;
 use leaf::Leaf;
 use leaf::LeafRead;
 use packed_var::Packed;
 use packed_var::PackedVar;
-use answers::Refusal;
 ghost use mathlib.Core.Path.{_≡_};
 ghost use Rattle.semantics.specs.Sheet.{recordOf};
 ghost use Rattle.semantics.specs.Packing.{unpacked};

@@ -78,7 +78,8 @@ fn row_of(kind: usize) -> [u8; 4]
 // One word of a record.
 fn check_word(s: &[u32], at: usize, how: u8, own: usize, a: u32) -> Scanned
     requires { ⌜ at ≤ length (now s) ⌝ }
-    ensures { λ r. ⌜ (scanOf (now (s .entry)) r ≡ scanWords 5 (fits (primeOf (now (s .entry))) own a how ∷ []) (reading at (drop at (now (s .entry))))) × Ends (now (s .entry)) r ⌝ }
+    ensures { λ r. ⌜ (scanOf (now (s .entry)) r ≡ scanWords 5 (fits (primeOf (now (s .entry))) own a how ∷ []) (reading at (drop at (now (s .entry)))))
+        × Ends (now (s .entry)) r ⌝ }
 {
     if s.len() <= at {
         return Scanned::Stop(Refusal {
@@ -98,7 +99,8 @@ fn check_word(s: &[u32], at: usize, how: u8, own: usize, a: u32) -> Scanned
 // The words a to d of a record, used as the row of its kind says.
 fn check_row(s: &[u32], at: usize, row: [u8; 4], own: usize, a: u32) -> Scanned
     requires { ⌜ at ≤ length (now s) ⌝ }
-    ensures { λ r. ⌜ (scanOf (now (s .entry)) r ≡ scanWords 5 (map (fits (primeOf (now (s .entry))) own a) row) (reading at (drop at (now (s .entry))))) × Ends (now (s .entry)) r ⌝ }
+    ensures { λ r. ⌜ (scanOf (now (s .entry)) r ≡ scanWords 5 (map (fits (primeOf (now (s .entry))) own a) row) (reading at (drop at (now (s .entry)))))
+        × Ends (now (s .entry)) r ⌝ }
 {
     let mut next = at;
     let mut j = 0;
@@ -116,7 +118,8 @@ fn check_row(s: &[u32], at: usize, row: [u8; 4], own: usize, a: u32) -> Scanned
 // A record: its kind, then its words a to d by the row of that kind.
 fn check_record(s: &[u32], at: usize, own: usize) -> Scanned
     requires { ⌜ at ≤ length (now s) ⌝ }
-    ensures { λ r. ⌜ (scanOf (now (s .entry)) r ≡ scanPart 5 (recordTests (primeOf (now (s .entry))) own) (reading at (drop at (now (s .entry))))) × Ends (now (s .entry)) r ⌝ }
+    ensures { λ r. ⌜ (scanOf (now (s .entry)) r ≡ scanPart 5 (recordTests (primeOf (now (s .entry))) own) (reading at (drop at (now (s .entry)))))
+        × Ends (now (s .entry)) r ⌝ }
 {
     if s.len() <= at {
         return Scanned::Stop(Refusal {
@@ -145,7 +148,8 @@ fn check_record(s: &[u32], at: usize, own: usize) -> Scanned
 // The records, from the front.
 pub fn check_records(s: &[u32], at: usize, count: usize) -> Scanned
     requires { ⌜ at ≤ length (now s) ⌝ }
-    ensures { λ r. ⌜ (scanOf (now (s .entry)) r ≡ scanParts 5 (recordTests (primeOf (now (s .entry)))) count 0 (reading at (drop at (now (s .entry))))) × Ends (now (s .entry)) r ⌝ }
+    ensures { λ r. ⌜ (scanOf (now (s .entry)) r ≡ scanParts 5 (recordTests (primeOf (now (s .entry)))) count 0 (reading at (drop at (now (s .entry)))))
+        × Ends (now (s .entry)) r ⌝ }
 {
     let mut next = at;
     let mut own = 0;
@@ -163,7 +167,8 @@ pub fn check_records(s: &[u32], at: usize, count: usize) -> Scanned
 // Words that name records, of which there are `records`.
 pub fn check_names(s: &[u32], at: usize, count: usize, records: usize) -> Scanned
     requires { ⌜ at ≤ length (now s) ⌝ }
-    ensures { λ r. ⌜ (scanOf (now (s .entry)) r ≡ scanWords 6 (replicate count (names records)) (reading at (drop at (now (s .entry))))) × Ends (now (s .entry)) r × Reaches (at + count) r ⌝ }
+    ensures { λ r. ⌜ (scanOf (now (s .entry)) r ≡ scanWords 6 (replicate count (names records)) (reading at (drop at (now (s .entry)))))
+        × Ends (now (s .entry)) r × Reaches (at + count) r ⌝ }
 {
     let mut i = at;
     let mut k = 0;
@@ -189,7 +194,8 @@ pub fn check_names(s: &[u32], at: usize, count: usize, records: usize) -> Scanne
 // A word that is at most a limit.
 fn check_limit(s: &[u32], at: usize, number: u32, limit: u32) -> Scanned
     requires { ⌜ at ≤ length (now s) ⌝ }
-    ensures { λ r. ⌜ (scanOf (now (s .entry)) r ≡ scanWords number ((λ w. leb w limit) ∷ []) (reading at (drop at (now (s .entry))))) × Ends (now (s .entry)) r × Reaches (at + 1) r ⌝ }
+    ensures { λ r. ⌜ (scanOf (now (s .entry)) r ≡ scanWords number ((λ w. leb w limit) ∷ []) (reading at (drop at (now (s .entry)))))
+        × Ends (now (s .entry)) r × Reaches (at + 1) r ⌝ }
 {
     if s.len() <= at {
         return Scanned::Stop(Refusal {
@@ -209,7 +215,8 @@ fn check_limit(s: &[u32], at: usize, number: u32, limit: u32) -> Scanned
 // A word that may be any.
 fn check_any(s: &[u32], at: usize) -> Scanned
     requires { ⌜ at ≤ length (now s) ⌝ }
-    ensures { λ r. ⌜ (scanOf (now (s .entry)) r ≡ scanWords 6 ((λ w. true) ∷ []) (reading at (drop at (now (s .entry))))) × Ends (now (s .entry)) r × Reaches (at + 1) r ⌝ }
+    ensures { λ r. ⌜ (scanOf (now (s .entry)) r ≡ scanWords 6 ((λ w. true) ∷ []) (reading at (drop at (now (s .entry)))))
+        × Ends (now (s .entry)) r × Reaches (at + 1) r ⌝ }
 {
     if s.len() <= at {
         return Scanned::Stop(Refusal {
@@ -223,7 +230,8 @@ fn check_any(s: &[u32], at: usize) -> Scanned
 // An interaction: bus, weight, count, message length, then as many names as that says.
 fn check_interaction(s: &[u32], at: usize, records: usize) -> Scanned
     requires { ⌜ at ≤ length (now s) ⌝ }
-    ensures { λ r. ⌜ (scanOf (now (s .entry)) r ≡ scanPart 6 (interactionTests records) (reading at (drop at (now (s .entry))))) × Ends (now (s .entry)) r ⌝ }
+    ensures { λ r. ⌜ (scanOf (now (s .entry)) r ≡ scanPart 6 (interactionTests records) (reading at (drop at (now (s .entry)))))
+        × Ends (now (s .entry)) r ⌝ }
 {
     let bus = check_limit(s, at, 6, 65535);
     let Scanned::Next(one) = bus else {
@@ -247,7 +255,8 @@ fn check_interaction(s: &[u32], at: usize, records: usize) -> Scanned
 // The interactions, from the front.
 pub fn check_interactions(s: &[u32], at: usize, count: usize, records: usize) -> Scanned
     requires { ⌜ at ≤ length (now s) ⌝ }
-    ensures { λ r. ⌜ (scanOf (now (s .entry)) r ≡ scanParts 6 (λ own. interactionTests records) count 0 (reading at (drop at (now (s .entry))))) × Ends (now (s .entry)) r ⌝ }
+    ensures { λ r. ⌜ (scanOf (now (s .entry)) r ≡ scanParts 6 (λ own. interactionTests records) count 0 (reading at (drop at (now (s .entry)))))
+        × Ends (now (s .entry)) r ⌝ }
 {
     let mut next = at;
     let mut i = 0;
@@ -290,7 +299,8 @@ pub fn check_spare(s: &[u32], at: usize) -> Scanned
 
 // The form is 1.
 fn check_form(s: &[u32]) -> Scanned
-    ensures { λ r. ⌜ (scanOf (now (s .entry)) r ≡ scanWords 3 ((λ w. eqb w 1) ∷ []) (reading 0 (now (s .entry)))) × Ends (now (s .entry)) r × Reaches 1 r ⌝ }
+    ensures { λ r. ⌜ (scanOf (now (s .entry)) r ≡ scanWords 3 ((λ w. eqb w 1) ∷ []) (reading 0 (now (s .entry))))
+        × Ends (now (s .entry)) r × Reaches 1 r ⌝ }
 {
     if s.len() <= 0 {
         return Scanned::Stop(Refusal {

@@ -3,12 +3,11 @@ ghost use mathlib.Core.Path.{_≡_};
 ghost use lib.ListN.{length};
 ghost use Rattle.semantics.specs.Check.{primeOf};
 ghost use Rattle.semantics.specs.Call.{maxRotationCall, numConstraintsCall, conversionCall};
-ghost use Rattle.answers.specs.Replies.{writtenOutcome, finished};
-ghost use Rattle.answers.specs.Replies.{countedOutcome};
-use sheet::Checked;
+ghost use Rattle.answers.specs.Replies.{writtenOutcome, finished, countedOutcome};
 use answers::Counted;
 use answers::Refusal;
 use answers::Written;
+use sheet::Checked;
 
 mod rotation;
 

@@ -15,10 +15,9 @@ use Rattle.semantics.proofs.Basics.{cond-true}
 use Rattle.answers.specs.declared.Refusal.{Refusal}
 use Rattle.answers.specs.declared.Written.{Written}
 use Rattle.answers.specs.declared.Written.the-variants.{Words, Refused}
-use Rattle.answers.specs.Replies.{writtenOutcome}
+use Rattle.answers.specs.Replies.{writtenOutcome, countedOutcome}
 use Rattle.answers.specs.declared.Counted.{Counted}
 use Rattle.answers.specs.declared.Counted.the-variants as counted
-use Rattle.answers.specs.Replies.{countedOutcome}
 use Rattle.dag.specs.Calls.{builtOutcome}
 use Rattle.demands.proofs.Demands.{build-demand}
 use Rattle.listing.proofs.Steps.{builds, rotates, step-on, dagLine, afterGraph, graph-prints, sheet-prints}

@@ -14,6 +14,8 @@ ghost use Rattle.sheet_listing.specs.Inputs.{ReadOf};
 
 mod refusals;
 
+use answers::Counted;
+use answers::Written;
 use constraint_lists::ConstraintLists;
 use grouping::Lengths;
 use interaction_lists::InteractionLengths;
@@ -23,8 +25,6 @@ use libc::STDOUT_FILENO;
 use listing::headers;
 use listing::headers::Family;
 use listing::lines;
-use answers::Written;
-use answers::Counted;
 
 // The headers of a family, from the front of three slices.
 fn put_lists(
@@ -36,8 +36,10 @@ fn put_lists(
     variables: &[u32],
     terms: &[u32],
 ) -> usize
-    requires { ⌜ Fronts family n (now headers) (now variables) (now terms) × Room (now out) at (frontLines family n (now headers) (now variables) (now terms)) ⌝ }
-    ensures { λ r. ⌜ Puts (now (out .entry)) at (frontLines family n (now (headers .entry)) (now (variables .entry)) (now (terms .entry))) (now (out .exit)) r ⌝ }
+    requires { ⌜ Fronts family n (now headers) (now variables) (now terms)
+        × Room (now out) at (frontLines family n (now headers) (now variables) (now terms)) ⌝ }
+    ensures { λ r. ⌜ Puts (now (out .entry)) at (frontLines family n (now (headers .entry)) (now (variables .entry)) (now (terms .entry)))
+        (now (out .exit)) r ⌝ }
 {
     let h = n.headers;
     let v = n.variables;
@@ -57,8 +59,16 @@ fn put_both_lists(
     denom_variables: &[u32],
     denom_terms: &[u32],
 ) -> usize
-    requires { ⌜ Fronts Numerators (n .numerators) (now headers) (now variables) (now terms) × Fronts Denominators (n .denominators) (now «denom_headers») (now «denom_variables») (now «denom_terms») × Room (now out) at (frontLines Numerators (n .numerators) (now headers) (now variables) (now terms) ++ (frontLines Denominators (n .denominators) (now «denom_headers») (now «denom_variables») (now «denom_terms») ++ line (endText ∷ []))) ⌝ }
-    ensures { λ r. ⌜ Puts (now (out .entry)) at (frontLines Numerators (n .numerators) (now (headers .entry)) (now (variables .entry)) (now (terms .entry)) ++ (frontLines Denominators (n .denominators) (now («denom_headers» .entry)) (now («denom_variables» .entry)) (now («denom_terms» .entry)) ++ line (endText ∷ []))) (now (out .exit)) r ⌝ }
+    requires { ⌜ Fronts Numerators (n .numerators) (now headers) (now variables) (now terms)
+        × Fronts Denominators (n .denominators) (now «denom_headers») (now «denom_variables») (now «denom_terms»)
+        × Room (now out) at (frontLines Numerators (n .numerators) (now headers) (now variables) (now terms)
+        ++ (frontLines Denominators (n .denominators) (now «denom_headers») (now «denom_variables») (now «denom_terms»)
+        ++ line (endText ∷ []))) ⌝ }
+    ensures { λ r. ⌜ Puts (now (out .entry)) at
+        (frontLines Numerators (n .numerators) (now (headers .entry)) (now (variables .entry)) (now (terms .entry))
+        ++ (frontLines Denominators (n .denominators) (now («denom_headers» .entry)) (now («denom_variables» .entry))
+        (now («denom_terms» .entry)) ++ line (endText ∷ [])))
+        (now (out .exit)) r ⌝ }
 {
     let numerators = n.numerators;
     let denominators = n.denominators;
@@ -85,8 +95,14 @@ fn put_both_lists(
 
 // What the graph's interactions print.
 fn put_interactions(out: &mut [u8], at: usize, graph: &[u32]) -> usize
-    requires { ⌜ Room (now out) at (step interText (interactionCall (primeOf (now graph)) (now graph) 4096 4096 512 512 512 512 512 512) (interactionLines (primeOf (now graph)) (interactionCall (primeOf (now graph)) (now graph) 4096 4096 512 512 512 512 512 512))) ⌝ }
-    ensures { λ r. ⌜ Puts (now (out .entry)) at (step interText (interactionCall (primeOf (now (graph .entry))) (now (graph .entry)) 4096 4096 512 512 512 512 512 512) (interactionLines (primeOf (now (graph .entry))) (interactionCall (primeOf (now (graph .entry))) (now (graph .entry)) 4096 4096 512 512 512 512 512 512))) (now (out .exit)) r ⌝ }
+    requires { ⌜ Room (now out) at
+        (step interText (interactionCall (primeOf (now graph)) (now graph) 4096 4096 512 512 512 512 512 512)
+        (interactionLines (primeOf (now graph)) (interactionCall (primeOf (now graph)) (now graph) 4096 4096 512 512 512 512 512 512))) ⌝ }
+    ensures { λ r. ⌜ Puts (now (out .entry)) at
+        (step interText (interactionCall (primeOf (now (graph .entry))) (now (graph .entry)) 4096 4096 512 512 512 512 512 512)
+        (interactionLines (primeOf (now (graph .entry)))
+        (interactionCall (primeOf (now (graph .entry))) (now (graph .entry)) 4096 4096 512 512 512 512 512 512)))
+        (now (out .exit)) r ⌝ }
 {
     let mut work = [0u32; 4096];
     let mut pool = [0u32; 4096];
@@ -126,8 +142,14 @@ fn put_interactions(out: &mut [u8], at: usize, graph: &[u32]) -> usize
 
 // What the graph's constraints print, and what comes after them.
 fn put_constraints(out: &mut [u8], at: usize, graph: &[u32]) -> usize
-    requires { ⌜ Room (now out) at (step consText (constraintCall (primeOf (now graph)) (now graph) 4096 4096 1024 1024 1024) (constraintLines (primeOf (now graph)) (now graph) (constraintCall (primeOf (now graph)) (now graph) 4096 4096 1024 1024 1024))) ⌝ }
-    ensures { λ r. ⌜ Puts (now (out .entry)) at (step consText (constraintCall (primeOf (now (graph .entry))) (now (graph .entry)) 4096 4096 1024 1024 1024) (constraintLines (primeOf (now (graph .entry))) (now (graph .entry)) (constraintCall (primeOf (now (graph .entry))) (now (graph .entry)) 4096 4096 1024 1024 1024))) (now (out .exit)) r ⌝ }
+    requires { ⌜ Room (now out) at
+        (step consText (constraintCall (primeOf (now graph)) (now graph) 4096 4096 1024 1024 1024)
+        (constraintLines (primeOf (now graph)) (now graph) (constraintCall (primeOf (now graph)) (now graph) 4096 4096 1024 1024 1024))) ⌝ }
+    ensures { λ r. ⌜ Puts (now (out .entry)) at
+        (step consText (constraintCall (primeOf (now (graph .entry))) (now (graph .entry)) 4096 4096 1024 1024 1024)
+        (constraintLines (primeOf (now (graph .entry))) (now (graph .entry))
+        (constraintCall (primeOf (now (graph .entry))) (now (graph .entry)) 4096 4096 1024 1024 1024)))
+        (now (out .exit)) r ⌝ }
 {
     let mut work = [0u32; 4096];
     let mut pool = [0u32; 4096];
@@ -215,7 +237,8 @@ pub fn list_sheet(bytes: &[u8], out: &mut [u8; 65536]) -> usize
 
 // The same for the first n bytes, or for all of them where there are fewer.
 fn list_front(bytes: &[u8], n: usize, out: &mut [u8; 65536]) -> usize
-    ensures { λ r. ⌜ (now (out .exit) ≡ padded (sheetlist prime (take n (now (bytes .entry)))) 65536) × (r ≡ length (sheetlist prime (take n (now (bytes .entry))))) ⌝ }
+    ensures { λ r. ⌜ (now (out .exit) ≡ padded (sheetlist prime (take n (now (bytes .entry)))) 65536)
+        × (r ≡ length (sheetlist prime (take n (now (bytes .entry))))) ⌝ }
 {
     if bytes.len() < n {
         return list_sheet(bytes, out);
@@ -225,7 +248,8 @@ fn list_front(bytes: &[u8], n: usize, out: &mut [u8; 65536]) -> usize
 
 // The same for an input of which n bytes were read: all of it, or as much as the buffer takes.
 pub fn list_read(buffer: &[u8; 4097], n: usize, out: &mut [u8; 65536]) -> usize
-    ensures { λ r. ⌜ ((input : List ℕ) → ReadOf (now (buffer .entry)) n input → (now (out .exit) ≡ padded (sheetlist prime input) 65536) × (r ≡ length (sheetlist prime input))) ⌝ }
+    ensures { λ r. ⌜ ((input : List ℕ) → ReadOf (now (buffer .entry)) n input
+        → (now (out .exit) ≡ padded (sheetlist prime input) 65536) × (r ≡ length (sheetlist prime input))) ⌝ }
 {
     list_front(buffer, n, out)
 }

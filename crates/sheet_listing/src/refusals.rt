@@ -1,11 +1,11 @@
 // The refusal in the answer of a call that refused.
 ghost use mathlib.Core.Path.{_≡_};
 ghost use Rattle.sheet_listing.specs.Refusals.{ofWritten, ofCounted, ofConstraints, ofInteractions};
-use constraint_lists::ConstraintLists;
-use interaction_lists::InteractionLists;
+use answers::Counted;
 use answers::Refusal;
 use answers::Written;
-use answers::Counted;
+use constraint_lists::ConstraintLists;
+use interaction_lists::InteractionLists;
 
 // Of the reader and the builder.
 pub fn of_written(written: Written) -> Refusal

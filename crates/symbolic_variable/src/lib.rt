@@ -2,7 +2,6 @@
 ghost use mathlib.Core.Path.{_≡_};
 ghost use Rattle.symbolic_variable.specs.Variable.{offsetMoved, variableOf, degreeMultiple};
 ghost use Rattle.symbolic_variable.specs.Replies.{offsetOutcome, offsetCall, sumAnswer, rotatedOutcome, rotateCall, refusalOf, rotatedVariableOutcome, rotateVariableCall};
-
 use answers::Refusal;
 
 pub enum Entry {

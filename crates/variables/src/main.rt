@@ -1,11 +1,11 @@
 // Answers calls on entries and variables, one line for each case on standard input. oracle/README.md has the form of both.
+use answers::Refusal;
 use libc::STDIN_FILENO;
 use libc::STDOUT_FILENO;
 use packed_var::Packed;
 use packed_var::PackedVar;
 use symbolic_variable::Entry;
 use symbolic_variable::EntryOffset;
-use answers::Refusal;
 use symbolic_variable::Rotated;
 use symbolic_variable::RotatedVariable;
 use symbolic_variable::SymbolicVariable;

@@ -1,14 +1,14 @@
 // Replays stored answers: for each sheet on standard input the calls must answer as written behind it. oracle/README.md has the form of the input.
 ghost use Prim.Native.Nat.{_≤_};
 ghost use lib.ListN.{length};
+use answers::Refusal;
+use answers::Written;
 use constraint_lists::ConstraintLists;
 use grouping::Lengths;
 use interaction_lists::InteractionLengths;
 use interaction_lists::InteractionLists;
 use libc::STDIN_FILENO;
 use libc::STDOUT_FILENO;
-use answers::Refusal;
-use answers::Written;
 
 // The next byte, 0 at the end of the input.
 fn next_byte() -> u8 {

@@ -3,8 +3,7 @@ use Rattle.monomial.specs.Words.{held, listWords}
 use Rattle.monomial.proofs.Rows.{held-length}
 use Rattle.semantics.specs.Monomial as semantics
 use Rattle.semantics.specs.Expand.{listSize}
-use lib.ListN.{length-set}
-use lib.ListN.{set}
+use lib.ListN.{length-set, set}
 use native.Mathlib.Omega.{arith}
 use Prim.Native.Nat.{_+_, _*_}
 use mathlib.Core.List.{List}

@@ -1,9 +1,8 @@
 use mathlib.Core.Path.{_≡_, refl, sym, ap, subst, _∙_}
-use Prim.Native.Nat.{ℕ, _+_, _-_, _%_, _≤_, _<_}
+use Prim.Native.Nat.{ℕ, _+_, _-_, _%_, _≤_, _<_, pred}
 use native.Mathlib.Omega.{arith}
 use borrow.Author.Needs.{needs}
 use lib.ListN.{length, getD, length-set}
-use Prim.Native.Nat.{pred}
 use Rattle.records.specs.Access.{part}
 use Rattle.slices.specs.Putting.{put}
 use Rattle.graph_lists.specs.Lists.{nodeNumbers, marksOf}

@@ -22,8 +22,7 @@ use prog.Wp.{Heap, Out, Env, Wp, WpFn, Tables, afterTurn, afterBlock, afterSeq, 
 use ghost.Atoms.{Atoms}
 use contract.Monad.{Fun}
 use contract.Running.{givenOf, tables, tablesOf}
-use types.Kit.{Given, Item, Sq, runs, ‵, _⊛_, ⋆, anyQ, atRet, _$_, _∵_, !, qed, by, move, keep, drop, split, join, rewrite, fsplit, fjoin, feqI}
-use types.Kit.{suffices, frame, done}
+use types.Kit.{Given, Item, Sq, runs, ‵, _⊛_, ⋆, anyQ, atRet, _$_, _∵_, !, qed, by, move, keep, drop, split, join, rewrite, fsplit, fjoin, feqI, suffices, frame, done}
 use types.Run.{look, init, store, forget, stop, hop, fld, from, load, lit, unit-lit, of-opd, bin, addr, assigns, assigns-last, stays}
 use types.Run.{leaves-loop, returns, enter, alloc1, alloc0, params1, pass1, pass0, free1, free0, first, blocks, exec, loops, again, Below}
 use types.Part.{whole, sub, look-in, store-in}

@@ -21,8 +21,7 @@ use contract.Running.{givenOf, tables, tablesOf}
 use types.Kit.{Given, ‵, raw, some, later, _⊛_, _$_, _∵_, !, qed, by, move, keep, drop, use1, use2, use3, split, join, pick, rewrite, fsplit, fjoin}
 use types.Kit.{fpick, fpack, feqL, feqI, suffices, frame, await, done}
 use types.Tokens.{lft-new, lft-end}
-use types.Run.{look, init, forget, stop, from, load, lit, addr, of-opd, and-then, no-more, assigns, land, returns, enter, alloc1, alloc0, params1}
-use types.Run.{pass1, pass0, free1, free0}
+use types.Run.{look, init, forget, stop, from, load, lit, addr, of-opd, and-then, no-more, assigns, land, returns, enter, alloc1, alloc0, params1, pass1, pass0, free1, free0}
 use types.Part.{agg}
 use types.SemTy.{cells, Arr}
 use types.Share.{arr-parts}

@@ -12,8 +12,7 @@ use Rattle.semantics.specs.Check.{Scan, reading, scanWords, scanParts, scanShee
 use Rattle.sheet.specs.Scans.{scanOf}
 use Rattle.sheet.specs.Replies.{checkedOutcome}
 use Rattle.sheet.specs.declared.scan.Scanned.{Scanned}
-use Rattle.sheet.proofs.Laws.{Step, step, step-at, refuses, is-head}
-use Rattle.sheet.proofs.Laws.{afterInteractions, afterConstraints, afterRecords, afterHead, from-head}
+use Rattle.sheet.proofs.Laws.{Step, step, step-at, refuses, is-head, afterInteractions, afterConstraints, afterRecords, afterHead, from-head}
 use Rattle.sheet.proofs.Laws.{interactions-stay, constraints-stay, records-stay, head-stays}
 use Rattle.sheet.specs.declared.Checked.the-variants.{Sheet}
 use Rattle.sheet.proofs.check_sheet.Statement.{statement}

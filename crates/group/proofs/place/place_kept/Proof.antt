@@ -1,7 +1,6 @@
 use mathlib.Core.Path.{sym, subst, _∙_}
-use mathlib.Core.List.{List, _++_}
+use mathlib.Core.List.{List, _++_, append-nil}
 use lib.ListN.{drop}
-use mathlib.Core.List.{append-nil}
 use Rattle.semantics.specs.Group.{Item}
 use Rattle.monomial.specs.Words.{readMonomial}
 use Rattle.group.specs.Grouped.{Placing, ToPlace, Room}

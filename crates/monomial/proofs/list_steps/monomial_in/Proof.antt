@@ -2,8 +2,7 @@ use mathlib.Core.Path.{_≡_, refl, sym, ap, _∙_}
 use Prim.Native.Nat.{ℕ, _+_, _-_, _≤_}
 use native.Mathlib.Omega.{arith}
 use borrow.Author.Needs.{needs}
-use lib.ListN.{length, getD, take, drop, length-set}
-use lib.ListN.{length-map, length-drop}
+use lib.ListN.{length, getD, take, drop, length-set, length-map, length-drop}
 use lib.Seq.{getD-drop}
 use Rattle.slices.proofs.Lists.{map-set, filled-more}
 use Rattle.packed_var.specs.declared.PackedVar.{PackedVar}
