@@ -13,7 +13,8 @@ use Rattle.semantics.specs.Walk.{order}
 use Rattle.semantics.specs.Expand.{expandAll}
 use Rattle.semantics.specs.Monomial.{listAt}
 use Rattle.semantics.specs.Group.{Root, Item, Group, constraintRoots, countRoots, fieldRoots, constraintTerm, interactionTerm, groups, headers, variables, terms, layout}
-use Rattle.semantics.specs.Call.{Outcome, Result, Accepted, outcome, needs, onSheet, firstShort, fitted, family, handedBack, expansion, constraintOutputs, constraintCall, interactionOutputs, maxFieldsLen, interactionCall}
+use Rattle.semantics.specs.Call.{Outcome, Result, Accepted, outcome, needs, onSheet, firstShort, fitted, family, handedBack, expansion}
+use Rattle.semantics.specs.Call.{constraintOutputs, constraintCall, interactionOutputs, maxFieldsLen, interactionCall}
 use Rattle.semantics.proofs.Basics.{by-test}
 use Rattle.semantics.proofs.Demands.{Expanded, expanded}
 use Rattle.semantics.proofs.Grouping.{constraint-wide, interaction-wide}

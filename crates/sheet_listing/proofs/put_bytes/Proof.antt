@@ -26,14 +26,17 @@ too-long c = sym (too-many prime (start (more c .before) .args .bytes .now) (mor
 
 -- The reader has answered.
 module _ (b : tie.After-sheet2) where
+  abbrev call : tie.After-read-blocks
+  call = b .before
+
   abbrev fewer : tie.Else1
-  fewer = b .before .before .before
+  fewer = call .before .before
 
   abbrev bytes : List ℕ
   bytes = start (fewer .before) .args .bytes .now
 
   abbrev sheet : List ℕ
-  sheet = b .before .read-blocks .last .1 .0
+  sheet = call .read-blocks .last .1 .0
 
 -- It refused, or it read words.
 abbrev told : tie.After-put-refused-arg4 → tie.After-enum-told
@@ -55,7 +58,7 @@ refused : (c : tie.After-put-refused-arg4) → let u = c .before .before .of-wri
     line (refusedText ∷ readText ∷ decimal (u .number) ∷ decimal (u .place) ∷ []) ≡ sheetlist prime (bytes (no c))
 refused c =
     let b = no c in
-    let v = b .before .read-blocks in
+    let v = call b .read-blocks in
     let u = c .before .before .of-written in
     let x = told c .enum-told .given in
     read-refused (bytes b) (fewer b .if1 .left) (v .result) (sheet b) (v .ensures) (x .0 .0) (u .result) (x .1) (u .ensures)
@@ -64,7 +67,7 @@ read : (c : tie.After-put-sheet-arg) → let b = yes c in
     (count c ≤ length (sheet b)) × (sheetLines prime (take (count c) (sheet b)) ≡ sheetlist prime (bytes b))
 read c =
     let b = yes c in
-    let v = b .before .read-blocks in
+    let v = call b .read-blocks in
     sheet-read (bytes b) (fewer b .if1 .left) (v .result) (sheet b) (v .ensures) (count c) (known c .read .given .1)
 
 slice-aggregate-put-refused : tie.Need-slice-aggregate-put-refused

@@ -1,3 +1,4 @@
+-- At most eleven bytes are read, and no sum is too large for its type.
 use Prim.Native.Nat.{_-_, _≤_}
 use borrow.Author.Needs.{needs}
 use Rattle.vectors.proofs.next_number.Statement.{statement}

@@ -1,3 +1,4 @@
+-- As many words are read as the input says, and the slice has no fewer.
 use lib.ListN.{length, length-set}
 use native.Mathlib.Omega.{arith}
 use mathlib.Core.Path.{_≡_, refl}

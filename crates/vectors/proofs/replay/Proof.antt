@@ -1,3 +1,4 @@
+-- The sheet's number of words stays inside the slice, and no more items differ than were replayed.
 use lib.ListN.{length}
 use native.Mathlib.Omega.{arith}
 use mathlib.Core.Path.{_≡_, refl}
@@ -12,6 +13,13 @@ Inv-loop sheet₀ count n₀ differ₀ i₀ sheet n differ i = (i ≤ count) × 
 abbrev μ-loop : tie.MeasureT-loop
 μ-loop sheet₀ count n₀ differ₀ i₀ sheet n differ i = count - i
 
+-- A turn, and where its sheet is read.
+abbrev turn : tie.After-next-sheet-arg Inv-loop μ-loop → tie.In-loop Inv-loop μ-loop
+turn c = c .before .before
+
+abbrev with-sheet : tie.After-next-call-arg Inv-loop μ-loop → tie.After-next-sheet Inv-loop μ-loop
+with-sheet c = c .before .before .before
+
 loop-holds : tie.Need-loop-holds Inv-loop μ-loop
 loop-holds c = (omega arith, omega arith, refl, omega arith)
 
@@ -19,13 +27,15 @@ next-number-requires : tie.Need-next-number-requires Inv-loop μ-loop
 next-number-requires c κs = search needs
 
 next-sheet-requires : tie.Need-next-sheet-requires Inv-loop μ-loop
-next-sheet-requires c κs = c .before .before .before .loop .inv .1
+next-sheet-requires c κs = turn c .before .loop .inv .1
 
 next-call-requires : tie.Need-next-call-requires Inv-loop μ-loop
-next-call-requires c κs = c .before .before .before .next-sheet .ensures
+next-call-requires c κs = with-sheet c .next-sheet .ensures
 
 add-differ : tie.Need-add-differ Inv-loop μ-loop
-add-differ c = omega (arith, c .next-call .ensures, c .before .before .before .before .before .before .before .before .loop .inv)
+add-differ c =
+    let t = turn (with-sheet (c .before) .before) in
+    omega (arith, c .next-call .ensures, t .before .loop .inv)
 
 add-i : tie.Need-add-i Inv-loop μ-loop
 add-i c = search needs
@@ -35,8 +45,9 @@ loop-less c = search needs
 
 loop-again : tie.Need-loop-again Inv-loop μ-loop
 loop-again c =
-    let h = c .before .before .before .before .before .before .before .before .loop .inv in
-    let x = c .before .before .before .before .next-sheet in
+    let s = with-sheet (c .before) in
+    let h = turn (s .before) .before .loop .inv in
+    let x = s .next-sheet in
     (omega arith, x .ensures, omega (arith, x .kept, h), omega (arith, c .next-call .ensures, h))
 
 same-length : tie.Need-same-length Inv-loop μ-loop

@@ -1,8 +1,12 @@
-use native.Mathlib.Omega.{arith}
-use lib.ListN.{length-take}
+-- As many words of each slice are lent as the input says, or all of it where that is more.
+use mathlib.Core.Path.{sym}
 use borrow.Author.Needs.{needs}
+use lib.Seq.{length-take-le}
 use Rattle.vectors.proofs.replay_build.Statement.{statement}
 use Rattle.vectors.proofs.replay_build.Tie as tie
+
+abbrev start : tie.After-next-length → tie.Start
+start c = c .before .before .before .before
 
 next-length-requires : tie.Need-next-length-requires
 next-length-requires c κs = search needs
@@ -15,16 +19,16 @@ slice-relend-prefix-build c = search needs
 
 slice-aggregate-build : tie.Need-slice-aggregate-build
 slice-aggregate-build c =
-    let n = c .before .before .next-length in
-    omega (arith, length-take (n .result) (c .before .before .before .before .before .before .args .scratch .now), n .ensures)
+    let n = c .before .before in
+    sym (length-take-le (n .next-length .result) (start n .args .scratch .now) (n .next-length .ensures))
 
 slice-relend-prefix-build-2 : tie.Need-slice-relend-prefix-build-2
 slice-relend-prefix-build-2 c = search needs
 
 slice-aggregate-build-2 : tie.Need-slice-aggregate-build-2
 slice-aggregate-build-2 c =
-    let n = c .before .before .next-length2 in
-    omega (arith, length-take (n .result) (c .before .before .before .before .before .before .before .args .out .now), n .ensures)
+    let n = c .before .before in
+    sym (length-take-le (n .next-length2 .result) (start (n .before) .args .out .now) (n .next-length2 .ensures))
 
 build-requires : tie.Need-build-requires
 build-requires c κs = search needs

@@ -1,8 +1,58 @@
-use native.Mathlib.Omega.{arith}
-use lib.ListN.{length-take}
+-- As many words of each slice are lent as the input says, or all of it where that is more.
+use mathlib.Core.Path.{_≡_, sym}
 use borrow.Author.Needs.{needs}
+use lib.ListN.{length, take}
+use lib.Seq.{length-take-le}
 use Rattle.vectors.proofs.replay_constraints.Statement.{statement}
 use Rattle.vectors.proofs.replay_constraints.Tie as tie
+
+abbrev start : tie.After-next-length → tie.Start
+start c = c .before .before .before .before .before .before .before
+
+-- Where the number of words of each slice is read: as many are lent, for it has no fewer.
+module _ (c : tie.After-next-length5) where
+  abbrev at-variables : tie.After-next-length4
+  at-variables = c .before
+
+  abbrev at-headers : tie.After-next-length3
+  at-headers = at-variables .before
+
+  abbrev at-pool : tie.After-next-length2
+  at-pool = at-headers .before
+
+  abbrev at-work : tie.After-next-length
+  at-work = at-pool .before
+
+  work-lent : let n = at-work .next-length .result in n ≡ length (take n (start at-work .args .work .now))
+  work-lent = sym (length-take-le _ _ (at-work .next-length .ensures))
+
+  pool-lent : let n = at-pool .next-length2 .result in n ≡ length (take n (start at-work .args .pool .now))
+  pool-lent = sym (length-take-le _ _ (at-pool .next-length2 .ensures))
+
+  headers-lent : let n = at-headers .next-length3 .result in n ≡ length (take n (start at-work .args .headers .now))
+  headers-lent = sym (length-take-le _ _ (at-headers .next-length3 .ensures))
+
+  variables-lent : let n = at-variables .next-length4 .result in n ≡ length (take n (start at-work .args .variables .now))
+  variables-lent = sym (length-take-le _ _ (at-variables .next-length4 .ensures))
+
+  terms-lent : let n = c .next-length5 .result in n ≡ length (take n (start at-work .args .terms .now))
+  terms-lent = sym (length-take-le _ _ (c .next-length5 .ensures))
+
+-- Where each slice is lent, one after the other.
+abbrev with-work : tie.After-expand-constraints-arg → tie.After-next-length5
+with-work c = c .before
+
+abbrev with-pool : tie.After-expand-constraints-arg2 → tie.After-next-length5
+with-pool c = with-work (c .before)
+
+abbrev with-headers : tie.After-expand-constraints-arg3 → tie.After-next-length5
+with-headers c = with-pool (c .before)
+
+abbrev with-variables : tie.After-expand-constraints-arg4 → tie.After-next-length5
+with-variables c = with-headers (c .before)
+
+abbrev with-terms : tie.After-expand-constraints-arg5 → tie.After-next-length5
+with-terms c = with-variables (c .before)
 
 next-length-requires : tie.Need-next-length-requires
 next-length-requires c κs = search needs
@@ -23,41 +73,31 @@ slice-relend-prefix-expand-constraints : tie.Need-slice-relend-prefix-expand-con
 slice-relend-prefix-expand-constraints c = search needs
 
 slice-aggregate-expand-constraints : tie.Need-slice-aggregate-expand-constraints
-slice-aggregate-expand-constraints c =
-    let n = c .before .before .before .before .before .next-length in
-    omega (arith, length-take (n .result) (c .before .before .before .before .before .before .before .before .before .before .before .before .args .work .now), n .ensures)
+slice-aggregate-expand-constraints c = work-lent (with-work c)
 
 slice-relend-prefix-expand-constraints-2 : tie.Need-slice-relend-prefix-expand-constraints-2
 slice-relend-prefix-expand-constraints-2 c = search needs
 
 slice-aggregate-expand-constraints-2 : tie.Need-slice-aggregate-expand-constraints-2
-slice-aggregate-expand-constraints-2 c =
-    let n = c .before .before .before .before .before .next-length2 in
-    omega (arith, length-take (n .result) (c .before .before .before .before .before .before .before .before .before .before .before .before .before .args .pool .now), n .ensures)
+slice-aggregate-expand-constraints-2 c = pool-lent (with-pool c)
 
 slice-relend-prefix-expand-constraints-3 : tie.Need-slice-relend-prefix-expand-constraints-3
 slice-relend-prefix-expand-constraints-3 c = search needs
 
 slice-aggregate-expand-constraints-3 : tie.Need-slice-aggregate-expand-constraints-3
-slice-aggregate-expand-constraints-3 c =
-    let n = c .before .before .before .before .before .next-length3 in
-    omega (arith, length-take (n .result) (c .before .before .before .before .before .before .before .before .before .before .before .before .before .before .args .headers .now), n .ensures)
+slice-aggregate-expand-constraints-3 c = headers-lent (with-headers c)
 
 slice-relend-prefix-expand-constraints-4 : tie.Need-slice-relend-prefix-expand-constraints-4
 slice-relend-prefix-expand-constraints-4 c = search needs
 
 slice-aggregate-expand-constraints-4 : tie.Need-slice-aggregate-expand-constraints-4
-slice-aggregate-expand-constraints-4 c =
-    let n = c .before .before .before .before .before .next-length4 in
-    omega (arith, length-take (n .result) (c .before .before .before .before .before .before .before .before .before .before .before .before .before .before .before .args .variables .now), n .ensures)
+slice-aggregate-expand-constraints-4 c = variables-lent (with-variables c)
 
 slice-relend-prefix-expand-constraints-5 : tie.Need-slice-relend-prefix-expand-constraints-5
 slice-relend-prefix-expand-constraints-5 c = search needs
 
 slice-aggregate-expand-constraints-5 : tie.Need-slice-aggregate-expand-constraints-5
-slice-aggregate-expand-constraints-5 c =
-    let n = c .before .before .before .before .before .next-length5 in
-    omega (arith, length-take (n .result) (c .before .before .before .before .before .before .before .before .before .before .before .before .before .before .before .before .args .terms .now), n .ensures)
+slice-aggregate-expand-constraints-5 c = terms-lent (with-terms c)
 
 expand-constraints-requires : tie.Need-expand-constraints-requires
 expand-constraints-requires c κs = search needs

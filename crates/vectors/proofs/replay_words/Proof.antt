@@ -1,3 +1,4 @@
+-- The first n words are lent, for there are no fewer.
 use native.Mathlib.Omega.{arith}
 use lib.ListN.{length-take}
 use borrow.Author.Needs.{needs}

@@ -1,3 +1,4 @@
+-- No more than n words are compared.
 use Prim.Native.Nat.{_-_, _≤_}
 use borrow.Author.Needs.{needs}
 use Rattle.vectors.proofs.same_words.Statement.{statement}

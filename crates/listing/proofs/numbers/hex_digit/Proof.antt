@@ -1,3 +1,4 @@
+-- A digit below 10 is a figure, any other a letter.
 use Rattle.listing.proofs.Digits.{hex-low, hex-high}
 use borrow.Author.Needs.{needs}
 use Rattle.listing.proofs.numbers.hex_digit.Statement.{statement}

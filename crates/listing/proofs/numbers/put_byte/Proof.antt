@@ -1,3 +1,4 @@
+-- One store puts one byte.
 use Rattle.listing.proofs.Writing.{puts-one}
 use borrow.Author.Needs.{needs}
 use Rattle.listing.proofs.numbers.put_byte.Statement.{statement}

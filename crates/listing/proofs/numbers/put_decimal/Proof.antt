@@ -1,3 +1,4 @@
+-- A number in decimal has ten digits at the most.
 use Rattle.semantics.specs.Sheetlist.{decimal}
 use borrow.Author.Needs.{needs}
 use Rattle.listing.proofs.numbers.put_decimal.Statement.{statement}
