@@ -56,7 +56,7 @@ module _ {out : List ℕ} {at : ℕ} {xs : List ℕ} {out′ : List ℕ} {next :
     }
 
   -- There is room for what comes next.
-  pub room-then : (ys rest : List ℕ) {zs : List ℕ} → xs ++ (ys ++ rest) ≡ zs → Room out at zs → Room out′ next ys
+  room-then : (ys rest : List ℕ) {zs : List ℕ} → xs ++ (ys ++ rest) ≡ zs → Room out at zs → Room out′ next ys
   room-then ys rest e room = room-front out′ next ys rest refl (room-next (ys ++ rest) e room)
 
 -- What is put so far and what is left of the whole, for which there is room.

@@ -33,13 +33,13 @@ module _ (c : tie.After-letter) where
   abbrev at-vars : tie.After-wide
   at-vars = at-width at-first .before
 
-  abbrev s : tie.Start
-  s = start at-vars
+  abbrev begin : tie.Start
+  begin = start at-vars
 
   abbrev first : ℕ
   first = at-width at-first .width .result * at-first .wide2 .result
 
-  read : HeaderRead (s .args .family) (s .args .headers .now) (s .args .h)
+  read : HeaderRead (begin .args .family) (begin .args .headers .now) (begin .args .h)
       (c .letter .result) (at-vars .wide .result) first (at-num-vars .wide3 .result) (at-num-terms .wide4 .result)
   read = record {
     letter-is = c .letter .ensures;
@@ -51,14 +51,15 @@ module _ (c : tie.After-letter) where
 
   -- The header's line, the lines of its terms, and the whole.
   abbrev header : List ℕ
-  header = headerLine (c .letter .result) (take (at-num-vars .wide3 .result) (drop (at-vars .wide .result) (s .args .variables .now)))
+  header = headerLine (c .letter .result) (take (at-num-vars .wide3 .result) (drop (at-vars .wide .result) (begin .args .variables .now)))
 
   abbrev terms : List ℕ
-  terms = flatMap (lineOf (s .args .family)) (rows (widthOf (s .args .family)) (at-num-terms .wide4 .result) (drop first (s .args .terms .now)))
+  terms = flatMap (lineOf (begin .args .family)) (rows (widthOf (begin .args .family)) (at-num-terms .wide4 .result) (drop first (begin .args .terms .now)))
 
   joins : header ++ terms
-      ≡ headerText (s .args .family) (listedAt (widthOf (s .args .family)) (s .args .variables .now) (s .args .terms .now) (take 4 (drop (s .args .h) (s .args .headers .now))))
-  joins = header-joins (s .args .family) (s .args .headers .now) (s .args .variables .now) (s .args .terms .now) (s .args .h) read
+      ≡ headerText (begin .args .family)
+      (listedAt (widthOf (begin .args .family)) (begin .args .variables .now) (begin .args .terms .now) (take 4 (drop (begin .args .h) (begin .args .headers .now))))
+  joins = header-joins (begin .args .family) (begin .args .headers .now) (begin .args .variables .now) (begin .args .terms .now) (begin .args .h) read
 
 abbrev with-line : tie.After-put-terms-arg → tie.After-put-header-line
 with-line c = c .before .before .before
@@ -122,8 +123,8 @@ letter-requires c κs = search needs
 
 put-header-line-requires : tie.Need-put-header-line-requires
 put-header-line-requires c κs =
-    let a = s c .args in
-    let p = s c .pre in (
+    let a = begin c .args in
+    let p = begin c .pre in (
       header-vars (a .family) (a .headers .now) (a .variables .now) (a .terms .now) (a .h) (read c) (p .1),
       room-front (a .out .now) (a .at) (header c) (terms c) (joins c) (p .2),
     )
@@ -132,8 +133,8 @@ put-terms-requires : tie.Need-put-terms-requires
 put-terms-requires c κs =
     let l = with-line c in
     let r = l .before in
-    let a = s r .args in
-    let p = s r .pre in (
+    let a = begin r .args in
+    let p = begin r .pre in (
       header-terms (a .family) (a .headers .now) (a .variables .now) (a .terms .now) (a .h) (read r) (p .1),
       room-next {xs = header r} (l .put-header-line .ensures) (terms r) (joins r) (p .2),
     )
@@ -146,7 +147,7 @@ returns c =
     let t = c .before .before in
     let l = with-line (t .before) in
     let r = l .before in
-    puts-next {xs = header r} (l .put-header-line .ensures) (terms r) (joins r) (s r .pre .2) (t .put-terms .ensures)
+    puts-next {xs = header r} (l .put-header-line .ensures) (terms r) (joins r) (begin r .pre .2) (t .put-terms .ensures)
 
 pub put-header-spec : {M : Type 1} → statement M
 put-header-spec =
