@@ -8,6 +8,8 @@ use lib.ListN.{getD, take, drop}
 use lib.Seq.{getD-take, getD-drop}
 use Rattle.semantics.specs.Arithmetic.{prime}
 use Rattle.semantics.specs.Sheetlist.{decimal, signed, line, dagText, endText, refusedText, tLine, uLine, wLine}
+use Rattle.listing.specs.Putting.{Room, Puts}
+use Rattle.listing.proofs.Writing.{Done, done-room, done-more}
 
 -- A space and a number; a space, a coefficient and the end of the line.
 abbrev pub number : ℕ → List ℕ
@@ -36,17 +38,26 @@ module _ (ts : List ℕ) (k : ℕ) where
   unfolding uLine line
   u-pieces = rw (word-first 3 (omega arith), word-at 3 1 (omega arith))
 
-  pub w-pieces : (119 ∷ []) ++ (number (getD ts (k + 1) 0) ++ (number (getD ts (k + 2) 0) ++ ending (getD ts k 0))) ≡ wLine prime (take 3 (drop k ts))
+  pub w-pieces : (119 ∷ []) ++ (number (getD ts (k + 1) 0) ++ (number (getD ts (k + 2) 0) ++ ending (getD ts k 0)))
+      ≡ wLine prime (take 3 (drop k ts))
   unfolding wLine line
   w-pieces = rw (word-first 3 (omega arith), word-at 3 1 (omega arith), word-at 3 2 (omega arith))
 
--- A number that is known by an equation, with what comes behind it.
-pub number-is : {n m : ℕ} → n ≡ m → (rest : List ℕ) → number m ++ rest ≡ number n ++ rest
-number-is e rest = ap (λ (k : ℕ). number k ++ rest) (sym e)
+-- A number that is known by an equation: there is room for it, and it is put.
+module _ {out : List ℕ} {at : ℕ} {whole out′ : List ℕ} {next n m : ℕ} (rest : List ℕ) (h : Done out at whole (number m ++ rest) out′ next) (e : n ≡ m) where
+  number-is : number m ++ rest ≡ number n ++ rest
+  number-is = ap (λ (k : ℕ). number k ++ rest) (sym e)
+
+  pub number-room : Room out′ next (number n)
+  number-room = done-room h (number n) rest number-is
+
+  pub number-more : {out″ : List ℕ} {last : ℕ} → Puts out′ next (number n) out″ last → Done out at whole rest out″ last
+  number-more p = done-more h (number n) rest number-is p
 
 -- The graph's line, a refusal, and the last line.
 pub dag-pieces : (nodes constraints rotation : ℕ)
-    → dagText ++ (number nodes ++ (number constraints ++ (number rotation ++ (10 ∷ [])))) ≡ line (dagText ∷ decimal nodes ∷ decimal constraints ∷ decimal rotation ∷ [])
+    → dagText ++ (number nodes ++ (number constraints ++ (number rotation ++ (10 ∷ []))))
+    ≡ line (dagText ∷ decimal nodes ∷ decimal constraints ∷ decimal rotation ∷ [])
 unfolding line
 dag-pieces nodes constraints rotation = refl
 

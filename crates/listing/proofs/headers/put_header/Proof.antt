@@ -54,11 +54,14 @@ module _ (c : tie.After-letter) where
   header = headerLine (c .letter .result) (take (at-num-vars .wide3 .result) (drop (at-vars .wide .result) (begin .args .variables .now)))
 
   abbrev terms : List ℕ
-  terms = flatMap (lineOf (begin .args .family)) (rows (widthOf (begin .args .family)) (at-num-terms .wide4 .result) (drop first (begin .args .terms .now)))
+  terms =
+      flatMap (lineOf (begin .args .family))
+      (rows (widthOf (begin .args .family)) (at-num-terms .wide4 .result) (drop first (begin .args .terms .now)))
 
   joins : header ++ terms
       ≡ headerText (begin .args .family)
-      (listedAt (widthOf (begin .args .family)) (begin .args .variables .now) (begin .args .terms .now) (take 4 (drop (begin .args .h) (begin .args .headers .now))))
+      (listedAt (widthOf (begin .args .family)) (begin .args .variables .now) (begin .args .terms .now)
+      (take 4 (drop (begin .args .h) (begin .args .headers .now))))
   joins = header-joins (begin .args .family) (begin .args .headers .now) (begin .args .variables .now) (begin .args .terms .now) (begin .args .h) read
 
 abbrev with-line : tie.After-put-terms-arg → tie.After-put-header-line
@@ -92,7 +95,8 @@ mul-first : tie.Need-mul-first
 mul-first c =
     let w = at-width c in
     let a = start (w .before) .args in
-    first-fits (a .family) (w .width .result) (c .wide2 .result) (w .width .ensures) (omega (arith, c .wide2 .ensures, c .before .shared-slice-known5 .given (a .h + 1)))
+    first-fits (a .family) (w .width .result) (c .wide2 .result) (w .width .ensures)
+    (omega (arith, c .wide2 .ensures, c .before .shared-slice-known5 .given (a .h + 1)))
 
 add-wide-2 : tie.Need-add-wide-2
 add-wide-2 c = search needs

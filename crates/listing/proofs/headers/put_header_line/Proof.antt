@@ -31,7 +31,8 @@ with-letter c = c .before .before .before
 abbrev with-variables : tie.After-put-byte-arg2 → tie.After-put-variables
 with-variables c = c .before .before .before
 
-letter-put : (c : tie.After-put-byte) → let s = start (c .before) in Left s (spaced (vars s) ++ (10 ∷ [])) (c .put-byte .last .0) (c .put-byte .result)
+letter-put : (c : tie.After-put-byte) → let s = start (c .before) in
+    Left s (spaced (vars s) ++ (10 ∷ [])) (c .put-byte .last .0) (c .put-byte .result)
 letter-put c = done-more (all-left (start (c .before))) (_ ∷ []) _ refl (c .put-byte .ensures)
 
 variables-put : (c : tie.After-put-variables) → let s = start (with-letter (c .before) .before) in

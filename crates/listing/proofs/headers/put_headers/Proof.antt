@@ -10,7 +10,8 @@ use Rattle.listing.proofs.headers.put_headers.Statement.{statement}
 use Rattle.listing.proofs.headers.put_headers.Tie as tie
 
 abbrev Inv-loop : tie.InvT-loop
-Inv-loop out₀ at family headers variables terms count next₀ i₀ out next i = RowsDone 4 (headerOf family variables terms) headers 0 count out₀ at out next (4 * i) i
+Inv-loop out₀ at family headers variables terms count next₀ i₀ out next i =
+    RowsDone 4 (headerOf family variables terms) headers 0 count out₀ at out next (4 * i) i
 
 abbrev μ-loop : tie.MeasureT-loop
 μ-loop out₀ at family headers variables terms count next₀ i₀ out next i = count - i

@@ -10,7 +10,8 @@ use Rattle.listing.proofs.headers.put_terms.Statement.{statement}
 use Rattle.listing.proofs.headers.put_terms.Tie as tie
 
 abbrev Inv-loop : tie.InvT-loop
-Inv-loop out₀ at family terms from count step next₀ k₀ i₀ out next k i = RowsDone (widthOf family) (lineOf family) terms from count out₀ at out next k i
+Inv-loop out₀ at family terms from count step next₀ k₀ i₀ out next k i =
+    RowsDone (widthOf family) (lineOf family) terms from count out₀ at out next k i
 
 abbrev μ-loop : tie.MeasureT-loop
 μ-loop out₀ at family terms from count step next₀ k₀ i₀ out next k i = count - i
@@ -23,7 +24,8 @@ abbrev turn : tie.After-put-term Inv-loop μ-loop → tie.In-loop Inv-loop μ-lo
 turn c = c .before .before
 
 -- The term stands inside the words.
-inside : (t : tie.In-loop Inv-loop μ-loop) → let a = start (t .before .before) .args in t .before .loop .k + widthOf (a .family) ≤ length (a .terms .now)
+inside : (t : tie.In-loop Inv-loop μ-loop) → let a = start (t .before .before) .args in
+    t .before .loop .k + widthOf (a .family) ≤ length (a .terms .now)
 inside t = row-inside (t .before .loop .inv) (t .loop-test .taken) (start (t .before .before) .pre .0)
 
 width-requires : tie.Need-width-requires Inv-loop μ-loop

@@ -5,7 +5,7 @@ use Prim.Native.Nat.{ℕ}
 use borrow.Author.Needs.{needs}
 use Rattle.semantics.specs.Sheetlist.{decimal, line, dagText}
 use Rattle.listing.proofs.Writing.{Done, done-none, done-room, done-more, last-room, done-last}
-use Rattle.listing.proofs.Pieces.{number, number-is, dag-pieces}
+use Rattle.listing.proofs.Pieces.{number, number-room, number-more, dag-pieces}
 use Rattle.listing.proofs.lines.put_dag_line.Statement.{statement}
 use Rattle.listing.proofs.lines.put_dag_line.Tie as tie
 
@@ -13,18 +13,19 @@ use Rattle.listing.proofs.lines.put_dag_line.Tie as tie
 module _ (s : tie.Start) where
   abbrev Left : (rest out : List ℕ) → ℕ → Type 0
   Left rest out next =
-      Done (s .args .out .now) (s .args .at) (line (dagText ∷ decimal (s .args .nodes) ∷ decimal (s .args .constraints) ∷ decimal (s .args .rotation) ∷ [])) rest out next
+      Done (s .args .out .now) (s .args .at)
+      (line (dagText ∷ decimal (s .args .nodes) ∷ decimal (s .args .constraints) ∷ decimal (s .args .rotation) ∷ [])) rest out next
 
-  abbrev last-two : List ℕ
-  last-two = number (s .args .rotation) ++ (10 ∷ [])
+  abbrev after-constraints : List ℕ
+  after-constraints = number (s .args .rotation) ++ (10 ∷ [])
 
-  abbrev last-three : List ℕ
-  last-three = number (s .args .constraints) ++ last-two
+  abbrev after-nodes : List ℕ
+  after-nodes = number (s .args .constraints) ++ after-constraints
 
-  abbrev last-four : List ℕ
-  last-four = number (s .args .nodes) ++ last-three
+  abbrev after-text : List ℕ
+  after-text = number (s .args .nodes) ++ after-nodes
 
-  all-left : Left (dagText ++ last-four) (s .args .out .now) (s .args .at)
+  all-left : Left (dagText ++ after-text) (s .args .out .now) (s .args .at)
   all-left = done-none (s .args .out .now) (s .args .at) (dag-pieces (s .args .nodes) (s .args .constraints) (s .args .rotation)) (s .pre)
 
 -- Where each piece is put.
@@ -43,21 +44,23 @@ with-constraints c = c .before .before .before
 abbrev with-rotation : tie.After-put-byte-arg → tie.After-put-number3
 with-rotation c = c .before .before .before
 
-text-put : (c : tie.After-put-text) → let s = start (c .before) in Left s (last-four s) (c .put-text .last .0) (c .put-text .result)
+text-put : (c : tie.After-put-text) → let s = start (c .before) in
+    Left s (after-text s) (c .put-text .last .0) (c .put-text .result)
 text-put c = done-more (all-left (start (c .before))) dagText _ refl (c .put-text .ensures)
 
 abbrev start-of-nodes : tie.After-put-number → tie.Start
 start-of-nodes c = start (with-text (c .before) .before)
 
-nodes-put : (c : tie.After-put-number) → let s = start-of-nodes c in Left s (last-three s) (c .put-number .last .0) (c .put-number .result)
-nodes-put c = done-more (text-put (with-text (c .before))) (number (c .before .wide .result)) _ (number-is (c .before .wide .ensures) _) (c .put-number .ensures)
+nodes-put : (c : tie.After-put-number) → let s = start-of-nodes c in
+    Left s (after-nodes s) (c .put-number .last .0) (c .put-number .result)
+nodes-put c = number-more _ (text-put (with-text (c .before))) (c .before .wide .ensures) (c .put-number .ensures)
 
 abbrev start-of-constraints : tie.After-put-number2 → tie.Start
 start-of-constraints c = start-of-nodes (with-nodes (c .before))
 
-constraints-put : (c : tie.After-put-number2) → let s = start-of-constraints c in Left s (last-two s) (c .put-number2 .last .0) (c .put-number2 .result)
-constraints-put c =
-    done-more (nodes-put (with-nodes (c .before))) (number (c .before .wide2 .result)) _ (number-is (c .before .wide2 .ensures) _) (c .put-number2 .ensures)
+constraints-put : (c : tie.After-put-number2) → let s = start-of-constraints c in
+    Left s (after-constraints s) (c .put-number2 .last .0) (c .put-number2 .result)
+constraints-put c = number-more _ (nodes-put (with-nodes (c .before))) (c .before .wide2 .ensures) (c .put-number2 .ensures)
 
 abbrev start-of-rotation : tie.After-put-number3 → tie.Start
 start-of-rotation c = start-of-constraints (with-constraints (c .before))
@@ -75,13 +78,13 @@ wide-requires : tie.Need-wide-requires
 wide-requires c κs = search needs
 
 put-number-requires : tie.Need-put-number-requires
-put-number-requires c κs = done-room (text-put (with-text c)) (number (c .wide .result)) _ (number-is (c .wide .ensures) _)
+put-number-requires c κs = number-room _ (text-put (with-text c)) (c .wide .ensures)
 
 wide-requires-2 : tie.Need-wide-requires-2
 wide-requires-2 c κs = search needs
 
 put-number-requires-2 : tie.Need-put-number-requires-2
-put-number-requires-2 c κs = done-room (nodes-put (with-nodes c)) (number (c .wide2 .result)) _ (number-is (c .wide2 .ensures) _)
+put-number-requires-2 c κs = number-room _ (nodes-put (with-nodes c)) (c .wide2 .ensures)
 
 put-number-requires-3 : tie.Need-put-number-requires-3
 put-number-requires-3 c κs =

@@ -1,11 +1,12 @@
--- "refused ", the step, the number, the place and the end of the line are put one behind the other: behind each, what is put and what is left of the line.
+-- "refused ", the step, the number, the place and the end of the line are put one behind the other:
+-- behind each, what is put and what is left of the line.
 use mathlib.Core.Path.{refl}
 use mathlib.Core.List.{List, [], _∷_, _++_}
 use Prim.Native.Nat.{ℕ}
 use borrow.Author.Needs.{needs}
 use Rattle.semantics.specs.Sheetlist.{refusedText, line, decimal}
 use Rattle.listing.proofs.Writing.{Done, done-none, done-room, done-more, last-room, done-last}
-use Rattle.listing.proofs.Pieces.{number, number-is, refused-pieces}
+use Rattle.listing.proofs.Pieces.{number, number-room, number-more, refused-pieces}
 use Rattle.listing.proofs.lines.put_refused.Statement.{statement}
 use Rattle.listing.proofs.lines.put_refused.Tie as tie
 
@@ -13,18 +14,19 @@ use Rattle.listing.proofs.lines.put_refused.Tie as tie
 module _ (s : tie.Start) where
   abbrev Left : (rest out : List ℕ) → ℕ → Type 0
   Left rest out next =
-      Done (s .args .out .now) (s .args .at) (line (refusedText ∷ s .args .step .now ∷ decimal (s .args .number) ∷ decimal (s .args .place) ∷ [])) rest out next
+      Done (s .args .out .now) (s .args .at)
+      (line (refusedText ∷ s .args .step .now ∷ decimal (s .args .number) ∷ decimal (s .args .place) ∷ [])) rest out next
 
-  abbrev last-two : List ℕ
-  last-two = number (s .args .place) ++ (10 ∷ [])
+  abbrev after-number : List ℕ
+  after-number = number (s .args .place) ++ (10 ∷ [])
 
-  abbrev last-three : List ℕ
-  last-three = number (s .args .number) ++ last-two
+  abbrev after-step : List ℕ
+  after-step = number (s .args .number) ++ after-number
 
-  abbrev last-four : List ℕ
-  last-four = s .args .step .now ++ last-three
+  abbrev after-text : List ℕ
+  after-text = s .args .step .now ++ after-step
 
-  all-left : Left ((refusedText ++ (32 ∷ [])) ++ last-four) (s .args .out .now) (s .args .at)
+  all-left : Left ((refusedText ++ (32 ∷ [])) ++ after-text) (s .args .out .now) (s .args .at)
   all-left = done-none (s .args .out .now) (s .args .at) (refused-pieces (s .args .step .now) (s .args .number) (s .args .place)) (s .pre)
 
 -- Where each piece is put.
@@ -43,20 +45,23 @@ with-number c = c .before .before .before
 abbrev with-place : tie.After-put-byte-arg → tie.After-put-number2
 with-place c = c .before .before .before
 
-text-put : (c : tie.After-put-text) → let s = start (c .before) in Left s (last-four s) (c .put-text .last .0) (c .put-text .result)
+text-put : (c : tie.After-put-text) → let s = start (c .before) in
+    Left s (after-text s) (c .put-text .last .0) (c .put-text .result)
 text-put c = done-more (all-left (start (c .before))) (refusedText ++ (32 ∷ [])) _ refl (c .put-text .ensures)
 
 abbrev start-of-step : tie.After-put-text2 → tie.Start
 start-of-step c = start (with-text (c .before) .before)
 
-step-put : (c : tie.After-put-text2) → let s = start-of-step c in Left s (last-three s) (c .put-text2 .last .0) (c .put-text2 .result)
+step-put : (c : tie.After-put-text2) → let s = start-of-step c in
+    Left s (after-step s) (c .put-text2 .last .0) (c .put-text2 .result)
 step-put c = done-more (text-put (with-text (c .before))) (start-of-step c .args .step .now) _ refl (c .put-text2 .ensures)
 
 abbrev start-of-number : tie.After-put-number → tie.Start
 start-of-number c = start-of-step (with-step (c .before))
 
-number-put : (c : tie.After-put-number) → let s = start-of-number c in Left s (last-two s) (c .put-number .last .0) (c .put-number .result)
-number-put c = done-more (step-put (with-step (c .before))) (number (c .before .wide .result)) _ (number-is (c .before .wide .ensures) _) (c .put-number .ensures)
+number-put : (c : tie.After-put-number) → let s = start-of-number c in
+    Left s (after-number s) (c .put-number .last .0) (c .put-number .result)
+number-put c = number-more _ (step-put (with-step (c .before))) (c .before .wide .ensures) (c .put-number .ensures)
 
 abbrev start-of-place : tie.After-put-number2 → tie.Start
 start-of-place c = start-of-number (with-number (c .before))
@@ -79,7 +84,7 @@ wide-requires : tie.Need-wide-requires
 wide-requires c κs = search needs
 
 put-number-requires : tie.Need-put-number-requires
-put-number-requires c κs = done-room (step-put (with-step c)) (number (c .wide .result)) _ (number-is (c .wide .ensures) _)
+put-number-requires c κs = number-room _ (step-put (with-step c)) (c .wide .ensures)
 
 put-number-requires-2 : tie.Need-put-number-requires-2
 put-number-requires-2 c κs =

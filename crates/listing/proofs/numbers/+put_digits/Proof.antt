@@ -99,7 +99,8 @@ module _ (t : ℕ) where
   put-digits-requires : lts.Need-put-digits-requires (claims t) (At t) put-digits.Post
   put-digits-requires c κs =
       let s = start (some-more c) in
-      (omega arith, room-front (s .args .out .now) (s .args .at) (others c) ((48 + s .args .n % 10) ∷ []) (more c (48 + s .args .n % 10) refl) (s .pre .1))
+      let last = 48 + s .args .n % 10 in
+      (omega arith, room-front (s .args .out .now) (s .args .at) (others c) (last ∷ []) (more c last refl) (s .pre .1))
 
   digit-requires-2 : lts.Need-digit-requires-2 (claims t) (At t) put-digits.Post
   digit-requires-2 c κs = search needs

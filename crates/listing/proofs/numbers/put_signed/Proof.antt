@@ -67,7 +67,8 @@ returns-2 c =
     let end = c .before .before in
     let p = with-sign (end .before) in
     let value = minus-value (p .before) in
-    puts-next (p .put-byte .ensures) (decimal (natAbs (turned (readAs (value .signed .result))))) (minus (p .before) .text) (start value .pre) (end .put-decimal2 .ensures)
+    puts-next (p .put-byte .ensures) (decimal (natAbs (turned (readAs (value .signed .result)))))
+    (minus (p .before) .text) (start value .pre) (end .put-decimal2 .ensures)
 
 pub put-signed-spec : {M : Type 1} → statement M
 put-signed-spec =

@@ -30,7 +30,8 @@ with-space c = c .before .before .before
 abbrev with-coefficient : tie.After-put-byte-arg2 → tie.After-put-signed
 with-coefficient c = c .before .before .before
 
-space-put : (c : tie.After-put-byte) → let s = start c in Left s (coefficient s ++ (10 ∷ [])) (c .put-byte .last .0) (c .put-byte .result)
+space-put : (c : tie.After-put-byte) → let s = start c in
+    Left s (coefficient s ++ (10 ∷ [])) (c .put-byte .last .0) (c .put-byte .result)
 space-put c = done-more (all-left (start c)) (32 ∷ []) _ refl (c .put-byte .ensures)
 
 coefficient-put : (c : tie.After-put-signed) → Left (start (with-space (c .before))) (10 ∷ []) (c .put-signed .last .0) (c .put-signed .result)

@@ -7,7 +7,7 @@ use lib.ListN.{getD, take, drop}
 use Rattle.semantics.specs.Arithmetic.{prime}
 use Rattle.semantics.specs.Sheetlist.{tLine}
 use Rattle.listing.proofs.Writing.{Done, done-none, done-room, done-more, last-room, done-last}
-use Rattle.listing.proofs.Pieces.{number, number-is, ending, t-pieces}
+use Rattle.listing.proofs.Pieces.{number, number-room, number-more, ending, t-pieces}
 use Rattle.listing.proofs.terms.put_t_line.Statement.{statement}
 use Rattle.listing.proofs.terms.put_t_line.Tie as tie
 
@@ -34,12 +34,13 @@ with-letter c = c .before .before .before .before .before
 abbrev with-index : tie.After-shared-slice-known3 → tie.After-put-number
 with-index c = c .before .before .before .before
 
-letter-put : (c : tie.After-put-byte) → let s = start (c .before) in Left s (index s ++ coefficient s) (c .put-byte .last .0) (c .put-byte .result)
+letter-put : (c : tie.After-put-byte) → let s = start (c .before) in
+    Left s (index s ++ coefficient s) (c .put-byte .last .0) (c .put-byte .result)
 letter-put c = done-more (all-left (start (c .before))) (116 ∷ []) _ refl (c .put-byte .ensures)
 
-index-put : (c : tie.After-put-number) → let s = start (with-letter (c .before) .before) in Left s (coefficient s) (c .put-number .last .0) (c .put-number .result)
-index-put c =
-    done-more (letter-put (with-letter (c .before))) (number (c .before .wide .result)) _ (number-is (c .before .wide .ensures) _) (c .put-number .ensures)
+index-put : (c : tie.After-put-number) → let s = start (with-letter (c .before) .before) in
+    Left s (coefficient s) (c .put-number .last .0) (c .put-number .result)
+index-put c = number-more _ (letter-put (with-letter (c .before))) (c .before .wide .ensures) (c .put-number .ensures)
 
 put-byte-requires : tie.Need-put-byte-requires
 put-byte-requires c κs = done-room (all-left (start c)) (116 ∷ []) _ refl
@@ -54,7 +55,7 @@ wide-requires : tie.Need-wide-requires
 wide-requires c κs = search needs
 
 put-number-requires : tie.Need-put-number-requires
-put-number-requires c κs = done-room (letter-put (with-letter c)) (number (c .wide .result)) _ (number-is (c .wide .ensures) _)
+put-number-requires c κs = number-room _ (letter-put (with-letter c)) (c .wide .ensures)
 
 add-put-last : tie.Need-add-put-last
 add-put-last c = search needs

@@ -7,7 +7,7 @@ use lib.ListN.{getD, take, drop}
 use Rattle.semantics.specs.Arithmetic.{prime}
 use Rattle.semantics.specs.Sheetlist.{uLine}
 use Rattle.listing.proofs.Writing.{Done, done-none, done-room, done-more, last-room, done-last}
-use Rattle.listing.proofs.Pieces.{number, number-is, ending, u-pieces}
+use Rattle.listing.proofs.Pieces.{number, number-room, number-more, ending, u-pieces}
 use Rattle.listing.proofs.terms.put_u_line.Statement.{statement}
 use Rattle.listing.proofs.terms.put_u_line.Tie as tie
 
@@ -34,12 +34,13 @@ with-letter c = c .before .before .before .before .before
 abbrev with-interaction : tie.After-shared-slice-known3 → tie.After-put-number
 with-interaction c = c .before .before .before .before
 
-letter-put : (c : tie.After-put-byte) → let s = start (c .before) in Left s (interaction s ++ coefficient s) (c .put-byte .last .0) (c .put-byte .result)
+letter-put : (c : tie.After-put-byte) → let s = start (c .before) in
+    Left s (interaction s ++ coefficient s) (c .put-byte .last .0) (c .put-byte .result)
 letter-put c = done-more (all-left (start (c .before))) (117 ∷ []) _ refl (c .put-byte .ensures)
 
-interaction-put : (c : tie.After-put-number) → let s = start (with-letter (c .before) .before) in Left s (coefficient s) (c .put-number .last .0) (c .put-number .result)
-interaction-put c =
-    done-more (letter-put (with-letter (c .before))) (number (c .before .wide .result)) _ (number-is (c .before .wide .ensures) _) (c .put-number .ensures)
+interaction-put : (c : tie.After-put-number) → let s = start (with-letter (c .before) .before) in
+    Left s (coefficient s) (c .put-number .last .0) (c .put-number .result)
+interaction-put c = number-more _ (letter-put (with-letter (c .before))) (c .before .wide .ensures) (c .put-number .ensures)
 
 put-byte-requires : tie.Need-put-byte-requires
 put-byte-requires c κs = done-room (all-left (start c)) (117 ∷ []) _ refl
@@ -57,7 +58,7 @@ wide-requires : tie.Need-wide-requires
 wide-requires c κs = search needs
 
 put-number-requires : tie.Need-put-number-requires
-put-number-requires c κs = done-room (letter-put (with-letter c)) (number (c .wide .result)) _ (number-is (c .wide .ensures) _)
+put-number-requires c κs = number-room _ (letter-put (with-letter c)) (c .wide .ensures)
 
 mul-put-last : tie.Need-mul-put-last
 mul-put-last c = search needs

@@ -1,4 +1,5 @@
--- The letter, the interaction, the field and the coefficient are put one behind the other: behind each, what is put and what is left of the line.
+-- The letter, the interaction, the field and the coefficient are put one behind the other:
+-- behind each, what is put and what is left of the line.
 use mathlib.Core.Path.{refl}
 use mathlib.Core.List.{List, [], _∷_, _++_}
 use Prim.Native.Nat.{ℕ, _+_}
@@ -7,7 +8,7 @@ use lib.ListN.{getD, take, drop}
 use Rattle.semantics.specs.Arithmetic.{prime}
 use Rattle.semantics.specs.Sheetlist.{wLine}
 use Rattle.listing.proofs.Writing.{Done, done-none, done-room, done-more, last-room, done-last}
-use Rattle.listing.proofs.Pieces.{number, number-is, ending, w-pieces}
+use Rattle.listing.proofs.Pieces.{number, number-room, number-more, ending, w-pieces}
 use Rattle.listing.proofs.terms.put_w_line.Statement.{statement}
 use Rattle.listing.proofs.terms.put_w_line.Tie as tie
 
@@ -40,23 +41,23 @@ with-interaction c = c .before .before .before .before .before
 abbrev with-field : tie.After-shared-slice-known4 → tie.After-put-number2
 with-field c = c .before .before .before .before
 
-letter-put : (c : tie.After-put-byte) → let s = start (c .before) in Left s (interaction s ++ (field s ++ coefficient s)) (c .put-byte .last .0) (c .put-byte .result)
+letter-put : (c : tie.After-put-byte) → let s = start (c .before) in
+    Left s (interaction s ++ (field s ++ coefficient s)) (c .put-byte .last .0) (c .put-byte .result)
 letter-put c = done-more (all-left (start (c .before))) (119 ∷ []) _ refl (c .put-byte .ensures)
 
 abbrev start-of-interaction : tie.After-put-number → tie.Start
 start-of-interaction c = start (with-letter (c .before) .before)
 
-interaction-put : (c : tie.After-put-number) → let s = start-of-interaction c in Left s (field s ++ coefficient s) (c .put-number .last .0) (c .put-number .result)
-interaction-put c =
-    done-more (letter-put (with-letter (c .before))) (number (c .before .wide .result)) _ (number-is (c .before .wide .ensures) _) (c .put-number .ensures)
+interaction-put : (c : tie.After-put-number) → let s = start-of-interaction c in
+    Left s (field s ++ coefficient s) (c .put-number .last .0) (c .put-number .result)
+interaction-put c = number-more _ (letter-put (with-letter (c .before))) (c .before .wide .ensures) (c .put-number .ensures)
 
 abbrev start-of-field : tie.After-put-number2 → tie.Start
 start-of-field c = start-of-interaction (with-interaction (c .before))
 
-field-put : (c : tie.After-put-number2) → let s = start-of-field c in Left s (coefficient s) (c .put-number2 .last .0) (c .put-number2 .result)
-field-put c =
-    done-more (interaction-put (with-interaction (c .before))) (number (c .before .wide2 .result)) _ (number-is (c .before .wide2 .ensures) _)
-    (c .put-number2 .ensures)
+field-put : (c : tie.After-put-number2) → let s = start-of-field c in
+    Left s (coefficient s) (c .put-number2 .last .0) (c .put-number2 .result)
+field-put c = number-more _ (interaction-put (with-interaction (c .before))) (c .before .wide2 .ensures) (c .put-number2 .ensures)
 
 put-byte-requires : tie.Need-put-byte-requires
 put-byte-requires c κs = done-room (all-left (start c)) (119 ∷ []) _ refl
@@ -74,7 +75,7 @@ wide-requires : tie.Need-wide-requires
 wide-requires c κs = search needs
 
 put-number-requires : tie.Need-put-number-requires
-put-number-requires c κs = done-room (letter-put (with-letter c)) (number (c .wide .result)) _ (number-is (c .wide .ensures) _)
+put-number-requires c κs = number-room _ (letter-put (with-letter c)) (c .wide .ensures)
 
 add-wide-2 : tie.Need-add-wide-2
 add-wide-2 c = search needs
@@ -89,7 +90,7 @@ wide-requires-2 : tie.Need-wide-requires-2
 wide-requires-2 c κs = search needs
 
 put-number-requires-2 : tie.Need-put-number-requires-2
-put-number-requires-2 c κs = done-room (interaction-put (with-interaction c)) (number (c .wide2 .result)) _ (number-is (c .wide2 .ensures) _)
+put-number-requires-2 c κs = number-room _ (interaction-put (with-interaction c)) (c .wide2 .ensures)
 
 mul-put-last : tie.Need-mul-put-last
 mul-put-last c = search needs
