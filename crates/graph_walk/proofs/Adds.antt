@@ -10,7 +10,6 @@ use borrow.Author.Tests.{eq-eqb}
 use Rattle.semantics.specs.Arithmetic.{prime}
 use Rattle.semantics.specs.Answer.{good}
 use Rattle.semantics.specs.Sheet.{Record, place, Each, GoodRecord}
-use Rattle.semantics.specs.Check.{readSheet, check}
 use Rattle.semantics.specs.Value.{nodeOf}
 use Rattle.semantics.specs.Walk.{children, member}
 use Rattle.semantics.specs.Graph as graph
@@ -21,12 +20,12 @@ use Rattle.semantics.proofs.Places.{place-most}
 use Rattle.semantics.proofs.Records.{LowRecord, each-low}
 use Rattle.records.specs.Access.{recordsOf}
 use Rattle.records.specs.Orders.{Order, There}
-use Rattle.records.proofs.Steps.{order-more}
+use Rattle.records.proofs.Steps.{few-records, order-more}
 use Rattle.nodes.specs.Nodes.{NoneBefore, aboveAll}
 use Rattle.nodes.specs.Memory.{builtOf, Holds}
 use Rattle.nodes.proofs.States as states
 use Rattle.nodes.proofs.Searches.{from-inside, from-none}
-use Rattle.graph_walk.specs.Walking.{pickOfRecord}
+use Rattle.graph_walk.specs.Walking.{Adding, pickOfRecord}
 
 -- The number that a record gets.
 module _ (b : Built) (r : ℕ) where
@@ -38,46 +37,67 @@ module _ (b : Built) (r : ℕ) where
   unfolding takeIn setNum
   num-made q = cond-true (eqb r r) (find q (b .nodes)) (b .num r) (eq-eqb r r refl)
 
-module _ (ws : List ℕ) (checked : check prime ws ≡ good (readSheet ws)) where
+-- A record whose children are added.
+module _ {ws : List ℕ} {r : ℕ} {scratch out : List ℕ} {n : ℕ} (p : Adding ws r scratch out n) where
   abbrev E : ℕ
   E = length (recordsOf ws)
 
-  module _ (r : ℕ) (l : r < E) where
-    -- A record whose children are there.
-    module _ (done : List ℕ) (o : Order ws done) (new : member r done ≡ false) (there : There ws r done) where
-      num-next : builtOf ws (r ∷ done) .num r < E
-      num-next = states.num-small ws checked (r ∷ done) (order-more ws checked done r o l new there) r (mem-here r done)
+  abbrev done : List ℕ
+  done = p .ready .done
 
-      pub present-small : (k : ℕ) → graph.present k ≡ pickOfRecord ws r done → k < E
-      unfolding builtOf build addRecord
-      present-small k e = subst (λ (j : ℕ). j < E) (ap (λ (q : graph.Pick). takeIn (builtOf ws done) r q .num r) (sym e) ∙ num-present (builtOf ws done) r k) num-next
+  next : Order ws (r ∷ done)
+  next = order-more ws (p .ready .checked) done r (p .ready .order) (p .ready .inside) (p .new) (p .there)
 
-      pub made-small : (q : Record) → graph.make q ≡ pickOfRecord ws r done → find q (builtOf ws done .nodes) < E
-      unfolding builtOf build addRecord
-      made-small q e = subst (λ (j : ℕ). j < E) (ap (λ (q : graph.Pick). takeIn (builtOf ws done) r q .num r) (sym e) ∙ num-made (builtOf ws done) r q) num-next
+  num-next : builtOf ws (r ∷ done) .num r < E
+  num-next = states.num-small ws (p .ready .checked) (r ∷ done) next r (mem-here r done)
 
-      -- Where the search for its node begins.
-      module _ (q : Record) (e : graph.make q ≡ pickOfRecord ws r done) (from : ℕ) (f : from ≡ aboveAll (children (nodeOf q))) where
-        ns : List Record
-        ns = builtOf ws done .nodes
+  pub record-few : r < 4096
+  record-few = omega (arith, p .ready .inside, few-records ws (p .ready .checked))
 
-        lows : Each LowRecord 0 (intern q ns)
-        unfolding ns builtOf build addRecord takeIn
-        lows =
-            each-low prime 0 (intern q ns)
-            (subst (λ (x : graph.Pick). Each (GoodRecord prime) 0 (takeIn (builtOf ws done) r x .nodes)) (sym e)
-            (states.kept ws checked (r ∷ done) (order-more ws checked done r o l new there) .good))
+  pub in-scratch : r < length scratch
+  in-scratch = omega (arith, p .ready .inside, states.scratch-length ws done scratch out n (p .ready .holds))
 
-        pub search-inside : (n : ℕ) → n ≡ length (builtOf ws done .nodes) → from ≤ n
-        unfolding ns
-        search-inside n z = omega (arith, from-inside q ns lows from f)
+  pub present-few : (k : ℕ) → graph.present k ≡ pickOfRecord ws r (p .ready .done) → k < 4096
+  unfolding builtOf build addRecord
+  present-few k e =
+      let small : k < E = subst (λ (j : ℕ). j < E) (ap (λ (q : graph.Pick). takeIn (builtOf ws done) r q .num r) (sym e) ∙ num-present (builtOf ws done) r k) num-next in
+      omega (arith, few-records ws (p .ready .checked))
 
-        pub search-none : NoneBefore from q (builtOf ws done .nodes)
-        unfolding ns
-        search-none = from-none q ns lows from f
+  module _ (q : Record) (e : graph.make q ≡ pickOfRecord ws r (p .ready .done)) where
+    abbrev ns : List Record
+    ns = builtOf ws done .nodes
 
-      -- Room for its node.
-      pub room-more : (scratch out : List ℕ) (n : ℕ) → Holds ws done scratch out n → place 5 E ≤ length out → place 5 (n + 1) ≤ length out
-      room-more scratch out n h room =
-          let few : n + 1 ≤ E = omega (arith, h .count-is, states.few-nodes ws checked done r o l new) in
-          omega (arith, place-most 5 (n + 1) E few)
+    pub made-few : find q (builtOf ws (p .ready .done) .nodes) < 4096
+    unfolding builtOf build addRecord
+    made-few =
+        let small : find q ns < E = subst (λ (j : ℕ). j < E) (ap (λ (q : graph.Pick). takeIn (builtOf ws done) r q .num r) (sym e) ∙ num-made (builtOf ws done) r q) num-next in
+        omega (arith, few-records ws (p .ready .checked))
+
+    -- Where the search for its node begins.
+    module _ (from : ℕ) (f : from ≡ aboveAll (children (nodeOf q))) where
+      lows : Each LowRecord 0 (intern q ns)
+      unfolding builtOf build addRecord takeIn
+      lows =
+          each-low prime 0 (intern q ns)
+          (subst (λ (x : graph.Pick). Each (GoodRecord prime) 0 (takeIn (builtOf ws done) r x .nodes)) (sym e)
+          (states.kept ws (p .ready .checked) (r ∷ done) next .good))
+
+      pub search-inside : from ≤ n
+      search-inside = omega (arith, p .ready .holds .count-is, from-inside q ns lows from f)
+
+      pub search-none : NoneBefore from q (builtOf ws (p .ready .done) .nodes)
+      search-none = from-none q ns lows from f
+
+  -- Room for its node.
+  pub room-more : place 5 (n + 1) ≤ length out
+  room-more =
+      let few : n + 1 ≤ E = omega (arith, p .ready .holds .count-is, states.few-nodes ws (p .ready .checked) done r (p .ready .order) (p .ready .inside) (p .new)) in
+      omega (arith, place-most 5 (n + 1) E few, p .ready .room)
+
+  -- The same for any order of which the state holds.
+  abbrev pub at-order : (d : List ℕ) → Order ws d → member r d ≡ false → There ws r d → Holds ws d scratch out n → Adding ws r scratch out n
+  at-order d o new there h = record {
+    ready = record { checked = p .ready .checked; inside = p .ready .inside; room = p .ready .room; done = d; order = o; holds = h };
+    new = new;
+    there = there;
+  }
