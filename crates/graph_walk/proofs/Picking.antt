@@ -1,5 +1,5 @@
 -- The rule for a record, from the words of the sheet, scratch and output.
-use mathlib.Core.Path.{_≡_, refl, sym, ap, _∙_}
+use mathlib.Core.Path.{_≡_, refl, sym, ap, subst, _∙_}
 use mathlib.Core.Bool.{cond}
 use mathlib.Core.List.{List}
 use Prim.Native.Nat.{ℕ, suc, _+_, _-_, _≤_, _<_}
@@ -75,68 +75,106 @@ abbrev pub Reads : (scratch out : List ℕ) (c : ℕ) → Child → Type 0
 Reads scratch out c x =
     (x .number ≡ getD scratch c 0 - 1) × (x .kind ≡ nodeIn out (getD scratch c 0 - 1) .kind) × (x .a ≡ nodeIn out (getD scratch c 0 - 1) .a)
 
-module _ (ws : List ℕ) (checked : check prime ws ≡ good (readSheet ws)) (r : ℕ) (l : r < length (recordsOf ws)) where
+-- What is known when the node of record r is picked: its words q, and that its children are added.
+pub record Picking (ws : List ℕ) (r : ℕ) (q : declared.Record) (done scratch out : List ℕ) (n : ℕ) : Type 0 where
+  pub checked : check prime ws ≡ good (readSheet ws)
+  pub inside : r < length (recordsOf ws)
+  pub words-are : fiveWords q ≡ nodeIn ws r
+  pub order : Order ws done
+  pub there : There ws r done
+  pub holds : Holds ws done scratch out n
+
+module _ {ws : List ℕ} {r : ℕ} {q : declared.Record} {done scratch out : List ℕ} {n : ℕ} (b : Picking ws r q done scratch out n) where
   abbrev R : Record
   R = recordAt (recordsOf ws) r
 
-  module _ (q : declared.Record) (e : fiveWords q ≡ nodeIn ws r) where
-    module _ (done : List ℕ) (o : Order ws done) (there : There ws r done) (scratch out : List ℕ) (n : ℕ) (h : Holds ws done scratch out n) where
-      abbrev B : Built
-      B = builtOf ws done
+  abbrev B : Built
+  B = builtOf ws done
 
-      module _ (c : ℕ) (m : Mem c (childrenAt (recordsOf ws) r)) where
-        below : c < length (recordsOf ws)
-        below = omega (arith, child-low ws checked r c m)
+  kind-same : q .kind ≡ R .kind
+  kind-same = kind-is ws (b .checked) r (b .inside) q (b .words-are)
 
-        -- Where a child's node stands.
-        num-is : getD scratch c 0 ≡ suc (B .num c)
-        num-is = states.scratch-num ws done scratch out n h c below (there c m)
+  a-same : q .a ≡ R .a
+  a-same = a-is ws (b .checked) r (b .inside) q (b .words-are)
 
-        pub child-there : place 5 (length (recordsOf ws)) ≤ length out
-            → (c < length scratch) × (0 < getD scratch c 0) × (place 5 (getD scratch c 0 - 1) + 5 ≤ length out)
-        child-there room =
-            let few = states.kept ws checked done o .few in
-            let d = distinct-length (length (recordsOf ws)) done (o .distinct) (o .below) in
-            let small : getD scratch c 0 - 1 < length (recordsOf ws) = omega (arith, num-is, states.num-below ws checked done o c (there c m)) in (
-              omega (arith, below, states.scratch-length ws done scratch out n h),
-              omega (arith, num-is),
-              omega (arith, place-below 5 _ _ small),
-            )
+  b-same : q .b ≡ R .b
+  b-same = b-is ws (b .checked) r (b .inside) q (b .words-are)
 
-        module _ (x : Child) (f : Reads scratch out c x) where
-          at-num : getD scratch c 0 - 1 ≡ B .num c
-          at-num = omega (arith, num-is)
+  c-same : q .c ≡ R .c
+  c-same = c-is ws (b .checked) r (b .inside) q (b .words-are)
 
-          child-number : x .number ≡ B .num c
-          child-number = f .0 ∙ at-num
+  left-in : 6 ≤ q .kind → Mem (q .a) (childrenAt (recordsOf ws) r)
+  left-in = has-a ws (b .checked) r (b .inside) q (b .words-are)
 
-          child-view : viewOf x ≡ seen (recordAt (B .nodes) (B .num c))
-          child-view =
-              child-sees out (length out) (B .nodes) (h .out-is) (B .num c) (states.num-below ws checked done o c (there c m)) x
-              (f .1 ∙ ap (λ (k : ℕ). nodeIn out k .kind) at-num) (f .2 ∙ ap (λ (k : ℕ). nodeIn out k .a) at-num)
+  right-in : 6 ≤ q .kind → (q .kind ≡ 8 → ⊥) → Mem (q .b) (childrenAt (recordsOf ws) r)
+  right-in = has-b ws (b .checked) r (b .inside) q (b .words-are)
 
-      pub picks-flat : q .kind < 6 → graph.make (fiveWords q) ≡ pickOfRecord ws r done
-      picks-flat k = ap graph.make (is ws checked r l q e) ∙ sym (flat-pick prime B R (omega (arith, kind-is ws checked r l q e)))
+  module _ (c : ℕ) (m : Mem c (childrenAt (recordsOf ws) r)) where
+    below : c < length (recordsOf ws)
+    below = omega (arith, child-low ws (b .checked) r c m, b .inside)
 
-      pub picks-neg : (k : q .kind ≡ 8) (x : Child)
-          → Reads scratch out (q .a) x
-          → negRule prime (x .number) (viewOf x) (q .c) ≡ pickOfRecord ws r done
-      unfolding nodeFor
-      picks-neg k x f =
-          let m = has-a ws checked r l q e (omega arith) in
-          (λ i. negRule prime (child-number (q .a) m x f i) (child-view (q .a) m x f i) (c-is ws checked r l q e i))
-          ∙ view-neg prime (B .num (q .a)) (recordAt (B .nodes) (B .num (q .a))) (R .c)
-          ∙ ap (λ (a : ℕ). negRule prime (B .num a) (nodeFor B a) (R .c)) (a-is ws checked r l q e)
-          ∙ sym (neg-pick prime B R (sym (kind-is ws checked r l q e) ∙ k))
+    -- Where a child's node stands.
+    num-is : getD scratch c 0 ≡ suc (B .num c)
+    num-is = states.scratch-num ws done scratch out n (b .holds) c below (b .there c m)
 
-      pub picks-two : (k : 6 ≤ q .kind) (k₈ : q .kind ≡ 8 → ⊥) (x y : Child)
-          → Reads scratch out (q .a) x
-          → Reads scratch out (q .b) y
-          → twoRule prime B R (q .kind) (x .number) (y .number) (viewOf x) (viewOf y) (q .c) ≡ pickOfRecord ws r done
-      unfolding nodeFor
-      picks-two k k₈ x y f g =
-          let m = has-a ws checked r l q e k in
-          let t = has-b ws checked r l q e k k₈ in
-          views prime (recordAt (B .nodes) (B .num (q .a))) (recordAt (B .nodes) (B .num (q .b))) B R (kind-is ws checked r l q e) (child-number (q .a) m x f) (child-number (q .b) t y g) (c-is ws checked r l q e) (child-view (q .a) m x f) (child-view (q .b) t y g)
-          ∙ (λ i. twoRule prime B R (R .kind) (B .num (a-is ws checked r l q e i)) (B .num (b-is ws checked r l q e i)) (nodeFor B (a-is ws checked r l q e i)) (nodeFor B (b-is ws checked r l q e i)) (R .c))
-          ∙ sym (two-pick prime B R (omega (arith, kind-is ws checked r l q e)) (kind-limits ws checked r l .1) (λ z. k₈ (kind-is ws checked r l q e ∙ z)))
+    num-low : B .num c < length (B .nodes)
+    num-low = states.num-below ws (b .checked) done (b .order) c (b .there c m)
+
+    child-there : place 5 (length (recordsOf ws)) ≤ length out
+        → (c < length scratch) × (0 < getD scratch c 0) × (place 5 (getD scratch c 0 - 1) + 5 ≤ length out)
+    child-there room =
+        let few = states.kept ws (b .checked) done (b .order) .few in
+        let d = distinct-length (length (recordsOf ws)) done (b .order .distinct) (b .order .below) in
+        let small : getD scratch c 0 - 1 < length (recordsOf ws) = omega (arith, num-is, num-low) in (
+          omega (arith, below, states.scratch-length ws done scratch out n (b .holds)),
+          omega (arith, num-is),
+          omega (arith, place-below 5 _ _ small),
+        )
+
+    module _ (x : Child) (f : Reads scratch out c x) where
+      at-num : getD scratch c 0 - 1 ≡ B .num c
+      at-num = omega (arith, num-is)
+
+      child-number : x .number ≡ B .num c
+      child-number = f .0 ∙ at-num
+
+      child-view : viewOf x ≡ seen (recordAt (B .nodes) (B .num c))
+      child-view =
+          child-sees out (length out) (B .nodes) (b .holds .out-is) (B .num c) num-low x
+          (f .1 ∙ ap (λ (k : ℕ). nodeIn out k .kind) at-num) (f .2 ∙ ap (λ (k : ℕ). nodeIn out k .a) at-num)
+
+  -- What reading the left child's node asks, and the right one's.
+  pub left-there : 6 ≤ q .kind → (x : ℕ) → x ≡ q .a → place 5 (length (recordsOf ws)) ≤ length out
+      → (x < length scratch) × (0 < getD scratch x 0) × (place 5 (getD scratch x 0 - 1) + 5 ≤ length out)
+  left-there k x e = child-there x (subst (λ (z : ℕ). Mem z (childrenAt (recordsOf ws) r)) (sym e) (left-in k))
+
+  pub right-there : 6 ≤ q .kind → (q .kind ≡ 8 → ⊥) → (x : ℕ) → x ≡ q .b → place 5 (length (recordsOf ws)) ≤ length out
+      → (x < length scratch) × (0 < getD scratch x 0) × (place 5 (getD scratch x 0 - 1) + 5 ≤ length out)
+  right-there k k₈ x e = child-there x (subst (λ (z : ℕ). Mem z (childrenAt (recordsOf ws) r)) (sym e) (right-in k k₈))
+
+  pub picks-flat : q .kind < 6 → graph.make (fiveWords q) ≡ pickOfRecord ws r done
+  picks-flat k = ap graph.make (is ws (b .checked) r (b .inside) q (b .words-are)) ∙ sym (flat-pick prime B R (omega (arith, kind-same)))
+
+  pub picks-neg : (k : q .kind ≡ 8) (x : Child)
+      → Reads scratch out (q .a) x
+      → negRule prime (x .number) (viewOf x) (q .c) ≡ pickOfRecord ws r done
+  unfolding nodeFor
+  picks-neg k x f =
+      let m = left-in (omega arith) in
+      (λ i. negRule prime (child-number (q .a) m x f i) (child-view (q .a) m x f i) (c-same i))
+      ∙ view-neg prime (B .num (q .a)) (recordAt (B .nodes) (B .num (q .a))) (R .c)
+      ∙ ap (λ (a : ℕ). negRule prime (B .num a) (nodeFor B a) (R .c)) a-same
+      ∙ sym (neg-pick prime B R (sym kind-same ∙ k))
+
+  pub picks-two : (k : 6 ≤ q .kind) (k₈ : q .kind ≡ 8 → ⊥) (x y : Child)
+      → Reads scratch out (q .a) x
+      → Reads scratch out (q .b) y
+      → twoRule prime B R (q .kind) (x .number) (y .number) (viewOf x) (viewOf y) (q .c) ≡ pickOfRecord ws r done
+  unfolding nodeFor
+  picks-two k k₈ x y f g =
+      let m = left-in k in
+      let t = right-in k k₈ in
+      views prime (recordAt (B .nodes) (B .num (q .a))) (recordAt (B .nodes) (B .num (q .b))) B R
+      kind-same (child-number (q .a) m x f) (child-number (q .b) t y g) c-same (child-view (q .a) m x f) (child-view (q .b) t y g)
+      ∙ (λ i. twoRule prime B R (R .kind) (B .num (a-same i)) (B .num (b-same i)) (nodeFor B (a-same i)) (nodeFor B (b-same i)) (R .c))
+      ∙ sym (two-pick prime B R (omega (arith, kind-same)) (kind-limits ws (b .checked) r (b .inside) .1) (λ z. k₈ (kind-same ∙ z)))
