@@ -53,19 +53,27 @@ pub record Naming (ws : List ℕ) (at count : ℕ) (s₀ o₀ : List ℕ) (n : �
   pub walks : Walks ws (part at j ws) s₀ o₀ n s o u
   pub out-length : length o ≡ length o₀
 
-module _ (ws : List ℕ) (at count : ℕ) (s₀ o₀ : List ℕ) (n : ℕ) (p : Walking ws s₀ o₀ n) (named : NamesInside ws at count) where
+module _ {ws : List ℕ} {at count : ℕ} {s₀ o₀ : List ℕ} {n : ℕ} (p : Walking ws s₀ o₀ n) (named : NamesInside ws at count) where
   pub naming-none : Naming ws at count s₀ o₀ n s₀ o₀ n 0
   naming-none = record { j-le = omega arith; walks = visiting-none ws (State ws s₀ o₀ n); out-length = refl }
 
-  module _ (s o : List ℕ) (u j : ℕ) (h : Naming ws at count s₀ o₀ n s o u j) where
+  module _ {s o : List ℕ} {u j : ℕ} (h : Naming ws at count s₀ o₀ n s o u j) where
     so-far : Below (length (recordsOf ws)) (part at j ws)
     so-far = names-below ws at j (names-fewer ws at count j (h .j-le) named)
 
-    pub naming-walking : Walking ws s o u
+    naming-walking : Walking ws s o u
     naming-walking = walking-after ws (part at j ws) so-far s₀ o₀ n s o u p (h .out-length) (h .walks)
 
     pub naming-length : length s ≡ length s₀
     naming-length = walking-length ws s o u naming-walking ∙ sym (walking-length ws s₀ o₀ n p)
+
+    pub naming-ready : j < count → (r : ℕ) → r ≡ getD ws (at + j) 0 → Ready ws r s o u
+    naming-ready l r e = ready-root ws r (subst (λ (x : ℕ). x < length (recordsOf ws)) (sym e) (named .below j l)) s o u naming-walking
+
+    pub naming-done : count ≤ j → Walks ws (part at count ws) s₀ o₀ n s o u
+    naming-done l =
+        let e : j ≡ count = omega (arith, h .j-le) in
+        subst (λ (k : ℕ). Walks ws (part at k ws) s₀ o₀ n s o u) e (h .walks)
 
     pub naming-more : j < count → (r : ℕ) → r ≡ getD ws (at + j) 0 → (s₁ o₁ : List ℕ) (u₁ : ℕ) → length o₁ ≡ length o
         → ((done : List ℕ) → Order ws done → Holds ws done s o u → Holds ws (visit (childrenAt (recordsOf ws)) (suc r) done r) s₁ o₁ u₁)
@@ -83,7 +91,7 @@ pub record Rooting (ws : List ℕ) (at count : ℕ) (s₀ o₀ : List ℕ) (n : 
   pub walks : Walks ws roots s₀ o₀ n s o u
   pub out-length : length o ≡ length o₀
 
-module _ (ws : List ℕ) (at count : ℕ) (s₀ o₀ : List ℕ) (n : ℕ) (p : Walking ws s₀ o₀ n) where
+module _ {ws : List ℕ} {at count : ℕ} {s₀ o₀ : List ℕ} {n : ℕ} (p : Walking ws s₀ o₀ n) where
   pub rooting-none : AllRootsInside (length (recordsOf ws)) ws at count → Rooting ws at count s₀ o₀ n s₀ o₀ n at 0
   rooting-none h = record {
     roots = [];
@@ -92,7 +100,7 @@ module _ (ws : List ℕ) (at count : ℕ) (s₀ o₀ : List ℕ) (n : ℕ) (p : 
     out-length = refl;
   }
 
-  module _ (s o : List ℕ) (u from i : ℕ) (h : Rooting ws at count s₀ o₀ n s o u from i) where
+  module _ {s o : List ℕ} {u from i : ℕ} (h : Rooting ws at count s₀ o₀ n s o u from i) where
     pub rooting-walking : Walking ws s o u
     rooting-walking = walking-after ws (h .roots) (h .passed .below) s₀ o₀ n s o u p (h .out-length) (h .walks)
 

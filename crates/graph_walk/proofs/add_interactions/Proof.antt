@@ -1,3 +1,4 @@
+-- What the interactions name is added, one interaction after the other; the loop keeps what adding the first i of them came to (`Rooting`).
 use mathlib.Core.Path.{ap}
 use Prim.Native.Nat.{_-_}
 use borrow.Author.Needs.{needs}
@@ -12,26 +13,31 @@ Inv-loop sheet at count scratch₀ out₀ n used₀ from₀ i₀ scratch out use
 abbrev μ-loop : tie.MeasureT-loop
 μ-loop sheet at count scratch₀ out₀ n used₀ from₀ i₀ scratch out used from i = count - i
 
+-- The places: the loop, an interaction that is read, and when it is added.
+abbrev start : tie.At-loop Inv-loop μ-loop → tie.Start Inv-loop μ-loop
+start c = c .before .before .before .before
+
+abbrev in-loop : tie.After-interaction-at Inv-loop μ-loop → tie.At-loop Inv-loop μ-loop
+in-loop c = c .before .before
+
+abbrev added : tie.After-slice-known4 Inv-loop μ-loop → tie.After-add-interaction Inv-loop μ-loop
+added c = c .before .before .before .before
+
+abbrev interaction : tie.After-add-interaction Inv-loop μ-loop → tie.After-interaction-at Inv-loop μ-loop
+interaction c = c .before .before .before
+
 loop-holds : tie.Need-loop-holds Inv-loop μ-loop
-loop-holds c =
-    let a = c .before .before .before .args in
-    let p = c .before .before .before .pre in
-    rooting-none (a .sheet .now) (a .at) (a .count) (a .scratch .now) (a .out .now) (a .n) (p .0) (p .1)
+loop-holds c = let p = c .before .before .before .pre in rooting-none (p .0) (p .1)
 
 interaction-at-requires : tie.Need-interaction-at-requires Inv-loop μ-loop
-interaction-at-requires c κs =
-    let a = c .before .before .before .before .before .args in
-    let p = c .before .before .before .before .before .pre in
-    let loop = c .before .loop in
-    next-roots (a .sheet .now) (a .at) (a .count) (a .scratch .now) (a .out .now) (a .n) (p .0) (loop .scratch) (loop .out) (loop .used) (loop .from) (loop .i) (loop .inv) (c .loop-test .taken) .inside
+interaction-at-requires c κs = let l = c .before in next-roots (start l .pre .0) (l .loop .inv) (c .loop-test .taken) .inside
 
 add-interaction-requires : tie.Need-add-interaction-requires Inv-loop μ-loop
 add-interaction-requires c κs =
-    let a = c .before .before .before .before .before .before .before .before .args in
-    let p = c .before .before .before .before .before .before .before .before .pre in
-    let loop = c .before .before .before .before .loop in
-    let loop-test = c .before .before .before .loop-test in
-    (rooting-walking (a .sheet .now) (a .at) (a .count) (a .scratch .now) (a .out .now) (a .n) (p .0) (loop .scratch) (loop .out) (loop .used) (loop .from) (loop .i) (loop .inv), next-roots (a .sheet .now) (a .at) (a .count) (a .scratch .now) (a .out .now) (a .n) (p .0) (loop .scratch) (loop .out) (loop .used) (loop .from) (loop .i) (loop .inv) (loop-test .taken))
+    let k = c .before .before in
+    let l = in-loop k in
+    let p = start l .pre .0 in
+    (rooting-walking p (l .loop .inv), next-roots p (l .loop .inv) (k .before .loop-test .taken))
 
 add-i : tie.Need-add-i Inv-loop μ-loop
 add-i c = search needs
@@ -41,31 +47,20 @@ loop-less c = search needs
 
 loop-again : tie.Need-loop-again Inv-loop μ-loop
 loop-again c =
-    let a = c .before .before .before .before .before .before .before .before .before .before .before .before .before .args in
-    let p = c .before .before .before .before .before .before .before .before .before .before .before .before .before .pre in
-    let loop = c .before .before .before .before .before .before .before .before .before .loop in
-    let loop-test = c .before .before .before .before .before .before .before .before .loop-test in
-    let interaction-at = c .before .before .before .before .before .before .before .interaction-at in
-    let add-interaction = c .before .before .before .before .add-interaction in
-    rooting-more (a .sheet .now) (a .at) (a .count) (a .scratch .now) (a .out .now) (a .n) (p .0) (loop .scratch) (loop .out) (loop .used) (loop .from) (loop .i) (loop .inv) (loop-test .taken) (add-interaction .last .1 .1 .0) (add-interaction .last .1 .1 .1 .0) (add-interaction .result) _
-    (ap (λ (x : Interaction). x .next) (interaction-at .ensures)) (add-interaction .kept .1 .1 .1 .0) (add-interaction .ensures)
+    let v = added c .add-interaction in
+    let k = interaction (added c) in
+    let l = in-loop k in
+    rooting-more (start l .pre .0) (l .loop .inv) (k .before .loop-test .taken) (v .last .1 .1 .0) (v .last .1 .1 .1 .0) (v .result) _
+    (ap (λ (x : Interaction). x .next) (k .interaction-at .ensures)) (v .kept .1 .1 .1 .0) (v .ensures)
 
 same-length : tie.Need-same-length Inv-loop μ-loop
-same-length c =
-    let a = c .before .before .before .before .before .args in
-    let p = c .before .before .before .before .before .pre in
-    let loop = c .before .loop in
-    rooting-length (a .sheet .now) (a .at) (a .count) (a .scratch .now) (a .out .now) (a .n) (p .0) (loop .scratch) (loop .out) (loop .used) (loop .from) (loop .i) (loop .inv)
+same-length c = let l = c .before in rooting-length (start l .pre .0) (l .loop .inv)
 
 same-length-2 : tie.Need-same-length-2 Inv-loop μ-loop
 same-length-2 c = c .before .loop .inv .out-length
 
 returns : tie.Need-returns Inv-loop μ-loop
-returns c =
-    let a = c .before .before .before .before .before .args in
-    let p = c .before .before .before .before .before .pre in
-    let loop = c .before .loop in
-    rooting-done (a .sheet .now) (a .at) (a .count) (a .scratch .now) (a .out .now) (a .n) (p .0) (loop .scratch) (loop .out) (loop .used) (loop .from) (loop .i) (loop .inv) (c .loop-test .left)
+returns c = let l = c .before in rooting-done (start l .pre .0) (l .loop .inv) (c .loop-test .left)
 
 pub add-interactions-spec : {M : Type 1} → statement M
 add-interactions-spec =
