@@ -10,12 +10,12 @@ use Rattle.semantics.specs.Walk.{childrenAt, member, foldLeft, visit, order}
 use Rattle.semantics.specs.Graph.{build, graphRoots}
 use Rattle.semantics.specs.Call.{zeros, padded}
 use Rattle.semantics.proofs.Places.{place-head}
+use Rattle.semantics.proofs.Encoding.{sheet-length}
 use Rattle.records.specs.Access.{recordsOf, constraintsAt, interactionsAt, part, rootWords, NamesInside, AllRootsInside}
 use Rattle.records.proofs.Rooting.{order-none, names-below}
 use Rattle.records.proofs.Reading.{constraints-are, constraints-inside, interactions-stand, interactions-inside, roots-are}
 use Rattle.nodes.specs.Memory.{tabulate, mark, nodesOut, builtOf, Holds}
 use Rattle.graph_lists.specs.Lists.{Finishing}
-use Rattle.graph_lists.proofs.Graphing.{encode-long}
 use Rattle.graph_walk.specs.Walking.{Walking, Walks}
 use Rattle.graph_walk.proofs.Rooting.{walking-after, walks-both}
 use Rattle.dag.specs.Calls.{Starting}
@@ -40,7 +40,7 @@ module _ {ws scratch out : List ℕ} (b : Starting ws scratch out) where
 
   room : place 5 E ≤ length out
   unfolding lengthOf
-  room = omega (arith, encode-long s, b .room)
+  room = omega (arith, sheet-length s, b .room)
 
   holds-none : Holds ws [] scratch out 0
   unfolding mark member builtOf build nodesOut padded zeros flatMap

@@ -30,11 +30,22 @@ use Rattle.slices.proofs.Puts.{put-length}
 use Rattle.graph_lists.proofs.Renaming.{map-same, renamed-are, named-are}
 use Rattle.graph_lists.proofs.Closing.{plain-again, flagged-are, graph-words, graph-fits}
 
-pub encode-long : (g : Sheet) → length (encode g) ≡ place 5 (length (g .records)) + length (g .constraints) + length (flatMap interactionWords (g .interactions))
-unfolding lengthOf
-encode-long g = sheet-length g
+-- The constraints' nodes are flagged.
+pub record Flags (ws scratch : List ℕ) (at count : ℕ) (s₁ : List ℕ) : Type 0 where
+  pub at-is : at ≡ constraintsAt ws
+  pub count-is : count ≡ length (readSheet ws .constraints)
+  pub flags-are : s₁ ≡ tabulate 0 (length scratch) (flagged (marksOf scratch) (nodeNumbers (marksOf scratch) (part at count ws)))
 
-module _ (ws scratch out : List ℕ) (n : ℕ) (f : Finishing ws scratch out n) where
+-- They are written behind the nodes and plain again, and the interactions are next.
+pub record Behind (ws out : List ℕ) (n at count : ℕ) (s₁ : List ℕ) (to : ℕ) (s₂ out₁ : List ℕ) (next from ints : ℕ) : Type 0 where
+  pub to-is : to ≡ place 5 n
+  pub plain-is : s₂ ≡ tabulate 0 (length s₁) (plainBelow n s₁)
+  pub out-is : out₁ ≡ put out to (flaggedAmong 0 n s₁)
+  pub end-is : next ≡ to + length (flaggedAmong 0 n s₁)
+  pub starts : from ≡ at + count
+  pub ints-are : ints ≡ length (readSheet ws .interactions)
+
+module _ {ws scratch out : List ℕ} {n : ℕ} (f : Finishing ws scratch out n) where
   abbrev s : Sheet
   s = readSheet ws
 
@@ -143,46 +154,44 @@ module _ (ws scratch out : List ℕ) (n : ℕ) (f : Finishing ws scratch out n) 
   unfolding lengthOf
   fits =
       let k : length (g .records) ≡ n = ap length records-are ∙ sym nodes-count in
-      omega (arith, encode-long g, graph-fits ws (f .checked), f .room, ap (place 5) k)
+      omega (arith, sheet-length g, graph-fits ws (f .checked), f .room, ap (place 5) k)
 
   -- The constraints are flagged, written and plain again.
-  module _ (at count : ℕ) (ea : at ≡ constraintsAt ws) (ec : count ≡ length (s .constraints)) (s₁ : List ℕ)
-      (e₁ : s₁ ≡ tabulate 0 (length scratch) (flagged (marksOf scratch) (nodeNumbers (marksOf scratch) (part at count ws)))) where
-    flags-are : s₁ ≡ tabulate 0 (length scratch) (flagged (marksOf scratch) nums)
-    flags-are = e₁ ∙ ap (λ (l : List ℕ). tabulate 0 (length scratch) (flagged (marksOf scratch) l)) (numbers-are at count ea ec)
+  module _ {at count : ℕ} {s₁ : List ℕ} (b : Flags ws scratch at count s₁) where
+    flags-now : s₁ ≡ tabulate 0 (length scratch) (flagged (marksOf scratch) nums)
+    flags-now = b .flags-are ∙ ap (λ (l : List ℕ). tabulate 0 (length scratch) (flagged (marksOf scratch) l)) (numbers-are at count (b .at-is) (b .count-is))
 
     among-are : flaggedAmong 0 n s₁ ≡ g .constraints
-    among-are = ap (flaggedAmong 0 n) flags-are ∙ flagged-are scratch nums n marks-small nums-below nodes-few ∙ sym sorted-are
+    among-are = ap (flaggedAmong 0 n) flags-now ∙ flagged-are scratch nums n marks-small nums-below nodes-few ∙ sym sorted-are
 
     pub room-flagged : (to : ℕ) → to ≡ place 5 n → (n ≤ length s₁) × (n < 4294967296) × (to + length (flaggedAmong 0 n s₁) ≤ length out)
     room-flagged to et =
-        let l : length s₁ ≡ length scratch = ap length e₁ ∙ tabulate-length 0 (length scratch) _ in
+        let l : length s₁ ≡ length scratch = ap length (b .flags-are) ∙ tabulate-length 0 (length scratch) _ in
         let k : length (flaggedAmong 0 n s₁) ≡ length (g .constraints) = ap length among-are in
         (omega (arith, nodes-few), omega (arith, nodes-small), omega (arith, fits))
 
-    module _ (to : ℕ) (et : to ≡ place 5 n) (s₂ out₁ : List ℕ) (next : ℕ) (e₂ : s₂ ≡ tabulate 0 (length s₁) (plainBelow n s₁)) (o₁ : out₁ ≡ put out to (flaggedAmong 0 n s₁))
-        (q : next ≡ to + length (flaggedAmong 0 n s₁)) (from ints : ℕ) (ef : from ≡ at + count) (ei : ints ≡ length (s .interactions)) where
+    module _ {to : ℕ} {s₂ out₁ : List ℕ} {next from ints : ℕ} (w : Behind ws out n at count s₁ to s₂ out₁ next from ints) where
       plain : s₂ ≡ scratch
-      plain = e₂ ∙ ap (λ (l : List ℕ). tabulate 0 (length l) (plainBelow n l)) flags-are ∙ plain-again scratch nums n marks-small nums-below nodes-few
+      plain = w .plain-is ∙ ap (λ (l : List ℕ). tabulate 0 (length l) (plainBelow n l)) flags-now ∙ plain-again scratch nums n marks-small nums-below nodes-few
 
       from-is : interactionsAt ws ≡ from
-      from-is = omega arith
+      from-is = omega (arith, b .at-is, b .count-is, w .starts)
 
       stands : drop (interactionsAt ws) ws ≡ flatMap interactionWords (s .interactions) ++ interactions-stand ws (f .checked) .0
       stands = interactions-stand ws (f .checked) .1
 
       renamed-now : renamedAll ws s₂ from ints ≡ flatMap interactionWords (g .interactions)
       renamed-now =
-          (λ i. renamedAll ws (plain i) (sym from-is i) (ei i))
+          (λ i. renamedAll ws (plain i) (sym from-is i) (w .ints-are i))
           ∙ renamed-are (interactions-stand ws (f .checked) .0) ws (interactionsAt ws) (s .interactions) stands scratch (B .num)
           (λ c m. number-is c (interaction-root c m))
           ∙ ap (flatMap interactionWords) (sym interactions-are)
 
       next-is : next ≡ place 5 n + length (g .constraints)
-      next-is = q ∙ λ i. et i + length (among-are i)
+      next-is = w .end-is ∙ λ i. w .to-is i + length (among-are i)
 
       out₁-is : out₁ ≡ put out (place 5 n) (g .constraints)
-      out₁-is = o₁ ∙ λ i. put out (et i) (among-are i)
+      out₁-is = w .out-is ∙ λ i. put out (w .to-is i) (among-are i)
 
       out₁-length : length out₁ ≡ length out
       out₁-length = ap length out₁-is ∙ put-length out (place 5 n) (g .constraints) (omega (arith, fits))
@@ -192,27 +201,28 @@ module _ (ws scratch out : List ℕ) (n : ℕ) (f : Finishing ws scratch out n) 
           let k : length (renamedAll ws s₂ from ints) ≡ length (flatMap interactionWords (g .interactions)) = ap length renamed-now in (
             subst (λ (x : List ℕ). NamedInteractions ws x from ints) (sym plain)
                 (subst (λ (a : ℕ). NamedInteractions ws scratch a ints) from-is
-                (subst (NamedInteractions ws scratch (interactionsAt ws)) (sym ei)
+                (subst (NamedInteractions ws scratch (interactionsAt ws)) (sym (w .ints-are))
                 (named-are (interactions-stand ws (f .checked) .0) ws (interactionsAt ws) (s .interactions) stands scratch marks-small (λ c m. root-named c (interaction-root c m))))),
             omega (arith, fits, next-is, out₁-length),
           )
 
       -- The output with its head.
-      module _ (out₂ : List ℕ) (o₂ : out₂ ≡ put out₁ next (renamedAll ws s₂ from ints)) where
+      module _ {out₂ : List ℕ} (o₂ : out₂ ≡ put out₁ next (renamedAll ws s₂ from ints)) where
         pub out₂-length : length out₂ ≡ length out
         out₂-length =
             let k = interactions-named .1 in
             ap length o₂ ∙ put-length out₁ next (renamedAll ws s₂ from ints) k ∙ out₁-length
 
-        pub end-is : (end : ℕ) → end ≡ next + length (renamedAll ws s₂ from ints) → end ≡ graphLength ws
-        end-is end e =
+        pub graph-end : (end : ℕ) → end ≡ next + length (renamedAll ws s₂ from ints) → end ≡ graphLength ws
+        unfolding lengthOf
+        graph-end end e =
             let k : length (renamedAll ws s₂ from ints) ≡ length (flatMap interactionWords (g .interactions)) = ap length renamed-now in
             let kn : n ≡ length (g .records) = nodes-count ∙ ap length (sym records-are) in
-            omega (arith, next-is, encode-long g, ap (place 5) kn)
+            omega (arith, next-is, sheet-length g, ap (place 5) kn)
 
         -- What the head asks.
         pub head-asks : (4 ≤ length out₂) × (n < 2 ^ 32) × (next - to < 2 ^ 32) × (ints < 2 ^ 32)
-        head-asks = (omega (arith, fits, out₂-length, place-head 5 n), omega (arith, nodes-small), omega (arith, next-is, sorted-few), omega (arith, lists-small .1))
+        head-asks = (omega (arith, fits, out₂-length, place-head 5 n), omega (arith, nodes-small), omega (arith, next-is, sorted-few, w .to-is), omega (arith, lists-small .1, w .ints-are))
           where
             sorted-few : length (g .constraints) ≤ 1024
             sorted-few =
@@ -223,11 +233,12 @@ module _ (ws scratch out : List ℕ) (n : ℕ) (f : Finishing ws scratch out n) 
         graph-written =
             let N : ℕ = length (g .records) in
             let kn : n ≡ N = nodes-count ∙ ap length (sym records-are) in
-            let kc : next - to ≡ length (g .constraints) = omega (arith, next-is) in
-            let ki : ints ≡ length (g .interactions) = ei ∙ sym (length-map (s .interactions) (renamed (B .num))) ∙ ap length (sym interactions-are) in
+            let kc : next - to ≡ length (g .constraints) = omega (arith, next-is, w .to-is) in
+            let ki : ints ≡ length (g .interactions) = w .ints-are ∙ sym (length-map (s .interactions) (renamed (B .num))) ∙ ap length (sym interactions-are) in
             let kx : next ≡ place 5 N + length (g .constraints) = next-is ∙ ap (λ (m : ℕ). place 5 m + length (g .constraints)) kn in
             let ko : out ≡ nodesOut (length out) (g .records) = f .holds .out-is ∙ ap (nodesOut (length out)) (sym records-are) in
-            let w : out₂ ≡ put (put (nodesOut (length out) (g .records)) (place 5 N) (g .constraints)) (place 5 N + length (g .constraints)) (flatMap interactionWords (g .interactions)) =
-            o₂ ∙ (λ i. put (out₁-is i) (kx i) (renamed-now i)) ∙ (λ i. put (put (ko i) (place 5 (kn i)) (g .constraints)) (place 5 N + length (g .constraints)) (flatMap interactionWords (g .interactions))) in
-            (λ i. sets (w i) 0 (1 ∷ kn i ∷ kc i ∷ ki i ∷ []))
+            let I : List ℕ = flatMap interactionWords (g .interactions) in
+            let all : out₂ ≡ put (put (nodesOut (length out) (g .records)) (place 5 N) (g .constraints)) (place 5 N + length (g .constraints)) I =
+            o₂ ∙ (λ i. put (out₁-is i) (kx i) (renamed-now i)) ∙ (λ i. put (put (ko i) (place 5 (kn i)) (g .constraints)) (place 5 N + length (g .constraints)) I) in
+            (λ i. sets (all i) 0 (1 ∷ kn i ∷ kc i ∷ ki i ∷ []))
             ∙ graph-words (length out) g (unfold lengthOf in (omega (arith, graph-fits ws (f .checked), f .room)))

@@ -1,85 +1,106 @@
-use mathlib.Core.Path.{refl, _∙_}
+-- The constraints' nodes are flagged, written behind the nodes in ascending order and plain again (`Flags`, `Behind`), then the interactions are
+-- written, and last the head.
+use mathlib.Core.Path.{_≡_, refl, _∙_}
 use Prim.Native.Nat.{_+_}
 use native.Mathlib.Omega.{arith}
 use borrow.Author.Needs.{needs}
 use Rattle.semantics.proofs.Places.{records-limit}
 use Rattle.records.proofs.Reading.{places-small}
-use Rattle.graph_lists.proofs.Graphing.{constraints-named, nodes-small, room-flagged, interactions-named, out₂-length, head-asks, end-is, graph-written}
+use Rattle.graph_lists.proofs.Graphing.{Flags, Behind, constraints-named, nodes-small, room-flagged, interactions-named, out₂-length, head-asks, graph-end, graph-written}
 use Rattle.graph_lists.proofs.write_graph.Statement.{statement}
 use Rattle.graph_lists.proofs.write_graph.Tie as tie
 
+-- The places: the nodes are flagged, the records' end is known, the constraints are written, the interactions, and the head.
+abbrev start : tie.After-flag-nodes → tie.Start
+start c = c .before .before .before .before .before
+
+abbrev is-flagged : tie.After-records-end → tie.After-flag-nodes
+is-flagged c = c .before .before .before
+
+abbrev records-end : tie.After-write-flagged → tie.After-records-end
+records-end c = c .before .before .before
+
+abbrev constraints-there : tie.After-slice-known5 → tie.After-write-flagged
+constraints-there c = c .before .before .before .before
+
+abbrev constraints-written : tie.After-write-interactions → tie.After-write-flagged
+constraints-written c = constraints-there (c .before .before .before)
+
+abbrev interactions-written : tie.After-put-head-arg → tie.After-write-interactions
+interactions-written c = c .before .before .before
+
+abbrev head-written : tie.After-slice-known7 → tie.After-put-head
+head-written c = c .before .before
+
+abbrev flags-start : tie.After-write-flagged → tie.Start
+flags-start c = start (is-flagged (records-end c))
+
+flags : (c : tie.After-flag-nodes) → let a = start c .args in Flags (a .sheet .now) (a .scratch .now) (a .at) (a .constraints) (c .flag-nodes .last .1 .1 .1 .0)
+flags c = record { at-is = start c .pre .1; count-is = start c .pre .2; flags-are = c .flag-nodes .ensures }
+
+behind : (c : tie.After-write-flagged) → let a = flags-start c .args in
+    let v = c .write-flagged in
+    Behind (a .sheet .now) (a .out .now) (a .n) (a .at) (a .constraints) (is-flagged (records-end c) .flag-nodes .last .1 .1 .1 .0)
+    (records-end c .records-end .result) (v .last .0) (v .last .1 .1 .0) (v .result) (a .at + a .constraints) (a .interactions)
+behind c = record {
+  to-is = records-end c .records-end .ensures;
+  plain-is = c .write-flagged .ensures .0;
+  out-is = c .write-flagged .ensures .1;
+  end-is = c .write-flagged .ensures .2;
+  starts = refl;
+  ints-are = flags-start c .pre .3;
+}
+
 flag-nodes-requires : tie.Need-flag-nodes-requires
-flag-nodes-requires c κs =
-    let a = c .before .before .before .before .args in
-    let p = c .before .before .before .before .pre in
-    constraints-named (a .sheet .now) (a .scratch .now) (a .out .now) (a .n) (p .0) (a .at) (a .constraints) (p .1) (p .2)
+flag-nodes-requires c κs = let s = c .before .before .before .before in constraints-named (s .pre .0) (s .args .at) (s .args .constraints) (s .pre .1) (s .pre .2)
 
 records-end-requires : tie.Need-records-end-requires
-records-end-requires c κs =
-    let a = c .before .before .before .before .before .before .before .args in
-    let p = c .before .before .before .before .before .before .before .pre in
-    omega (arith, records-limit (a .n) (nodes-small (a .sheet .now) (a .scratch .now) (a .out .now) (a .n) (p .0)))
+records-end-requires c κs = let s = start (c .before .before) in omega (arith, records-limit (s .args .n) (nodes-small (s .pre .0)))
 
 write-flagged-requires : tie.Need-write-flagged-requires
 write-flagged-requires c κs =
-    let a = c .before .before .before .before .before .before .before .before .before .before .args in
-    let p = c .before .before .before .before .before .before .before .before .before .before .pre in
-    let flag-nodes = c .before .before .before .before .before .flag-nodes in
-    let records-end = c .before .before .records-end in
-    room-flagged (a .sheet .now) (a .scratch .now) (a .out .now) (a .n) (p .0) (a .at) (a .constraints) (p .1) (p .2) (flag-nodes .last .1 .1 .1 .0) (flag-nodes .ensures) (records-end .result) (records-end .ensures)
+    let e = c .before .before in
+    let f = is-flagged e in
+    room-flagged (start f .pre .0) (flags f) (e .records-end .result) (e .records-end .ensures)
 
 add-write-interactions : tie.Need-add-write-interactions
 add-write-interactions c =
-    let a = c .before .before .before .before .before .before .before .before .before .before .before .before .before .before .before .args in
-    let p = c .before .before .before .before .before .before .before .before .before .before .before .before .before .before .before .pre in
-    omega (arith, p .1, p .2, places-small (a .sheet .now) (p .0 .checked) .1)
+    let s = flags-start (constraints-there c) in
+    omega (arith, s .pre .1, s .pre .2, places-small (s .args .sheet .now) (s .pre .0 .checked) .1)
 
 write-interactions-requires : tie.Need-write-interactions-requires
 write-interactions-requires c κs =
-    let a = c .before .before .before .before .before .before .before .before .before .before .before .before .before .before .before .before .before .args in
-    let p = c .before .before .before .before .before .before .before .before .before .before .before .before .before .before .before .before .before .pre in
-    let flag-nodes = c .before .before .before .before .before .before .before .before .before .before .before .before .flag-nodes in
-    let records-end = c .before .before .before .before .before .before .before .before .before .records-end in
-    let write-flagged = c .before .before .before .before .before .before .write-flagged in
-    interactions-named (a .sheet .now) (a .scratch .now) (a .out .now) (a .n) (p .0) (a .at) (a .constraints) (p .1) (p .2) (flag-nodes .last .1 .1 .1 .0) (flag-nodes .ensures) (records-end .result) (records-end .ensures) (write-flagged .last .0) (write-flagged .last .1 .1 .0) (write-flagged .result) (write-flagged .ensures .0) (write-flagged .ensures .1) (write-flagged .ensures .2) ((a .at) + (a .constraints)) (a .interactions) refl (p .3)
+    let k = constraints-there (c .before .before) in
+    interactions-named (flags-start k .pre .0) (flags (is-flagged (records-end k))) (behind k)
 
 sub-put-head : tie.Need-sub-put-head
 sub-put-head c = search needs
 
 put-head-requires : tie.Need-put-head-requires
 put-head-requires c κs =
-    let a = c .before .before .before .before .before .before .before .before .before .before .before .before .before .before .before .before .before .before .before .before .before .args in
-    let p = c .before .before .before .before .before .before .before .before .before .before .before .before .before .before .before .before .before .before .before .before .before .pre in
-    let flag-nodes = c .before .before .before .before .before .before .before .before .before .before .before .before .before .before .before .before .flag-nodes in
-    let records-end = c .before .before .before .before .before .before .before .before .before .before .before .before .before .records-end in
-    let write-flagged = c .before .before .before .before .before .before .before .before .before .before .write-flagged in
-    let write-interactions = c .before .before .before .write-interactions in
-    head-asks (a .sheet .now) (a .scratch .now) (a .out .now) (a .n) (p .0) (a .at) (a .constraints) (p .1) (p .2) (flag-nodes .last .1 .1 .1 .0) (flag-nodes .ensures) (records-end .result) (records-end .ensures) (write-flagged .last .0) (write-flagged .last .1 .1 .0) (write-flagged .result) (write-flagged .ensures .0) (write-flagged .ensures .1) (write-flagged .ensures .2) ((a .at) + (a .constraints)) (a .interactions) refl (p .3) (write-interactions .last .1 .1 .1 .1 .0) (write-interactions .ensures .0)
+    let v = interactions-written c in
+    let k = constraints-written v in
+    head-asks (flags-start k .pre .0) (flags (is-flagged (records-end k))) (behind k) (v .write-interactions .ensures .0)
 
 same-length : tie.Need-same-length
 same-length c = search needs
 
 same-length-2 : tie.Need-same-length-2
 same-length-2 c =
-    let a = c .before .before .before .before .before .before .before .before .before .before .before .before .before .before .before .before .before .before .before .before .before .before .before .before .args in
-    let p = c .before .before .before .before .before .before .before .before .before .before .before .before .before .before .before .before .before .before .before .before .before .before .before .before .pre in
-    let flag-nodes = c .before .before .before .before .before .before .before .before .before .before .before .before .before .before .before .before .before .before .before .flag-nodes in
-    let records-end = c .before .before .before .before .before .before .before .before .before .before .before .before .before .before .before .before .records-end in
-    let write-flagged = c .before .before .before .before .before .before .before .before .before .before .before .before .before .write-flagged in
-    let write-interactions = c .before .before .before .before .before .before .write-interactions in
-    let put-head = c .before .before .put-head in
-    put-head .kept .0 ∙ out₂-length (a .sheet .now) (a .scratch .now) (a .out .now) (a .n) (p .0) (a .at) (a .constraints) (p .1) (p .2) (flag-nodes .last .1 .1 .1 .0) (flag-nodes .ensures) (records-end .result) (records-end .ensures) (write-flagged .last .0) (write-flagged .last .1 .1 .0) (write-flagged .result) (write-flagged .ensures .0) (write-flagged .ensures .1) (write-flagged .ensures .2) ((a .at) + (a .constraints)) (a .interactions) refl (p .3) (write-interactions .last .1 .1 .1 .1 .0) (write-interactions .ensures .0)
+    let h = head-written c in
+    let v = interactions-written (h .before) in
+    let k = constraints-written v in
+    h .put-head .kept .0 ∙ out₂-length (flags-start k .pre .0) (flags (is-flagged (records-end k))) (behind k) (v .write-interactions .ensures .0)
 
 returns : tie.Need-returns
 returns c =
-    let a = c .before .before .before .before .before .before .before .before .before .before .before .before .before .before .before .before .before .before .before .before .before .before .before .before .args in
-    let p = c .before .before .before .before .before .before .before .before .before .before .before .before .before .before .before .before .before .before .before .before .before .before .before .before .pre in
-    let flag-nodes = c .before .before .before .before .before .before .before .before .before .before .before .before .before .before .before .before .before .before .before .flag-nodes in
-    let records-end = c .before .before .before .before .before .before .before .before .before .before .before .before .before .before .before .before .records-end in
-    let write-flagged = c .before .before .before .before .before .before .before .before .before .before .before .before .before .write-flagged in
-    let write-interactions = c .before .before .before .before .before .before .write-interactions in
-    let put-head = c .before .before .put-head in
-    (put-head .ensures ∙ graph-written (a .sheet .now) (a .scratch .now) (a .out .now) (a .n) (p .0) (a .at) (a .constraints) (p .1) (p .2) (flag-nodes .last .1 .1 .1 .0) (flag-nodes .ensures) (records-end .result) (records-end .ensures) (write-flagged .last .0) (write-flagged .last .1 .1 .0) (write-flagged .result) (write-flagged .ensures .0) (write-flagged .ensures .1) (write-flagged .ensures .2) ((a .at) + (a .constraints)) (a .interactions) refl (p .3) (write-interactions .last .1 .1 .1 .1 .0) (write-interactions .ensures .0), end-is (a .sheet .now) (a .scratch .now) (a .out .now) (a .n) (p .0) (a .at) (a .constraints) (p .1) (p .2) (flag-nodes .last .1 .1 .1 .0) (flag-nodes .ensures) (records-end .result) (records-end .ensures) (write-flagged .last .0) (write-flagged .last .1 .1 .0) (write-flagged .result) (write-flagged .ensures .0) (write-flagged .ensures .1) (write-flagged .ensures .2) ((a .at) + (a .constraints)) (a .interactions) refl (p .3) (write-interactions .last .1 .1 .1 .1 .0) (write-interactions .ensures .0) _ (write-interactions .ensures .1))
+    let h = head-written c in
+    let v = interactions-written (h .before) in
+    let k = constraints-written v in
+    let p = flags-start k .pre .0 in
+    let f = flags (is-flagged (records-end k)) in
+    let o = v .write-interactions .ensures in
+    (h .put-head .ensures ∙ graph-written p f (behind k) (o .0), graph-end p f (behind k) (o .0) _ (o .1))
 
 pub write-graph-spec : {M : Type 1} → statement M
 write-graph-spec =
