@@ -1,5 +1,5 @@
 -- Flagging nodes and taking the flagged in ascending order sorts node numbers and drops repeats.
-use mathlib.Core.Path.{_≡_, refl, sym, ap, _∙_}
+use mathlib.Core.Path.{_≡_, refl, sym, ap, subst, _∙_}
 use mathlib.Core.Bool.{Bool, true, false, cond}
 use mathlib.Core.List.{List, [], _∷_, _++_, map-append}
 use Prim.Native.Nat.{ℕ, zero, suc, pred, _+_, _%_, _≤_, _<_}
@@ -132,7 +132,7 @@ pub table-of : (s : List ℕ) → s ≡ tabulate 0 (length s) (marksOf s)
 table-of s = ext-getD 0 s (tabulate 0 (length s) (marksOf s)) (sym (tabulate-length 0 (length s) (marksOf s))) (λ i l. sym (tabulate-from (length s) (marksOf s) i 0 l))
 
 -- The loop over the names: `j` of them are flagged.
-module _ (ws : List ℕ) (at count : ℕ) (s₀ : List ℕ) (h : Named ws at count s₀) where
+module _ {ws : List ℕ} {at count : ℕ} {s₀ : List ℕ} (h : Named ws at count s₀) where
   abbrev f : ℕ → ℕ
   f = marksOf s₀
 
@@ -143,18 +143,31 @@ module _ (ws : List ℕ) (at count : ℕ) (s₀ : List ℕ) (h : Named ws at cou
   unfolding flagged member
   flagging-none = table-of s₀ ∙ tabulate-same (length s₀) f (flagged f []) (λ i l. omega arith)
 
-  pub flagging-length : (s : List ℕ) (j : ℕ) → Flagging s j → length s ≡ length s₀
-  flagging-length s j e = ap length e ∙ tabulate-length 0 (length s₀) (flagged f (nodeNumbers f (part at j ws)))
+  pub flagging-length : {s : List ℕ} (j : ℕ) → Flagging s j → length s ≡ length s₀
+  flagging-length j e = ap length e ∙ tabulate-length 0 (length s₀) (flagged f (nodeNumbers f (part at j ws)))
 
-  module _ (s : List ℕ) (j : ℕ) (e : Flagging s j) (l : j < count) where
+  module _ {s : List ℕ} {j : ℕ} (e : Flagging s j) (l : j < count) where
     -- The mark of the next name, and its node.
-    pub next-mark : getD s (getD ws (at + j) 0) 0 % 65536 ≡ f (getD ws (at + j) 0)
+    next-mark : getD s (getD ws (at + j) 0) 0 % 65536 ≡ f (getD ws (at + j) 0)
     next-mark =
         ap (λ (u : List ℕ). getD u (getD ws (at + j) 0) 0 % 65536) e
         ∙ mark-under (length s₀) f (h .small) (nodeNumbers f (part at j ws)) (getD ws (at + j) 0) (h .named j l .0)
 
-    pub next-node : pred (f (getD ws (at + j) 0)) < length s₀
+    next-node : pred (f (getD ws (at + j) 0)) < length s₀
     next-node = omega (arith, h .named j l .1, h .named j l .2)
+
+    -- What `node_number` asks and hands back of it, where x is the name.
+    module _ {x : ℕ} (q : x ≡ getD ws (at + j) 0) where
+      pub number-asks : (x < length s) × (0 < getD s x 0 % 65536)
+      number-asks =
+          subst (λ (y : ℕ). (y < length s) × (0 < getD s y 0 % 65536)) (sym q)
+          (omega (arith, flagging-length j e, h .named j l .0), omega (arith, next-mark, h .named j l .1))
+
+      pub number-is : {node : ℕ} → node ≡ pred (getD s x 0 % 65536) → node ≡ pred (f (getD ws (at + j) 0))
+      number-is k = k ∙ ap (λ (y : ℕ). pred (getD s y 0 % 65536)) q ∙ ap pred next-mark
+
+      pub number-inside : {node : ℕ} → node ≡ pred (getD s x 0 % 65536) → node < length s
+      number-inside k = omega (arith, number-is k, next-node, flagging-length j e)
 
     pub flagging-more : (node : ℕ) → node ≡ pred (f (getD ws (at + j) 0)) → (s′ : List ℕ) → s′ ≡ set s node (flagWord (getD s node 0)) → Flagging s′ (j + 1)
     flagging-more node q s′ g =

@@ -6,7 +6,7 @@ use native.Mathlib.Omega.{arith}
 use lib.ListN.{length, getD, drop, length-map}
 use lib.Seq.{sets}
 use Rattle.semantics.specs.Arithmetic.{prime}
-use Rattle.semantics.specs.Sheet.{Sheet, interactionWords, encode, lengthOf, place}
+use Rattle.semantics.specs.Sheet.{Sheet, interactionWords, lengthOf, place}
 use Rattle.semantics.specs.Check.{readSheet}
 use Rattle.semantics.specs.Walk.{Mem, Below, member}
 use Rattle.semantics.specs.Graph.{Built, built, graphRoots, graphOf, sortedOnce, renamed}

@@ -16,19 +16,27 @@ use Rattle.slices.proofs.Puts.{put-none, put-length, put-behind, set-behind, se
 numbers-length : (ws : List ℕ) (at j : ℕ) (f : ℕ → ℕ) → at + j ≤ length ws → length (nodeNumbers f (part at j ws)) ≡ j
 numbers-length ws at j f h = length-map (part at j ws) (λ (x : ℕ). pred (f x)) ∙ part-length ws at j h
 
-module _ (ws : List ℕ) (at count : ℕ) (s : List ℕ) (h : Named ws at count s) where
-  module _ (j : ℕ) (l : j < count) where
+module _ {ws : List ℕ} {at count : ℕ} {s : List ℕ} (h : Named ws at count s) where
+  module _ {j : ℕ} (l : j < count) where
     -- The next name's mark has no flag.
-    pub plain-mark : getD s (getD ws (at + j) 0) 0 % 65536 ≡ marksOf s (getD ws (at + j) 0)
+    plain-mark : getD s (getD ws (at + j) 0) 0 % 65536 ≡ marksOf s (getD ws (at + j) 0)
     plain-mark = mod-eq-of-lt (h .small (getD ws (at + j) 0) (h .named j l .0))
 
-    pub node-small : pred (marksOf s (getD ws (at + j) 0)) < 4294967296
-    node-small = omega (arith, h .small (getD ws (at + j) 0) (h .named j l .0))
+    -- What `node_number` asks and hands back of it, where x is the name.
+    module _ {x : ℕ} (e : x ≡ getD ws (at + j) 0) where
+      pub number-asks : (x < length s) × (0 < getD s x 0 % 65536)
+      number-asks = subst (λ (y : ℕ). (y < length s) × (0 < getD s y 0 % 65536)) (sym e) (h .named j l .0, omega (arith, plain-mark, h .named j l .1))
 
-    pub naming-more : (out₀ out : List ℕ) (to node : ℕ) → to + count ≤ length out₀ → out ≡ put out₀ to (nodeNumbers (marksOf s) (part at j ws))
+      pub number-is : {node : ℕ} → node ≡ pred (getD s x 0 % 65536) → node ≡ pred (marksOf s (getD ws (at + j) 0))
+      number-is q = q ∙ ap (λ (y : ℕ). pred (getD s y 0 % 65536)) e ∙ ap pred plain-mark
+
+      pub number-small : {node : ℕ} → node ≡ pred (getD s x 0 % 65536) → node < 4294967296
+      number-small q = omega (arith, number-is q, h .small (getD ws (at + j) 0) (h .named j l .0))
+
+    pub naming-more : (out₀ : List ℕ) (to : ℕ) {out : List ℕ} {node : ℕ} → to + count ≤ length out₀ → out ≡ put out₀ to (nodeNumbers (marksOf s) (part at j ws))
         → node ≡ pred (marksOf s (getD ws (at + j) 0))
         → set out (to + j) node ≡ put out₀ to (nodeNumbers (marksOf s) (part at (j + 1) ws))
-    naming-more out₀ out to node r e q =
+    naming-more out₀ to {out} {node} r e q =
         let f : ℕ → ℕ = marksOf s in
         let xs : List ℕ = nodeNumbers f (part at j ws) in
         let n : length xs ≡ j = numbers-length ws at j f (omega (arith, h .inside)) in
@@ -38,7 +46,7 @@ module _ (ws : List ℕ) (at count : ℕ) (s : List ℕ) (h : Named ws at count 
         ∙ ap (λ (y : List ℕ). put out₀ to (nodeNumbers f y)) (sym (part-more ws at j (omega (arith, h .inside))))
 
 -- The words of an interaction, one after the other.
-module _ (ws : List ℕ) (at : ℕ) (s : List ℕ) (h : NamedInteraction ws at s) where
+module _ {ws : List ℕ} {at : ℕ} {s : List ℕ} (h : NamedInteraction ws at s) where
   abbrev count-nodes : List ℕ
   count-nodes = nodeNumbers (marksOf s) (part (at + 2) 1 ws)
 
@@ -75,53 +83,62 @@ module _ (ws : List ℕ) (at : ℕ) (s : List ℕ) (h : NamedInteraction ws at s
         e₅ ∙ put-behind out (set o₃ (to + 3) (messageLength ws at)) to y f₄ (to + 4) (omega arith) message-nodes (omega (arith, all-message)) in
         f₅ ∙ ap (put out to) (append-assoc x (messageLength ws at ∷ []) message-nodes ∙ append-assoc front count-nodes ((messageLength ws at ∷ []) ++ message-nodes))
 
-    -- At the places x of the sheet and y of the output.
-    module _ (x y : Interaction) (ex : x ≡ interactionFrom at (messageLength ws at)) (ey : y ≡ interactionFrom to (x .message)) where
-      y-is : y ≡ interactionFrom to (messageLength ws at)
-      y-is = ey ∙ ap (λ (z : Interaction). interactionFrom to (z .message)) ex
+-- An interaction that is written, at the places x of the sheet and y of the output.
+pub record Places (ws : List ℕ) (at : ℕ) (s out : List ℕ) (to : ℕ) (x y : Interaction) : Type 0 where
+  pub named : NamedInteraction ws at s
+  pub room : to + (4 + messageLength ws at) ≤ length out
+  pub x-is : x ≡ interactionFrom at (messageLength ws at)
+  pub y-from : y ≡ interactionFrom to (x .message)
 
-      at-places : (P : Interaction → Interaction → Type 0) → P (interactionFrom at (messageLength ws at)) (interactionFrom to (messageLength ws at)) → P x y
-      at-places P f =
-          subst (P x) (sym y-is) (subst (λ (u : Interaction). P u (interactionFrom to (messageLength ws at))) (sym ex) f)
+module _ {ws : List ℕ} {at : ℕ} {s out : List ℕ} {to : ℕ} {x y : Interaction} (p : Places ws at s out to x y) where
+  abbrev h : NamedInteraction ws at s
+  h = p .named
 
-      pub next-place : y .next ≡ to + (4 + messageLength ws at)
-      next-place = ap (λ (z : Interaction). z .next) y-is
+  y-is : y ≡ interactionFrom to (messageLength ws at)
+  y-is = p .y-from ∙ ap (λ (z : Interaction). interactionFrom to (z .message)) (p .x-is)
 
-      module _ (o₂ : List ℕ) (e₂ : o₂ ≡ sets out to front) where
-        length-two : length o₂ ≡ length out
-        length-two = ap length (e₂ ∙ sets-put out to front (omega arith)) ∙ put-length out to front (omega arith)
+  at-places : (P : Interaction → Interaction → Type 0) → P (interactionFrom at (messageLength ws at)) (interactionFrom to (messageLength ws at)) → P x y
+  at-places P f =
+      subst (P x) (sym y-is) (subst (λ (u : Interaction). P u (interactionFrom to (messageLength ws at))) (sym (p .x-is)) f)
 
-        pub count-asks : Named ws (x .count) 1 s × (y .count + 1 ≤ length o₂)
-        count-asks = at-places (λ u v. Named ws (u .count) 1 s × (v .count + 1 ≤ length o₂)) (h .count, omega (arith, length-two))
+  pub next-place : y .next ≡ to + (4 + messageLength ws at)
+  next-place = ap (λ (z : Interaction). z .next) y-is
 
-        module _ (o₃ : List ℕ) (e₃ : o₃ ≡ put o₂ (y .count) (nodeNumbers (marksOf s) (part (x .count) 1 ws))) where
-          three-is : o₃ ≡ put o₂ (to + 2) count-nodes
-          three-is = e₃ ∙ λ i. put o₂ (y-is i .count) (nodeNumbers (marksOf s) (part (ex i .count) 1 ws))
+  module _ {o₂ : List ℕ} (e₂ : o₂ ≡ sets out to (front h)) where
+    length-two : length o₂ ≡ length out
+    length-two = ap length (e₂ ∙ sets-put out to (front h) (omega (arith, p .room))) ∙ put-length out to (front h) (omega (arith, p .room))
 
-          length-three : length o₃ ≡ length out
-          length-three = ap length three-is ∙ put-length o₂ (to + 2) count-nodes (omega (arith, one-count, length-two)) ∙ length-two
+    pub count-asks : Named ws (x .count) 1 s × (y .count + 1 ≤ length o₂)
+    count-asks = at-places (λ u v. Named ws (u .count) 1 s × (v .count + 1 ≤ length o₂)) (h .count, omega (arith, length-two, p .room))
 
-          pub length-fits : (x .length < length ws) × (y .length < length o₃)
-          length-fits =
-              at-places (λ u v. (u .length < length ws) × (v .length < length o₃))
-              (omega (arith, h .inside), omega (arith, length-three))
+    module _ {o₃ : List ℕ} (e₃ : o₃ ≡ put o₂ (y .count) (nodeNumbers (marksOf s) (part (x .count) 1 ws))) where
+      three-is : o₃ ≡ put o₂ (to + 2) (count-nodes h)
+      three-is = e₃ ∙ λ i. put o₂ (y-is i .count) (nodeNumbers (marksOf s) (part (p .x-is i .count) 1 ws))
 
-          abbrev o₄ : List ℕ
-          o₄ = set o₃ (y .length) (getD ws (x .length) 0)
+      length-three : length o₃ ≡ length out
+      length-three = ap length three-is ∙ put-length o₂ (to + 2) (count-nodes h) (omega (arith, one-count h, length-two, p .room)) ∙ length-two
 
-          pub message-asks : Named ws (x .fields) (x .message) s × (y .fields + x .message ≤ length o₄)
-          message-asks =
-              let l : length o₄ ≡ length out = length-set o₃ (y .length) (getD ws (x .length) 0) ∙ length-three in
-              at-places (λ u v. Named ws (u .fields) (u .message) s × (v .fields + u .message ≤ length o₄)) (h .message, omega arith)
+      pub length-fits : (x .length < length ws) × (y .length < length o₃)
+      length-fits =
+          at-places (λ u v. (u .length < length ws) × (v .length < length o₃))
+          (omega (arith, h .inside), omega (arith, length-three, p .room))
 
-          module _ (o₅ : List ℕ) (e₅ : o₅ ≡ put o₄ (y .fields) (nodeNumbers (marksOf s) (part (x .fields) (x .message) ws))) where
-            pub interaction-put : o₅ ≡ put out to (renamedWords ws s at)
-            interaction-put =
-                all-put o₂ o₃ o₅ e₂ three-is
-                (e₅ ∙ λ i. put (set o₃ (y-is i .length) (getD ws (ex i .length) 0)) (y-is i .fields) (nodeNumbers (marksOf s) (part (ex i .fields) (ex i .message) ws)))
+      abbrev o₄ : List ℕ
+      o₄ = set o₃ (y .length) (getD ws (x .length) 0)
 
-            pub interaction-length : length o₅ ≡ length out
-            interaction-length = ap length interaction-put ∙ put-length out to (renamedWords ws s at) (omega (arith, renamed-length))
+      pub message-asks : Named ws (x .fields) (x .message) s × (y .fields + x .message ≤ length o₄)
+      message-asks =
+          let l : length o₄ ≡ length out = length-set o₃ (y .length) (getD ws (x .length) 0) ∙ length-three in
+          at-places (λ u v. Named ws (u .fields) (u .message) s × (v .fields + u .message ≤ length o₄)) (h .message, omega (arith, l, p .room))
+
+      module _ {o₅ : List ℕ} (e₅ : o₅ ≡ put o₄ (y .fields) (nodeNumbers (marksOf s) (part (x .fields) (x .message) ws))) where
+        pub interaction-put : o₅ ≡ put out to (renamedWords ws s at)
+        interaction-put =
+            all-put h out to (p .room) o₂ o₃ o₅ e₂ three-is
+            (e₅ ∙ λ i. put (set o₃ (y-is i .length) (getD ws (p .x-is i .length) 0)) (y-is i .fields) (nodeNumbers (marksOf s) (part (p .x-is i .fields) (p .x-is i .message) ws)))
+
+        pub interaction-length : length o₅ ≡ length out
+        interaction-length = ap length interaction-put ∙ put-length out to (renamedWords ws s at) (omega (arith, renamed-length h, p .room))
 
 -- The loop over the interactions: what is written and what is left make the whole.
 pub record Written (ws s : List ℕ) (at count : ℕ) (out₀ : List ℕ) (to : ℕ) (out : List ℕ) (from next i : ℕ) : Type 0 where
@@ -132,69 +149,72 @@ pub record Written (ws s : List ℕ) (at count : ℕ) (out₀ : List ℕ) (to : 
   pub whole : words ++ renamedAll ws s from (count - i) ≡ renamedAll ws s at count
   pub left : NamedInteractions ws s from (count - i)
 
-module _ (ws s : List ℕ) (at count : ℕ) (out₀ : List ℕ) (to : ℕ) (named : NamedInteractions ws s at count)
+pub written-none : (ws s : List ℕ) (at count : ℕ) (out₀ : List ℕ) (to : ℕ) → NamedInteractions ws s at count → Written ws s at count out₀ to out₀ at to 0
+written-none ws s at count out₀ to named = record {
+  words = [];
+  i-le = omega arith;
+  out-is = sym (put-none out₀ to);
+  next-is = omega arith;
+  whole = ap (renamedAll ws s at) (omega arith);
+  left = subst (NamedInteractions ws s at) (z count) named;
+}
+  where
+    z : (n : ℕ) → n ≡ n - 0
+    z n = omega arith
+
+module _ {ws s : List ℕ} {at count : ℕ} {out₀ : List ℕ} {to : ℕ} {out : List ℕ} {from next i : ℕ} (h : Written ws s at count out₀ to out from next i)
     (room : to + length (renamedAll ws s at count) ≤ length out₀) where
-  pub written-none : Written ws s at count out₀ to out₀ at to 0
-  written-none = record {
-    words = [];
-    i-le = omega arith;
-    out-is = sym (put-none out₀ to);
-    next-is = omega arith;
-    whole = ap (renamedAll ws s at) (omega arith);
-    left = subst (NamedInteractions ws s at) (z count) named;
-  }
-    where
-      z : (n : ℕ) → n ≡ n - 0
-      z n = omega arith
+  pub written-length : length (h .words) + length (renamedAll ws s from (count - i)) ≡ length (renamedAll ws s at count)
+  written-length = sym (length-append (h .words) (renamedAll ws s from (count - i))) ∙ ap length (h .whole)
 
-  module _ (out : List ℕ) (from next i : ℕ) (h : Written ws s at count out₀ to out from next i) where
-    pub written-length : length (h .words) + length (renamedAll ws s from (count - i)) ≡ length (renamedAll ws s at count)
-    written-length = sym (length-append (h .words) (renamedAll ws s from (count - i))) ∙ ap length (h .whole)
+  pub out-length : length out ≡ length out₀
+  out-length = ap length (h .out-is) ∙ put-length out₀ to (h .words) (omega (arith, written-length))
 
-    pub out-length : length out ≡ length out₀
-    out-length = ap length (h .out-is) ∙ put-length out₀ to (h .words) (omega (arith, written-length))
+  module _ (l : i < count) where
+    less : count - i ≡ suc (count - (i + 1))
+    less = omega arith
 
-    module _ (l : i < count) where
-      less : count - i ≡ suc (count - (i + 1))
-      less = omega arith
+    next-left : NamedInteractions ws s from (suc (count - (i + 1)))
+    next-left = subst (NamedInteractions ws s from) less (h .left)
 
-      next-left : NamedInteractions ws s from (suc (count - (i + 1)))
-      next-left = subst (NamedInteractions ws s from) less (h .left)
+    pub next-interaction : NamedInteraction ws from s
+    next-interaction = next-left .0
 
-      pub next-interaction : NamedInteraction ws from s
-      next-interaction = next-left .0
+    next-whole : h .words ++ (renamedWords ws s from ++ renamedAll ws s (from + (4 + messageLength ws from)) (count - (i + 1))) ≡ renamedAll ws s at count
+    unfolding eachWords
+    next-whole = ap (λ (n : ℕ). h .words ++ renamedAll ws s from n) (sym less) ∙ h .whole
 
-      next-whole : h .words ++ (renamedWords ws s from ++ renamedAll ws s (from + (4 + messageLength ws from)) (count - (i + 1))) ≡ renamedAll ws s at count
-      unfolding eachWords
-      next-whole = ap (λ (n : ℕ). h .words ++ renamedAll ws s from n) (sym less) ∙ h .whole
+    words-length : length (renamedWords ws s from) ≡ 4 + messageLength ws from
+    words-length = renamed-length next-interaction
 
-      words-length : length (renamedWords ws s from) ≡ 4 + messageLength ws from
-      words-length = renamed-length ws from s next-interaction
+    split-length : length (h .words) + (length (renamedWords ws s from) + length (renamedAll ws s (from + (4 + messageLength ws from)) (count - (i + 1)))) ≡ length (renamedAll ws s at count)
+    split-length =
+        let a = ap length next-whole in
+        let rest : List ℕ = renamedAll ws s (from + (4 + messageLength ws from)) (count - (i + 1)) in
+        omega (arith, length-append (h .words) (renamedWords ws s from ++ rest), length-append (renamedWords ws s from) rest)
 
-      split-length : length (h .words) + (length (renamedWords ws s from) + length (renamedAll ws s (from + (4 + messageLength ws from)) (count - (i + 1)))) ≡ length (renamedAll ws s at count)
-      split-length =
-          let a = ap length next-whole in
-          let rest : List ℕ = renamedAll ws s (from + (4 + messageLength ws from)) (count - (i + 1)) in
-          omega (arith, length-append (h .words) (renamedWords ws s from ++ rest), length-append (renamedWords ws s from) rest)
+    pub next-room : next + (4 + messageLength ws from) ≤ length out
+    next-room = omega (arith, split-length, words-length, out-length, h .next-is)
 
-      pub next-room : next + (4 + messageLength ws from) ≤ length out
-      next-room = omega (arith, split-length, words-length, out-length, h .next-is)
+    pub written-more : (out′ : List ℕ) (from′ next′ : ℕ) → out′ ≡ put out next (renamedWords ws s from) → next′ ≡ next + (4 + messageLength ws from)
+        → from′ ≡ from + (4 + messageLength ws from) → Written ws s at count out₀ to out′ from′ next′ (i + 1)
+    written-more out′ from′ next′ o n f = record {
+      words = h .words ++ renamedWords ws s from;
+      i-le = omega arith;
+      out-is = o ∙ put-behind out₀ out to (h .words) (h .out-is) next (h .next-is) (renamedWords ws s from) (omega (arith, split-length));
+      next-is = n ∙ omega (arith, h .next-is, words-length, length-append (h .words) (renamedWords ws s from));
+      whole = ap (λ (k : ℕ). h .words ++ renamedWords ws s from ++ renamedAll ws s k (count - (i + 1))) f
+          ∙ append-assoc (h .words) (renamedWords ws s from) (renamedAll ws s (from + (4 + messageLength ws from)) (count - (i + 1))) ∙ next-whole;
+      left = subst (λ (k : ℕ). NamedInteractions ws s k (count - (i + 1))) (sym f) (next-left .1);
+    }
 
-      pub written-more : (out′ : List ℕ) (from′ next′ : ℕ) → out′ ≡ put out next (renamedWords ws s from) → next′ ≡ next + (4 + messageLength ws from)
-          → from′ ≡ from + (4 + messageLength ws from) → Written ws s at count out₀ to out′ from′ next′ (i + 1)
-      written-more out′ from′ next′ o n f = record {
-        words = h .words ++ renamedWords ws s from;
-        i-le = omega arith;
-        out-is = o ∙ put-behind out₀ out to (h .words) (h .out-is) next (h .next-is) (renamedWords ws s from) (omega (arith, split-length));
-        next-is = n ∙ omega (arith, h .next-is, words-length, length-append (h .words) (renamedWords ws s from));
-        whole = ap (λ (k : ℕ). h .words ++ renamedWords ws s from ++ renamedAll ws s k (count - (i + 1))) f
-            ∙ append-assoc (h .words) (renamedWords ws s from) (renamedAll ws s (from + (4 + messageLength ws from)) (count - (i + 1))) ∙ next-whole;
-        left = subst (λ (k : ℕ). NamedInteractions ws s k (count - (i + 1))) (sym f) (next-left .1);
-      }
+-- All are written.
+module _ {ws s : List ℕ} {at count : ℕ} {out₀ : List ℕ} {to : ℕ} {out : List ℕ} {from next i : ℕ} (h : Written ws s at count out₀ to out from next i) (l : count ≤ i) where
+  all-written : h .words ≡ renamedAll ws s at count
+  unfolding eachWords
+  all-written =
+      let z : count - i ≡ 0 = omega arith in
+      sym (append-nil (h .words)) ∙ ap (λ (n : ℕ). h .words ++ renamedAll ws s from n) (sym z) ∙ h .whole
 
-pub written-done : (ws s : List ℕ) (at count : ℕ) (out₀ : List ℕ) (to : ℕ) (out : List ℕ) (from next i : ℕ) (h : Written ws s at count out₀ to out from next i) → count ≤ i
-    → h .words ≡ renamedAll ws s at count
-unfolding eachWords
-written-done ws s at count out₀ to out from next i h l =
-    let z : count - i ≡ 0 = omega arith in
-    sym (append-nil (h .words)) ∙ ap (λ (n : ℕ). h .words ++ renamedAll ws s from n) (sym z) ∙ h .whole
+  pub written-done : (out ≡ put out₀ to (renamedAll ws s at count)) × (next ≡ to + length (renamedAll ws s at count))
+  written-done = (h .out-is ∙ ap (put out₀ to) all-written, h .next-is ∙ ap (λ (xs : List ℕ). to + length xs) all-written)

@@ -67,41 +67,52 @@ pub record Swept (s₀ out₀ : List ℕ) (at nodes : ℕ) (s out : List ℕ) (n
   pub out-is : out ≡ put out₀ at (flaggedAmong 0 node s₀)
   pub next-is : next ≡ at + length (flaggedAmong 0 node s₀)
 
-module _ (s₀ out₀ : List ℕ) (at nodes : ℕ) (fits : nodes ≤ length s₀) (room : at + length (flaggedAmong 0 nodes s₀) ≤ length out₀) where
-  -- What is written so far is a part of all.
-  among-le : (n m k : ℕ) → n ≤ m → length (flaggedAmong k n s₀) ≤ length (flaggedAmong k m s₀)
-  unfolding flaggedAmong
-  among-le zero m k h = omega arith
-  among-le (suc n) zero k h = absurd (omega arith)
-  among-le (suc n) (suc m) k h =
-      let ih = among-le n m (suc k) (omega arith) in
-      simp length-append (omega arith)
+-- What is written so far is a part of all.
+among-le : (s₀ : List ℕ) (n m k : ℕ) → n ≤ m → length (flaggedAmong k n s₀) ≤ length (flaggedAmong k m s₀)
+unfolding flaggedAmong
+among-le s₀ zero m k h = omega arith
+among-le s₀ (suc n) zero k h = absurd (omega arith)
+among-le s₀ (suc n) (suc m) k h =
+    let ih = among-le s₀ n m (suc k) (omega arith) in
+    simp length-append (omega arith)
 
-  pub swept-room : (node : ℕ) → node < nodes → at + length (flaggedAmong 0 node s₀) + length (chosen (leb 65536 (marksOf s₀ node)) node) ≤ length out₀
-  swept-room node h =
-      let e = ap length (among-more 0 node s₀) ∙ length-append (flaggedAmong 0 node s₀) (chosen (leb 65536 (marksOf s₀ (0 + node))) (0 + node)) in
-      let z : length (chosen (leb 65536 (marksOf s₀ (0 + node))) (0 + node)) ≡ length (chosen (leb 65536 (marksOf s₀ node)) node) =
-      ap (λ (j : ℕ). length (chosen (leb 65536 (marksOf s₀ j)) j)) (zero-add node) in
-      omega (arith, among-le (suc node) nodes 0 (omega arith))
+pub swept-none : (s₀ out₀ : List ℕ) (at nodes : ℕ) → Swept s₀ out₀ at nodes s₀ out₀ at 0
+unfolding flaggedAmong
+swept-none s₀ out₀ at nodes = record {
+  node-le = omega arith;
+  scratch-is = table-of s₀ ∙ tabulate-same (length s₀) (marksOf s₀) (plainBelow 0 s₀) (λ i l. unfold plainBelow in (sym (rw (le-ltb i 0 (omega arith)))));
+  out-is = sym (put-none out₀ at);
+  next-is = omega arith;
+}
 
-  pub swept-none : Swept s₀ out₀ at nodes s₀ out₀ at 0
-  unfolding flaggedAmong
-  swept-none = record {
-    node-le = omega arith;
-    scratch-is = table-of s₀ ∙ tabulate-same (length s₀) (marksOf s₀) (plainBelow 0 s₀) (λ i l. unfold plainBelow in (sym (rw (le-ltb i 0 (omega arith)))));
-    out-is = sym (put-none out₀ at);
-    next-is = omega arith;
-  }
+module _ {s₀ out₀ : List ℕ} {at nodes : ℕ} {s out : List ℕ} {next node : ℕ} (h : Swept s₀ out₀ at nodes s out next node)
+    (fits : nodes ≤ length s₀) (room : at + length (flaggedAmong 0 nodes s₀) ≤ length out₀) where
+  pub swept-lengths : (length s ≡ length s₀) × (length out ≡ length out₀)
+  swept-lengths = (
+    ap length (h .scratch-is) ∙ tabulate-length 0 (length s₀) (plainBelow node s₀),
+    ap length (h .out-is) ∙ put-length out₀ at (flaggedAmong 0 node s₀) (omega (arith, among-le s₀ node nodes 0 (h .node-le))),
+  )
 
-  module _ (s out : List ℕ) (next node : ℕ) (h : Swept s₀ out₀ at nodes s out next node) (l : node < nodes) where
-    pub swept-lengths : (length s ≡ length s₀) × (length out ≡ length out₀)
-    swept-lengths = (
-      ap length (h .scratch-is) ∙ tabulate-length 0 (length s₀) (plainBelow node s₀),
-      ap length (h .out-is) ∙ put-length out₀ at (flaggedAmong 0 node s₀) (omega (arith, swept-room node l)),
-    )
+  -- All entries are done.
+  pub swept-done : nodes ≤ node → (s ≡ tabulate 0 (length s₀) (plainBelow nodes s₀)) × (out ≡ put out₀ at (flaggedAmong 0 nodes s₀)) × (next ≡ at + length (flaggedAmong 0 nodes s₀))
+  swept-done l =
+      let e : node ≡ nodes = omega (arith, h .node-le) in
+      (
+        h .scratch-is ∙ ap (λ (k : ℕ). tabulate 0 (length s₀) (plainBelow k s₀)) e,
+        h .out-is ∙ ap (λ (k : ℕ). put out₀ at (flaggedAmong 0 k s₀)) e,
+        h .next-is ∙ ap (λ (k : ℕ). at + length (flaggedAmong 0 k s₀)) e,
+      )
+
+  module _ (l : node < nodes) where
+    swept-room : at + length (flaggedAmong 0 node s₀) + length (chosen (leb 65536 (marksOf s₀ node)) node) ≤ length out₀
+    swept-room =
+        let e = ap length (among-more 0 node s₀) ∙ length-append (flaggedAmong 0 node s₀) (chosen (leb 65536 (marksOf s₀ (0 + node))) (0 + node)) in
+        let z : length (chosen (leb 65536 (marksOf s₀ (0 + node))) (0 + node)) ≡ length (chosen (leb 65536 (marksOf s₀ node)) node) =
+        ap (λ (j : ℕ). length (chosen (leb 65536 (marksOf s₀ j)) j)) (zero-add node) in
+        omega (arith, among-le s₀ (suc node) nodes 0 (omega arith))
 
     -- The entry at `node` is as it was.
-    pub swept-word : getD s node 0 ≡ marksOf s₀ node
+    swept-word : getD s node 0 ≡ marksOf s₀ node
     unfolding plainBelow
     swept-word =
         ap (λ (u : List ℕ). getD u node 0) (h .scratch-is)
@@ -111,7 +122,7 @@ module _ (s₀ out₀ : List ℕ) (at nodes : ℕ) (fits : nodes ≤ length s₀
     pub swept-wanted : (b : Bool) → b ≡ leb 65536 (getD s node 0) → Wanted b next out
     swept-wanted b e =
         let w = e ∙ ap (leb 65536) swept-word in
-        go b (swept-room node l) (ap (λ (c : Bool). length (chosen c node)) w)
+        go b swept-room (ap (λ (c : Bool). length (chosen c node)) w)
       where
         go : (c : Bool) → at + length (flaggedAmong 0 node s₀) + length (chosen (leb 65536 (marksOf s₀ node)) node) ≤ length out₀
             → length (chosen c node) ≡ length (chosen (leb 65536 (marksOf s₀ node)) node) → Wanted c next out
@@ -128,7 +139,7 @@ module _ (s₀ out₀ : List ℕ) (at nodes : ℕ) (fits : nodes ≤ length s₀
         ap (λ (c : Bool). old ++ chosen c node) w ∙ ap (λ (j : ℕ). old ++ chosen (leb 65536 (marksOf s₀ j)) j) (sym (zero-add node))
         ∙ sym (among-more 0 node s₀) ∙ ap (λ (j : ℕ). flaggedAmong 0 j s₀) (sym (add-one node)) in
         let r : at + length old + length (chosen b node) ≤ length out₀ =
-        subst (λ (c : Bool). at + length old + length (chosen c node) ≤ length out₀) (sym w) (swept-room node l) in
+        subst (λ (c : Bool). at + length old + length (chosen c node) ≤ length out₀) (sym w) swept-room in
         record {
           node-le = omega arith;
           scratch-is = q ∙ ap (λ (v : ℕ). set s node (plainWord v)) swept-word ∙ ap (λ (u : List ℕ). set u node (plainWord (marksOf s₀ node))) (h .scratch-is)

@@ -1,59 +1,64 @@
-use mathlib.Core.Path.{_≡_, sym, ap, subst, _∙_}
-use Prim.Native.Nat.{ℕ, _+_, _-_, _%_, _≤_, _<_, pred}
+-- The nodes of the names are flagged one after the other; the loop keeps that scratch is the table of marks with the nodes of the first j names flagged.
+use mathlib.Core.Path.{_≡_, ap, _∙_}
+use Prim.Native.Nat.{ℕ, _+_, _-_, _≤_, _<_}
 use native.Mathlib.Omega.{arith}
 use borrow.Author.Needs.{needs}
-use lib.ListN.{length, getD}
+use lib.ListN.{length}
 use Rattle.records.specs.Access.{part}
 use Rattle.nodes.specs.Memory.{tabulate}
 use Rattle.graph_lists.specs.Lists.{flagged, nodeNumbers, marksOf}
-use Rattle.graph_lists.proofs.Flags.{flagging-none, flagging-length, flagging-more, next-mark, next-node}
+use Rattle.graph_lists.proofs.Flags.{flagging-none, flagging-length, number-asks, number-is, number-inside, flagging-more}
 use Rattle.graph_lists.proofs.flag_nodes.Statement.{statement}
 use Rattle.graph_lists.proofs.flag_nodes.Tie as tie
 
-j-is : (j count : ℕ) → j ≤ count → count ≤ j → j ≡ count
-j-is j count h k = omega arith
-
 abbrev Inv-loop : tie.InvT-loop
-Inv-loop sheet at count scratch₀ j₀ scratch j = (j ≤ count) × (scratch ≡ tabulate 0 (length scratch₀) (flagged (marksOf scratch₀) (nodeNumbers (marksOf scratch₀) (part at j sheet))))
+Inv-loop sheet at count scratch₀ j₀ scratch j =
+    (j ≤ count) × (scratch ≡ tabulate 0 (length scratch₀) (flagged (marksOf scratch₀) (nodeNumbers (marksOf scratch₀) (part at j sheet))))
 
 abbrev μ-loop : tie.MeasureT-loop
 μ-loop sheet at count scratch₀ j₀ scratch j = count - j
 
+-- The places: the loop, a name that is read, and its node, which is flagged.
+abbrev start : tie.At-loop Inv-loop μ-loop → tie.Start Inv-loop μ-loop
+start c = c .before .before .before
+
+abbrev in-loop : tie.After-wide Inv-loop μ-loop → tie.At-loop Inv-loop μ-loop
+in-loop c = c .before .before .before .before
+
+abbrev numbered : tie.After-slice-known2 Inv-loop μ-loop → tie.After-node-number Inv-loop μ-loop
+numbered c = c .before .before .before .before
+
+name-inside : (c : tie.After-node-number-arg Inv-loop μ-loop) → let l = c .before .before in
+    start l .args .at + l .loop .j < length (start l .args .sheet .now)
+name-inside c = let l = c .before .before in omega (arith, start l .pre .inside)
+
+left : (c : tie.After-wide Inv-loop μ-loop) → in-loop c .loop .j < start (in-loop c) .args .count
+left c = omega arith
+
 loop-holds : tie.Need-loop-holds Inv-loop μ-loop
-loop-holds c =
-    let a = c .before .before .args in
-    (omega arith, flagging-none (a .sheet .now) (a .at) (a .count) (a .scratch .now) (c .before .before .pre))
+loop-holds c = (omega arith, flagging-none (c .before .before .pre))
 
 add-wide : tie.Need-add-wide Inv-loop μ-loop
-add-wide c = omega (arith, c .before .before .before .before .before .pre .inside)
+add-wide c = let h = name-inside c in search needs
 
 mul-wide : tie.Need-mul-wide Inv-loop μ-loop
-mul-wide c =
-    let h : (c .before .before .before .before .before .args .at) + c .before .before .loop .j < length (c .before .before .before .before .before .args .sheet .now) = omega (arith, c .before .before .before .before .before .pre .inside) in
-    search needs
+mul-wide c = let h = name-inside c in search needs
 
 shared-slice-read-wide : tie.Need-shared-slice-read-wide Inv-loop μ-loop
-shared-slice-read-wide c = omega (arith, c .before .before .before .before .before .before .pre .inside)
+shared-slice-read-wide c = name-inside (c .before)
 
 wide-requires : tie.Need-wide-requires Inv-loop μ-loop
 wide-requires c κs = search needs
 
 node-number-requires : tie.Need-node-number-requires Inv-loop μ-loop
-node-number-requires c κs =
-    let a = c .before .before .before .before .before .before .before .args in
-    let p = c .before .before .before .before .before .before .before .pre in
-    let loop = c .before .before .before .before .loop in
-    let n = p .named (loop .j) (omega arith) in
-    let w = c .wide .ensures in
-    let q = flagging-length (a .sheet .now) (a .at) (a .count) (a .scratch .now) p (loop .scratch) (loop .j) (loop .inv .1) in
-    (omega arith, subst (λ (x : ℕ). 0 < getD (loop .scratch) x 0 % 65536) (sym w) (omega (arith, next-mark (a .sheet .now) (a .at) (a .count) (a .scratch .now) p (loop .scratch) (loop .j) (loop .inv .1) (omega arith))))
+node-number-requires c κs = let l = in-loop c in number-asks (start l .pre) (l .loop .inv .1) (left c) (c .wide .ensures)
 
 flag-node-requires : tie.Need-flag-node-requires Inv-loop μ-loop
 flag-node-requires c κs =
-    let a = c .before .before .before .before .before .before .before .before .before .args in
-    let p = c .before .before .before .before .before .before .before .before .before .pre in
-    let loop = c .before .before .before .before .before .before .loop in
-    omega (arith, (c .before .node-number .ensures ∙ ap (λ (x : ℕ). pred (getD (loop .scratch) x 0 % 65536)) (c .before .before .wide .ensures) ∙ ap pred (next-mark (a .sheet .now) (a .at) (a .count) (a .scratch .now) p (loop .scratch) (loop .j) (loop .inv .1) (omega arith))), next-node (a .sheet .now) (a .at) (a .count) (a .scratch .now) p (loop .scratch) (loop .j) (loop .inv .1) (omega arith), flagging-length (a .sheet .now) (a .at) (a .count) (a .scratch .now) p (loop .scratch) (loop .j) (loop .inv .1))
+    let v = c .before in
+    let k = v .before in
+    let l = in-loop k in
+    number-inside (start l .pre) (l .loop .inv .1) (left k) (k .wide .ensures) (v .node-number .ensures)
 
 add-j : tie.Need-add-j Inv-loop μ-loop
 add-j c = search needs
@@ -63,22 +68,23 @@ loop-less c = search needs
 
 loop-again : tie.Need-loop-again Inv-loop μ-loop
 loop-again c =
-    let a = c .before .before .before .before .before .before .before .before .before .before .before .before .args in
-    let p = c .before .before .before .before .before .before .before .before .before .before .before .before .pre in
-    let loop = c .before .before .before .before .before .before .before .before .before .loop in
-    (omega arith, flagging-more (a .sheet .now) (a .at) (a .count) (a .scratch .now) p (loop .scratch) (loop .j) (loop .inv .1) (omega arith) _ (c .before .before .before .before .node-number .ensures ∙ ap (λ (x : ℕ). pred (getD (loop .scratch) x 0 % 65536)) (c .before .before .before .before .before .wide .ensures) ∙ ap pred (next-mark (a .sheet .now) (a .at) (a .count) (a .scratch .now) p (loop .scratch) (loop .j) (loop .inv .1) (omega arith))) _ (c .before .before .flag-node .ensures))
+    let v = numbered c in
+    let k = v .before in
+    let l = in-loop k in
+    let p = start l .pre in
+    let e = l .loop .inv .1 in
+    (omega arith, flagging-more p e (left k) _ (number-is p e (left k) (k .wide .ensures) (v .node-number .ensures)) _ (c .before .before .flag-node .ensures))
 
 same-length : tie.Need-same-length Inv-loop μ-loop
-same-length c =
-    let a = c .before .before .before .before .args in
-    let loop = c .before .loop in
-    flagging-length (a .sheet .now) (a .at) (a .count) (a .scratch .now) (c .before .before .before .before .pre) (loop .scratch) (loop .j) (loop .inv .1)
+same-length c = let l = c .before in flagging-length (start l .pre) (l .loop .j) (l .loop .inv .1)
 
 returns : tie.Need-returns Inv-loop μ-loop
 returns c =
-    let a = c .before .before .before .before .args in
+    let a = start (c .before) .args in
     let loop = c .before .loop in
-    loop .inv .1 ∙ ap (λ (k : ℕ). tabulate 0 (length (a .scratch .now)) (flagged (marksOf (a .scratch .now)) (nodeNumbers (marksOf (a .scratch .now)) (part (a .at) k (a .sheet .now))))) (j-is (loop .j) (a .count) (omega arith) (omega arith))
+    let f = marksOf (a .scratch .now) in
+    let all : loop .j ≡ a .count = omega arith in
+    loop .inv .1 ∙ ap (λ (k : ℕ). tabulate 0 (length (a .scratch .now)) (flagged f (nodeNumbers f (part (a .at) k (a .sheet .now))))) all
 
 pub flag-nodes-spec : {M : Type 1} → statement M
 flag-nodes-spec =

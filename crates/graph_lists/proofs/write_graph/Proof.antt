@@ -1,6 +1,6 @@
 -- The constraints' nodes are flagged, written behind the nodes in ascending order and plain again (`Flags`, `Behind`), then the interactions are
 -- written, and last the head.
-use mathlib.Core.Path.{_≡_, refl, _∙_}
+use mathlib.Core.Path.{refl, _∙_}
 use Prim.Native.Nat.{_+_}
 use native.Mathlib.Omega.{arith}
 use borrow.Author.Needs.{needs}

@@ -1,18 +1,16 @@
-use mathlib.Core.Path.{_≡_, refl, sym, ap, subst, _∙_}
-use Prim.Native.Nat.{ℕ, _+_, _-_, _%_, _≤_, _<_, pred}
+-- Each name's node is written behind the last; the loop keeps that the nodes of the first j names are put into the output.
+use mathlib.Core.Path.{_≡_, refl, sym, ap, _∙_}
+use Prim.Native.Nat.{ℕ, _+_, _-_, _≤_, _<_}
 use native.Mathlib.Omega.{arith}
 use borrow.Author.Needs.{needs}
-use lib.ListN.{length, getD, length-set}
+use lib.ListN.{length, length-set}
 use Rattle.records.specs.Access.{part}
 use Rattle.slices.specs.Putting.{put}
 use Rattle.graph_lists.specs.Lists.{nodeNumbers, marksOf}
 use Rattle.slices.proofs.Puts.{put-none}
-use Rattle.graph_lists.proofs.Naming.{plain-mark, node-small, naming-more}
+use Rattle.graph_lists.proofs.Naming.{number-asks, number-is, number-small, naming-more}
 use Rattle.graph_lists.proofs.write_names.Statement.{statement}
 use Rattle.graph_lists.proofs.write_names.Tie as tie
-
-j-is : (j count : ℕ) → j ≤ count → count ≤ j → j ≡ count
-j-is j count h k = omega arith
 
 abbrev Inv-loop : tie.InvT-loop
 Inv-loop sheet at count scratch out₀ to j₀ out j = (j ≤ count) × (length out ≡ length out₀) × (out ≡ put out₀ to (nodeNumbers (marksOf scratch) (part at j sheet)))
@@ -20,49 +18,57 @@ Inv-loop sheet at count scratch out₀ to j₀ out j = (j ≤ count) × (length 
 abbrev μ-loop : tie.MeasureT-loop
 μ-loop sheet at count scratch out₀ to j₀ out j = count - j
 
+-- The places: the loop, a name that is read, and its node.
+abbrev start : tie.At-loop Inv-loop μ-loop → tie.Start Inv-loop μ-loop
+start c = c .before .before .before .before
+
+abbrev in-loop : tie.After-wide Inv-loop μ-loop → tie.At-loop Inv-loop μ-loop
+in-loop c = c .before .before .before
+
+abbrev node-start : tie.After-node-number Inv-loop μ-loop → tie.Start Inv-loop μ-loop
+node-start c = start (in-loop (c .before))
+
+name-inside : (c : tie.In-loop Inv-loop μ-loop) → let a = start (c .before) .args in a .at + c .before .loop .j < length (a .sheet .now)
+name-inside c = omega (arith, start (c .before) .pre .0 .inside)
+
+left : (c : tie.After-wide Inv-loop μ-loop) → in-loop c .loop .j < start (in-loop c) .args .count
+left c = omega arith
+
+place-inside : (c : tie.After-node-number Inv-loop μ-loop) → node-start c .args .to + in-loop (c .before) .loop .j < length (in-loop (c .before) .loop .out)
+place-inside c = omega (arith, left (c .before), node-start c .pre .1, in-loop (c .before) .loop .inv .1)
+
 loop-holds : tie.Need-loop-holds Inv-loop μ-loop
-loop-holds c =
-    let a = c .before .before .before .args in
-    (omega arith, refl, sym (put-none (a .out .now) (a .to)))
+loop-holds c = let a = c .before .before .before .args in (omega arith, refl, sym (put-none (a .out .now) (a .to)))
 
 add-wide : tie.Need-add-wide Inv-loop μ-loop
-add-wide c = omega (arith, c .before .before .before .before .before .pre .0 .inside)
+add-wide c = let h = name-inside c in search needs
 
 mul-wide : tie.Need-mul-wide Inv-loop μ-loop
-mul-wide c =
-    let h : (c .before .before .before .before .before .args .at) + c .before .loop .j < length (c .before .before .before .before .before .args .sheet .now) = omega (arith, c .before .before .before .before .before .pre .0 .inside) in
-    search needs
+mul-wide c = let h = name-inside c in search needs
 
 shared-slice-read-wide : tie.Need-shared-slice-read-wide Inv-loop μ-loop
-shared-slice-read-wide c = omega (arith, c .before .before .before .before .before .before .pre .0 .inside)
+shared-slice-read-wide c = name-inside (c .before)
 
 wide-requires : tie.Need-wide-requires Inv-loop μ-loop
 wide-requires c κs = search needs
 
 node-number-requires : tie.Need-node-number-requires Inv-loop μ-loop
-node-number-requires c κs =
-    let a = c .before .before .before .before .before .before .before .args in
-    let p = c .before .before .before .before .before .before .before .pre in
-    let loop = c .before .before .before .loop in
-    let n = p .0 .named (loop .j) (omega arith) in
-    let w = c .wide .ensures in
-    (omega arith, subst (λ (x : ℕ). 0 < getD (a .scratch .now) x 0 % 65536) (sym w) (omega (arith, plain-mark (a .sheet .now) (a .at) (a .count) (a .scratch .now) (p .0) (loop .j) (omega arith))))
+node-number-requires c κs = number-asks (start (in-loop c) .pre .0) (left c) (c .wide .ensures)
 
 cast-out : tie.Need-cast-out Inv-loop μ-loop
 cast-out c =
-    let h : c .node-number .result < 4294967296 = omega (arith, (c .node-number .ensures ∙ ap (λ (x : ℕ). pred (getD (c .before .before .before .before .before .before .before .before .args .scratch .now) x 0 % 65536)) (c .before .wide .ensures) ∙ ap pred (plain-mark (c .before .before .before .before .before .before .before .before .args .sheet .now) (c .before .before .before .before .before .before .before .before .args .at) (c .before .before .before .before .before .before .before .before .args .count) (c .before .before .before .before .before .before .before .before .args .scratch .now) (c .before .before .before .before .before .before .before .before .pre .0) (c .before .before .before .before .loop .j) (omega arith))), node-small (c .before .before .before .before .before .before .before .before .args .sheet .now) (c .before .before .before .before .before .before .before .before .args .at) (c .before .before .before .before .before .before .before .before .args .count) (c .before .before .before .before .before .before .before .before .args .scratch .now) (c .before .before .before .before .before .before .before .before .pre .0) (c .before .before .before .before .loop .j) (omega arith)) in
+    let k = c .before in
+    let h : c .node-number .result < 4294967296 = number-small (node-start c .pre .0) (left k) (k .wide .ensures) (c .node-number .ensures) in
     search needs
 
 add-out : tie.Need-add-out Inv-loop μ-loop
-add-out c = omega (arith, c .before .before .before .before .before .before .before .before .pre .1)
+add-out c = let h = place-inside c in search needs
 
 mul-out : tie.Need-mul-out Inv-loop μ-loop
-mul-out c =
-    let h : (c .before .before .before .before .before .before .before .before .args .to) + c .before .before .before .before .loop .j < length (c .before .before .before .before .loop .out) = omega (arith, c .before .before .before .before .before .before .before .before .pre .1) in
-    search needs
+mul-out c = let h = place-inside c in search needs
 
 slice-write-out : tie.Need-slice-write-out Inv-loop μ-loop
-slice-write-out c = omega (arith, c .before .before .before .before .before .before .before .before .pre .1)
+slice-write-out c = place-inside c
 
 add-j : tie.Need-add-j Inv-loop μ-loop
 add-j c = search needs
@@ -72,19 +78,25 @@ loop-less c = search needs
 
 loop-again : tie.Need-loop-again Inv-loop μ-loop
 loop-again c =
-    let a = c .before .before .before .before .before .before .before .before .args in
-    let p = c .before .before .before .before .before .before .before .before .pre in
-    let loop = c .before .before .before .before .loop in
-    (omega arith, length-set (loop .out) _ _ ∙ loop .inv .1, naming-more (a .sheet .now) (a .at) (a .count) (a .scratch .now) (p .0) (loop .j) (omega arith) (a .out .now) (loop .out) (a .to) _ (p .1) (loop .inv .2) (c .node-number .ensures ∙ ap (λ (x : ℕ). pred (getD (a .scratch .now) x 0 % 65536)) (c .before .wide .ensures) ∙ ap pred (plain-mark (a .sheet .now) (a .at) (a .count) (a .scratch .now) (p .0) (loop .j) (omega arith))))
+    let k = c .before in
+    let loop = in-loop k .loop in
+    let p = node-start c .pre in
+    let a = node-start c .args in
+    (
+      omega arith,
+      length-set (loop .out) _ _ ∙ loop .inv .1,
+      naming-more (p .0) (left k) (a .out .now) (a .to) (p .1) (loop .inv .2) (number-is (p .0) (left k) (k .wide .ensures) (c .node-number .ensures)),
+    )
 
 same-length : tie.Need-same-length Inv-loop μ-loop
 same-length c = c .before .loop .inv .1
 
 returns : tie.Need-returns Inv-loop μ-loop
 returns c =
-    let a = c .before .before .before .before .before .args in
+    let a = start (c .before) .args in
     let loop = c .before .loop in
-    loop .inv .2 ∙ ap (λ (k : ℕ). put (a .out .now) (a .to) (nodeNumbers (marksOf (a .scratch .now)) (part (a .at) k (a .sheet .now)))) (j-is (loop .j) (a .count) (omega arith) (omega arith))
+    let all : loop .j ≡ a .count = omega arith in
+    loop .inv .2 ∙ ap (λ (k : ℕ). put (a .out .now) (a .to) (nodeNumbers (marksOf (a .scratch .now)) (part (a .at) k (a .sheet .now)))) all
 
 pub write-names-spec : {M : Type 1} → statement M
 write-names-spec =
