@@ -73,7 +73,7 @@ signed-length : (b : Bool) (ms : List Monomial) → length (signed b ms) ≡ len
 signed-length true ms = length-map ms (negMonomial prime)
 signed-length false ms = refl
 
-module _ (pool : List ℕ) (la n ra m : ℕ) (b : Bool) (fl : ListFits pool la n) (fr : ListFits pool ra m) where
+module _ {pool : List ℕ} {la n ra m : ℕ} (b : Bool) (fl : ListFits pool la n) (fr : ListFits pool ra m) where
   abbrev L : List Monomial
   L = listIn pool la n
 
@@ -171,7 +171,7 @@ products-long (x ∷ xs) (y ∷ ys) k q h =
     longest-longer 14 (products prime (x ∷ xs) (y ∷ ys))
     ∙ lt-ltb 14 (longestOf (products prime (x ∷ xs) (y ∷ ys))) (omega (arith, products-longest x xs y ys))
 
-module _ (pool : List ℕ) (la n ra m : ℕ) (fl : ListFits pool la n) (fr : ListFits pool ra m) where
+module _ {pool : List ℕ} {la n ra m : ℕ} (fl : ListFits pool la n) (fr : ListFits pool ra m) where
   abbrev X : List Monomial
   X = listIn pool la n
 

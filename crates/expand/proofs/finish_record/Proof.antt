@@ -1,10 +1,21 @@
+-- The list is made, or the record is refused; a list that was made is stored, where there is room.
 use borrow.Author.Needs.{needs}
 use Rattle.expand.proofs.Finishes.{finish-refused, finish-storing, finish-stored}
 use Rattle.expand.proofs.finish_record.Statement.{statement}
 use Rattle.expand.proofs.finish_record.Tie as tie
 
+-- The places: the list is made, or not; it is held, and stored.
+abbrev start : tie.After-make-list → tie.Start
+start c = c .before .before .before .before .before .before
+
+abbrev not-made : tie.After-enum-told → tie.After-make-list
+not-made c = c .before .before .before .before
+
+abbrev made : tie.After-known-told → tie.After-make-list
+made c = c .before .before .before .before .before
+
 make-list-requires : tie.Need-make-list-requires
-make-list-requires c κs = (c .before .before .before .before .before .args .used, c .before .before .before .before .before .pre)
+make-list-requires c κs = let s = c .before .before .before .before .before in (s .args .used, s .pre)
 
 enum-known-made : tie.Need-enum-known-made
 enum-known-made c = search needs
@@ -22,14 +33,16 @@ same-length-2 : tie.Need-same-length-2
 same-length-2 c = search needs
 
 returns : tie.Need-returns
-returns c =
-    let v = c .before .before .before .before .before .make-list in
-    λ done o new there h. finish-refused h (c .before .before .before .before .before .before .before .before .before .before .before .args .r) (v .last .1 .0) (v .result) (v .ensures) (c .before .enum-told .given .1) (c .refused .ensures)
+returns c = λ done o new there h.
+    let k = c .before in
+    let v = not-made k .make-list in
+    finish-refused h (start (not-made k) .args .r) (v .last .1 .0) (v .result) (v .ensures) (k .enum-told .given .1) (c .refused .ensures)
 
 store-list-requires : tie.Need-store-list-requires
 store-list-requires c κs =
-    let v = c .before .before .before .before .before .before .before in
-    finish-storing (v .before .before .before .before .before .before .pre) (v .make-list .last .1 .0) (v .make-list .result) (v .make-list .ensures) (c .before .before .before .made .given .1) (v .make-list .kept .1 .0)
+    let k = c .before .before in
+    let v = made k .make-list in
+    finish-storing (start (made k) .pre) (v .last .1 .0) (v .result) (v .ensures) (k .before .made .given .1) (v .kept .1 .0)
 
 same-length-3 : tie.Need-same-length-3
 same-length-3 c = search needs
@@ -38,10 +51,12 @@ same-length-4 : tie.Need-same-length-4
 same-length-4 c = search needs
 
 returns-2 : tie.Need-returns-2
-returns-2 c =
-    let v = c .before .before .before .before .before .before .before .before .before .before in
-    let w = c .before .before .store-list in
-    λ done o new there h. finish-stored (v .before .before .before .before .before .before .pre) (v .make-list .last .1 .0) (v .make-list .result) (v .make-list .ensures) (c .before .before .before .before .before .before .made .given .1)
+returns-2 c = λ done o new there h.
+    let z = c .before .before in
+    let w = z .store-list in
+    let k = z .before .before .before in
+    let v = made k .make-list in
+    finish-stored (start (made k) .pre) (v .last .1 .0) (v .result) (v .ensures) (k .before .made .given .1)
     (w .last .1 .1 .0) (w .kept .1 .1 .0) (w .result) (w .ensures) done o new h
 
 pub finish-record-spec : {M : Type 1} → statement M

@@ -1,21 +1,35 @@
-use Rattle.expand.proofs.Working.{product-many, longest-small, product-long, product-made}
+-- Every monomial of the one list times every one of the other is summed into the work, where they are few and short enough.
+use Prim.Native.Nat.{_*_, _≤_}
 use native.Mathlib.Nat.{mul-le-mul}
-use borrow.Author.Needs.{needs}
 use native.Mathlib.Omega.{arith}
+use borrow.Author.Needs.{needs}
+use Rattle.expand.proofs.Working.{product-many, longest-small, product-long, product-made}
 use Rattle.expand.proofs.kinds.expand_product.Statement.{statement}
 use Rattle.expand.proofs.kinds.expand_product.Tie as tie
 
+-- The places: there are few enough; the longest of each list is known; they are multiplied.
+abbrev start : tie.Else1 → tie.Start
+start c = c .before .before .before .before .before
+
+abbrev few-enough : tie.After-longest2 → tie.Else1
+few-enough c = c .before .before
+
+abbrev multiplied : tie.After-slice-known2 → tie.After-multiply-lists
+multiplied c = c .before .before
+
+abbrev measured : tie.After-multiply-lists-arg → tie.After-longest2
+measured c = c .before .before
+
+few : (c : tie.Else1) → start c .args .l .count * start c .args .r .count ≤ 256
+few c = omega (arith, c .if1 .left)
+
 mul-if1 : tie.Need-mul-if1
-mul-if1 c =
-    let p = c .before .before .before .before .pre in
-    omega (arith, mul-le-mul (p .1 .0) (p .2))
+mul-if1 c = let p = c .before .before .before .before .pre in omega (arith, mul-le-mul (p .1 .0) (p .2))
 
 returns : tie.Need-returns
 returns c =
     let s = c .before .before .before .before .before in
-    let a = s .args in
-    let p = s .pre in
-    product-many (a .pool .now) (a .l .at) (a .l .count) (a .r .at) (a .r .count) (p .1 .1) (p .3) (a .work .now) (c .if1 .taken)
+    product-many (s .pre .1 .1) (s .pre .3) (s .args .work .now) (c .if1 .taken)
 
 longest-requires : tie.Need-longest-requires
 longest-requires c κs = search needs
@@ -25,33 +39,35 @@ longest-requires-2 c κs = search needs
 
 add-if2 : tie.Need-add-if2
 add-if2 c =
-    let s = c .before .before .before .before .before .before .before in
-    let a = s .args in
-    let p = s .pre in
-    omega (arith, c .before .longest .ensures, c .longest2 .ensures, longest-small (a .pool .now) (a .l .at) (a .l .count) (a .r .at) (a .r .count) (p .1 .1) (p .3))
+    let p = start (few-enough c) .pre in
+    omega (arith, c .before .longest .ensures, c .longest2 .ensures, longest-small (p .1 .1) (p .3))
 
 returns-2 : tie.Need-returns-2
 returns-2 c =
-    let s = c .before .before .before .before .before .before .before .before in
-    let a = s .args in
-    let p = s .pre in
-    product-long (a .pool .now) (a .l .at) (a .l .count) (a .r .at) (a .r .count) (p .1 .1) (p .3) (a .work .now) (c .before .before .longest .result) (c .before .longest2 .result) (omega (arith, c .before .before .before .if1 .left)) (c .before .before .longest .ensures) (c .before .longest2 .ensures) (c .if2 .taken)
+    let m = c .before in
+    let k = few-enough m in
+    let s = start k in
+    product-long (s .pre .1 .1) (s .pre .3) (s .args .work .now) _ _ (few k) (m .before .longest .ensures) (m .longest2 .ensures) (c .if2 .taken)
 
 multiply-lists-requires : tie.Need-multiply-lists-requires
 multiply-lists-requires c κs =
-    let p = c .before .before .before .before .before .before .before .before .before .pre in
-    (omega (arith, c .before .before .before .before .if1 .left), p .0, p .1 .1, p .3, omega (arith, c .before .if2 .left, c .before .before .before .longest .ensures, c .before .before .longest2 .ensures))
+    let m = measured c in
+    let k = few-enough m in
+    let p = start k .pre in
+    (few k, p .0, p .1 .1, p .3, omega (arith, c .before .if2 .left, m .before .longest .ensures, m .longest2 .ensures))
 
 same-length : tie.Need-same-length
 same-length c = search needs
 
 returns-3 : tie.Need-returns-3
 returns-3 c =
-    let s = c .before .before .before .before .before .before .before .before .before .before .before .before in
-    let a = s .args in
-    let p = s .pre in
-    let v = c .before .before .multiply-lists in
-    product-made (a .pool .now) (a .l .at) (a .l .count) (a .r .at) (a .r .count) (p .1 .1) (p .3) (v .last .0) (v .result) (c .before .before .before .before .before .before .longest .result) (c .before .before .before .before .before .longest2 .result) (omega (arith, c .before .before .before .before .before .before .before .if1 .left)) (c .before .before .before .before .before .before .longest .ensures) (c .before .before .before .before .before .longest2 .ensures) (omega (arith, c .before .before .before .before .if2 .left)) (v .ensures .1) (v .ensures .0)
+    let v = multiplied c .multiply-lists in
+    let g = multiplied c .before in
+    let m = measured g in
+    let k = few-enough m in
+    let p = start k .pre in
+    product-made (p .1 .1) (p .3) (v .last .0) (v .result) _ _ (few k) (m .before .longest .ensures) (m .longest2 .ensures)
+    (omega (arith, g .before .if2 .left)) (v .ensures .1) (v .ensures .0)
 
 pub expand-product-spec : {M : Type 1} → statement M
 expand-product-spec =
