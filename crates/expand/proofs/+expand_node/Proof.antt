@@ -80,8 +80,11 @@ module _ (t : ℕ) where
   abbrev RightTaken : Type 0
   RightTaken = lts.After-known-told2 (claims t) (At t) expand-node.Post
 
+  abbrev entry : lts.After-slice-known3 (claims t) (At t) expand-node.Post → lts.Start (claims t) (At t) expand-node.Post
+  entry c = c .before .before .before .before
+
   abbrev start : IsNew → lts.Start (claims t) (At t) expand-node.Post
-  start c = c .before .before .before .before .before
+  start c = entry (c .before)
 
   abbrev leaf-new : IsLeaf → IsNew
   leaf-new c = c .before .before
@@ -191,7 +194,7 @@ module _ (t : ℕ) where
   slice-read-if1 c = search needs
 
   returns : lts.Need-returns (claims t) (At t) expand-node.Post
-  returns c = visits-seen (c .before .before .before .before .before .pre .1) (c .if1 .taken)
+  returns c = visits-seen (entry (c .before) .pre .1) (c .if1 .taken)
 
   kind-at-requires : lts.Need-kind-at-requires (claims t) (At t) expand-node.Post
   kind-at-requires c κs = inside-words c

@@ -16,8 +16,11 @@ abbrev μ-loop : tie.MeasureT-loop
 μ-loop sheet at count work₀ pool₀ used taken₀ from₀ i₀ work pool taken from i = count - i
 
 -- The places: the loop, an interaction that is read, what it names expanded, refused or not.
+abbrev entry : tie.After-slice-known2 Inv-loop μ-loop → tie.Start Inv-loop μ-loop
+entry c = c .before .before .before
+
 abbrev start : tie.At-loop Inv-loop μ-loop → tie.Start Inv-loop μ-loop
-start c = c .before .before .before .before
+start c = entry (c .before)
 
 abbrev in-loop : tie.After-interaction-at Inv-loop μ-loop → tie.At-loop Inv-loop μ-loop
 in-loop c = c .before .before
@@ -32,7 +35,7 @@ abbrev expanded : tie.After-known-told Inv-loop μ-loop → tie.After-expand-nam
 expanded c = c .before .before .before .before .before .before .before
 
 loop-holds : tie.Need-loop-holds Inv-loop μ-loop
-loop-holds c = let p = c .before .before .before .pre in passing-none (p .0) (p .1)
+loop-holds c = passing-none (entry c .pre .0) (entry c .pre .1)
 
 interaction-at-requires : tie.Need-interaction-at-requires Inv-loop μ-loop
 interaction-at-requires c κs = let l = c .before in next-inside (start l .pre .0) (l .loop .inv) (c .loop-test .taken) .inside

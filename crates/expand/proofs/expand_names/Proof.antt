@@ -16,8 +16,11 @@ abbrev μ-loop : tie.MeasureT-loop
 μ-loop sheet at count work₀ pool₀ used taken₀ j₀ work pool taken j = count - j
 
 -- The places: the loop, a record's name, the record expanded, refused or not.
+abbrev entry : tie.After-slice-known2 Inv-loop μ-loop → tie.Start Inv-loop μ-loop
+entry c = c .before .before .before
+
 abbrev start : tie.At-loop Inv-loop μ-loop → tie.Start Inv-loop μ-loop
-start c = c .before .before .before .before
+start c = entry (c .before)
 
 abbrev in-loop : tie.After-wide Inv-loop μ-loop → tie.At-loop Inv-loop μ-loop
 in-loop c = c .before .before .before
@@ -38,7 +41,7 @@ left : (c : tie.After-wide Inv-loop μ-loop) → in-loop c .loop .j < start (in-
 left c = omega arith
 
 loop-holds : tie.Need-loop-holds Inv-loop μ-loop
-loop-holds c = let p = c .before .before .before .pre in naming-none (p .0) (p .1)
+loop-holds c = naming-none (entry c .pre .0) (entry c .pre .1)
 
 add-wide : tie.Need-add-wide Inv-loop μ-loop
 add-wide c = let h = name-inside c in search needs

@@ -5,8 +5,11 @@ use Rattle.expand.proofs.finish_record.Statement.{statement}
 use Rattle.expand.proofs.finish_record.Tie as tie
 
 -- The places: the list is made, or not; it is held, and stored.
+abbrev entry : tie.After-make-list-arg2 → tie.Start
+entry c = c .before .before .before .before .before
+
 abbrev start : tie.After-make-list → tie.Start
-start c = c .before .before .before .before .before .before
+start c = entry (c .before)
 
 abbrev not-made : tie.After-enum-told → tie.After-make-list
 not-made c = c .before .before .before .before
@@ -15,7 +18,7 @@ abbrev made : tie.After-known-told → tie.After-make-list
 made c = c .before .before .before .before .before
 
 make-list-requires : tie.Need-make-list-requires
-make-list-requires c κs = let s = c .before .before .before .before .before in (s .args .used, s .pre)
+make-list-requires c κs = (entry c .args .used, entry c .pre)
 
 enum-known-made : tie.Need-enum-known-made
 enum-known-made c = search needs
@@ -54,7 +57,8 @@ returns-2 : tie.Need-returns-2
 returns-2 c = λ done o new there h.
     let z = c .before .before in
     let w = z .store-list in
-    let k = z .before .before .before in
+    let g = z .before in
+    let k = g .before .before in
     let v = made k .make-list in
     finish-stored (start (made k) .pre) (v .last .1 .0) (v .result) (v .ensures) (k .before .made .given .1)
     (w .last .1 .1 .0) (w .kept .1 .1 .0) (w .result) (w .ensures) done o new h

@@ -1,3 +1,4 @@
+-- The list of a record by its kind, from the record's words and its children's lists in the pool.
 use mathlib.Core.Path.{refl}
 use native.Mathlib.Omega.{arith}
 use borrow.Author.Needs.{needs}
@@ -7,12 +8,27 @@ use Rattle.expand.proofs.Finishes.{LeftList, BothLists, leaf-good, fini
 use Rattle.expand.proofs.make_list.Statement.{statement}
 use Rattle.expand.proofs.make_list.Tie as tie
 
--- The record as it was read, and its children's lists.
+-- The places: the record is read, its left child's list is, and its right child's; and what stands behind each answer.
 abbrev start : tie.After-record-at → tie.Start
 start c = c .before .before .before .before
 
 abbrev read : tie.After-list-of → tie.After-record-at
 read c = c .before .before .before .before
+
+abbrev has-left : tie.After-list-of2 → tie.After-list-of
+has-left c = c .before .before .before .before
+
+abbrev leaf-read : tie.After-expand-leaf-arg → tie.After-record-at
+leaf-read c = c .before .before .before
+
+abbrev neg-left : tie.After-expand-neg-arg → tie.After-list-of
+neg-left c = c .before .before .before
+
+abbrev product-lists : tie.After-expand-product-arg → tie.After-list-of2
+product-lists c = c .before .before .before
+
+abbrev sum-lists : tie.After-struct-known4 → tie.After-list-of2
+sum-lists c = c .before .before .before .before
 
 left : (c : tie.After-list-of) → let s = start (read c) in
     LeftList (s .args .sheet .now) (s .args .r) (s .args .work .now) (s .args .pool .now) (s .pre .0) (read c .record-at .result) (c .list-of .result)
@@ -24,9 +40,6 @@ left c = record {
   child-is = c .before .wide .ensures;
   reads = c .list-of .ensures;
 }
-
-abbrev has-left : tie.After-list-of2 → tie.After-list-of
-has-left c = c .before .before .before .before
 
 both : (c : tie.After-list-of2) → let q = read (has-left c) in
     let s = start q in
@@ -46,7 +59,7 @@ record-at-requires c κs =
 
 expand-leaf-requires : tie.Need-expand-leaf-requires
 expand-leaf-requires c κs =
-    let q = c .before .before .before in
+    let q = leaf-read c in
     let p = start q .pre .1 in
     (omega (arith, p .ready .walking .room), omega (arith, c .before .if1 .taken), (start q .args .r, leaf-good p (q .record-at .result) (q .record-at .ensures)))
 
@@ -55,21 +68,23 @@ same-length c = search needs
 
 returns : tie.Need-returns
 returns c =
-    let q = c .before .before .before .before .before .before in
-    let v = c .before .before .expand-leaf in
-    finishes-leaf (start q .pre .1) (q .record-at .result) (q .record-at .ensures) (c .before .before .before .before .if1 .taken) (v .last .0) (v .result) (v .ensures)
+    let k = c .before .before in
+    let v = k .expand-leaf in
+    let q = leaf-read (k .before) in
+    finishes-leaf (start q .pre .1) (q .record-at .result) (q .record-at .ensures) (k .before .before .if1 .taken) (v .last .0) (v .result) (v .ensures)
 
 wide-requires : tie.Need-wide-requires
 wide-requires c κs = search needs
 
 list-of-requires : tie.Need-list-of-requires
 list-of-requires c κs =
-    let q = c .before .before .before in
-    left-head (start q .pre .1) (q .record-at .result) (q .record-at .ensures) (omega (arith, c .before .if1 .left)) (c .wide .ensures)
+    let k = c .before in
+    let q = k .before .before in
+    left-head (start q .pre .1) (q .record-at .result) (q .record-at .ensures) (omega (arith, k .if1 .left)) (c .wide .ensures)
 
 expand-neg-requires : tie.Need-expand-neg-requires
 expand-neg-requires c κs =
-    let x = c .before .before .before in
+    let x = neg-left c in
     let f = left-fits (left x) in
     (start (read x) .pre .1 .ready .walking .room, f .0, f .1)
 
@@ -78,20 +93,23 @@ same-length-2 c = search needs
 
 returns-2 : tie.Need-returns-2
 returns-2 c =
-    let v = c .before .before .expand-neg in
-    finishes-neg (left (c .before .before .before .before .before .before)) (c .before .before .before .before .if2 .taken) (v .last .0) (v .result) (v .ensures)
+    let k = c .before .before in
+    let v = k .expand-neg in
+    finishes-neg (left (neg-left (k .before))) (k .before .before .if2 .taken) (v .last .0) (v .result) (v .ensures)
 
 wide-requires-2 : tie.Need-wide-requires-2
 wide-requires-2 c κs = search needs
 
 list-of-requires-2 : tie.Need-list-of-requires-2
 list-of-requires-2 c κs =
-    let q = read (c .before .before .before) in
-    right-head (start q .pre .1) (q .record-at .result) (q .record-at .ensures) (omega (arith, c .before .before .before .before .before .if1 .left)) (c .before .if2 .left) (c .wide2 .ensures)
+    let k = c .before in
+    let x = k .before .before in
+    let q = read x in
+    right-head (start q .pre .1) (q .record-at .result) (q .record-at .ensures) (left x .parent) (k .if2 .left) (c .wide2 .ensures)
 
 expand-product-requires : tie.Need-expand-product-requires
 expand-product-requires c κs =
-    let x = c .before .before .before in
+    let x = product-lists c in
     let f = both-fit (both x) in
     (start (read (has-left x)) .pre .1 .ready .walking .room, f .0, f .1, f .2)
 
@@ -100,12 +118,13 @@ same-length-3 c = search needs
 
 returns-3 : tie.Need-returns-3
 returns-3 c =
-    let v = c .before .before .expand-product in
-    finishes-mul (both (c .before .before .before .before .before .before)) (c .before .before .before .before .if3 .taken) (v .last .0) (v .result) (v .ensures)
+    let k = c .before .before in
+    let v = k .expand-product in
+    finishes-mul (both (product-lists (k .before))) (k .before .before .if3 .taken) (v .last .0) (v .result) (v .ensures)
 
 expand-sum-requires : tie.Need-expand-sum-requires
 expand-sum-requires c κs =
-    let x = c .before .before .before .before in
+    let x = sum-lists c in
     let f = both-fit (both x) in
     (start (read (has-left x)) .pre .1 .ready .walking .room, f .0, f .1, f .2)
 
@@ -114,9 +133,11 @@ same-length-4 c = search needs
 
 returns-4 : tie.Need-returns-4
 returns-4 c =
-    let x = c .before .before .before .before .before .before .before in
-    let v = c .before .before .expand-sum in
-    finishes-sum (both x) (c .before .before .before .before .before .if3 .left) (eqb (read (has-left x) .record-at .result .kind) 7) refl (v .last .0) (v .result) (v .ensures)
+    let k = c .before .before in
+    let v = k .expand-sum in
+    let x = sum-lists (k .before) in
+    let g = k .before in
+    finishes-sum (both x) (g .before .before .if3 .left) (eqb (read (has-left x) .record-at .result .kind) 7) refl (v .last .0) (v .result) (v .ensures)
 
 pub make-list-spec : {M : Type 1} → statement M
 make-list-spec =

@@ -1,3 +1,4 @@
+-- There is no room for the list, or it is written behind what is taken and its place goes into the record's two words.
 use Rattle.expand.proofs.Storing.{tail-written}
 use Rattle.monomial.specs.Words.{held, listWords}
 use Rattle.monomial.proofs.Rows.{held-length}
@@ -11,6 +12,13 @@ use mathlib.Core.Path.{sym}
 use borrow.Author.Needs.{needs}
 use Rattle.expand.proofs.store_list.Statement.{statement}
 use Rattle.expand.proofs.store_list.Tie as tie
+
+-- The places: there is room, and the list is written.
+abbrev start : tie.Else1 → tie.Start
+start c = c .before .before .before .before
+
+abbrev fits : tie.After-write-list-arg → tie.Else1
+fits c = c .before
 
 list-size-requires : tie.Need-list-size-requires
 list-size-requires c κs = search needs
@@ -71,9 +79,16 @@ same-length c = search needs
 
 returns-2 : tie.Need-returns-2
 returns-2 c =
-    let a = c .before .before .before .before .before .before .before .before .args in
+    let w = c .before .before in
+    let k = fits (w .before) in
+    let a = start k .args in
     let l : List semantics.Monomial = held (a .count) (a .work .now) in
-    (omega (arith, c .before .before .before .before .before .list-size .ensures), omega (arith, c .before .before .before .before .if1 .left), (λ i. set (set (tail-written (a .pool .now) (c .before .before .write-list .last .1 .1 .0) (listWords l) (a .used) (listSize l) (c .before .before .write-list .ensures) i) (2 * a .r) (a .used)) (2 * a .r + 1) (sym (held-length (a .count) (a .work .now)) i)))
+    let tail = tail-written (a .pool .now) (w .write-list .last .1 .1 .0) (listWords l) (a .used) (listSize l) (w .write-list .ensures) in
+    (
+      omega (arith, k .before .list-size .ensures),
+      omega (arith, k .if1 .left),
+      λ i. set (set (tail i) (2 * a .r) (a .used)) (2 * a .r + 1) (sym (held-length (a .count) (a .work .now)) i),
+    )
 
 pub store-list-spec : {M : Type 1} → statement M
 store-list-spec =

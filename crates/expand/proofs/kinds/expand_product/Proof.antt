@@ -8,8 +8,11 @@ use Rattle.expand.proofs.kinds.expand_product.Statement.{statement}
 use Rattle.expand.proofs.kinds.expand_product.Tie as tie
 
 -- The places: there are few enough; the longest of each list is known; they are multiplied.
+abbrev entry : tie.After-struct-known2 → tie.Start
+entry c = c .before .before .before .before
+
 abbrev start : tie.Else1 → tie.Start
-start c = c .before .before .before .before .before
+start c = entry (c .before)
 
 abbrev few-enough : tie.After-longest2 → tie.Else1
 few-enough c = c .before .before
@@ -24,11 +27,11 @@ few : (c : tie.Else1) → start c .args .l .count * start c .args .r .count ≤ 
 few c = omega (arith, c .if1 .left)
 
 mul-if1 : tie.Need-mul-if1
-mul-if1 c = let p = c .before .before .before .before .pre in omega (arith, mul-le-mul (p .1 .0) (p .2))
+mul-if1 c = let p = entry c .pre in omega (arith, mul-le-mul (p .1 .0) (p .2))
 
 returns : tie.Need-returns
 returns c =
-    let s = c .before .before .before .before .before in
+    let s = entry (c .before) in
     product-many (s .pre .1 .1) (s .pre .3) (s .args .work .now) (c .if1 .taken)
 
 longest-requires : tie.Need-longest-requires

@@ -8,8 +8,11 @@ use Rattle.expand.proofs.kinds.expand_sum.Statement.{statement}
 use Rattle.expand.proofs.kinds.expand_sum.Tie as tie
 
 -- The places: there are few enough; the first list is summed, and the second.
+abbrev entry : tie.After-struct-known2 → tie.Start
+entry c = c .before .before .before .before
+
 abbrev start : tie.Else1 → tie.Start
-start c = c .before .before .before .before .before
+start c = entry (c .before)
 
 abbrev first : tie.After-combine-list-arg2 → tie.After-combine-list
 first c = c .before .before .before
@@ -25,7 +28,7 @@ add-if1 c = search needs
 
 returns : tie.Need-returns
 returns c =
-    let s = c .before .before .before .before .before in
+    let s = entry (c .before) in
     sum-many (s .args .negated) (s .pre .1 .1) (s .pre .3) (s .args .work .now) (c .if1 .taken)
 
 combine-list-requires : tie.Need-combine-list-requires
