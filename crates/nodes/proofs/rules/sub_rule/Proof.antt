@@ -1,11 +1,38 @@
-use mathlib.Core.Path.{sym, ap, _∙_}
+-- Constants fold; subtracting 0 leaves the left side; a Neg on the right makes a sum; else a new node.
+use mathlib.Core.Path.{_≡_, sym, ap, _∙_}
+use mathlib.Core.Bool.{cond, _&&_}
 use Prim.Native.Nat.{ℕ}
+use lib.Dec.{eqb}
 use borrow.Author.Needs.{needs}
 use Rattle.semantics.specs.Sheet.{recordOf}
-use Rattle.semantics.specs.Graph.{make}
+use Rattle.semantics.specs.Graph.{Pick, make, isConst}
+use Rattle.nodes.specs.Picks.{viewOf}
 use Rattle.nodes.proofs.RuleLaws.{sub-is, neg-some, neg-none, chosen, passed}
 use Rattle.nodes.proofs.rules.sub_rule.Statement.{statement}
 use Rattle.nodes.proofs.rules.sub_rule.Tie as tie
+
+-- The tests in their order, each two steps behind the next; what is left behind one that fails.
+abbrev start : tie.Else1 → tie.Start
+start c = c .before .before
+
+past-constants : (c : tie.Else1) (x y : Pick) {z : Pick} → z ≡ y → z ≡ cond (eqb (start c .args .l .kind) 5 && eqb (start c .args .r .kind) 5) x y
+past-constants c x y = passed x y (c .before .both-constant .ensures) (c .if1 .left)
+
+abbrev first : tie.Else2 → tie.Else1
+first c = c .before .before
+
+past-right-zero : (c : tie.Else2) (x y : Pick) {z : Pick} → z ≡ y → z ≡ cond (isConst 0 (viewOf (start (first c) .args .r))) x y
+past-right-zero c x y = passed x y (c .before .is-const .ensures) (c .if2 .left)
+
+-- The right child is looked at last.
+abbrev tested : tie.After-get-neg-child → tie.Else2
+tested c = c .before
+
+abbrev no-neg : tie.After-enum-told → tie.After-get-neg-child
+no-neg c = c .before .before
+
+abbrev has-neg : tie.After-known-told → tie.After-get-neg-child
+has-neg c = c .before .before .before
 
 both-constant-requires : tie.Need-both-constant-requires
 both-constant-requires c κs = search needs
@@ -17,13 +44,17 @@ make-node-requires : tie.Need-make-node-requires
 make-node-requires c κs = search needs
 
 returns : tie.Need-returns
-returns c = c .make-node .ensures ∙ ap (λ (v : ℕ). make (recordOf 5 v 0 0 0)) (c .before .sub .ensures) ∙ chosen _ _ (c .before .before .before .both-constant .ensures) (c .before .before .if1 .taken) ∙ sym (sub-is _ _ _ _ _ _)
+returns c =
+    let k = c .before .before in
+    c .make-node .ensures ∙ ap (λ (v : ℕ). make (recordOf 5 v 0 0 0)) (c .before .sub .ensures)
+    ∙ chosen _ _ (k .before .both-constant .ensures) (k .if1 .taken) ∙ sym (sub-is _ _ _ _ _ _)
 
 is-const-requires : tie.Need-is-const-requires
 is-const-requires c κs = search needs
 
 returns-2 : tie.Need-returns-2
-returns-2 c = passed _ _ (c .before .before .before .both-constant .ensures) (c .before .before .if1 .left) (chosen _ _ (c .before .is-const .ensures) (c .if2 .taken)) ∙ sym (sub-is _ _ _ _ _ _)
+returns-2 c =
+    past-constants (c .before .before) _ _ (chosen _ _ (c .before .is-const .ensures) (c .if2 .taken)) ∙ sym (sub-is _ _ _ _ _ _)
 
 get-neg-child-requires : tie.Need-get-neg-child-requires
 get-neg-child-requires c κs = search needs
@@ -39,16 +70,28 @@ make-node-requires-2 c κs = search needs
 
 returns-3 : tie.Need-returns-3
 returns-3 c =
-    let a = c .before .before .before .before .before .before .before .before .args in
-    c .make-node2 .ensures ∙ passed _ _ (c .before .before .before .before .before .before .before .both-constant .ensures) (c .before .before .before .before .before .before .if1 .left) (passed _ _ (c .before .before .before .before .before .is-const .ensures) (c .before .before .before .before .if2 .left) (neg-none (λ (y : ℕ). make (recordOf 6 (a .l .number) y (a .g) 0)) (make (recordOf 7 (a .l .number) (a .r .number) (a .g) 0)) _ (c .before .before .before .get-neg-child .ensures) (c .before .enum-told .given .1))) ∙ sym (sub-is _ _ _ _ _ _)
+    let n = no-neg (c .before) in
+    let e₂ = tested n in
+    let a = start (first e₂) .args in
+    c .make-node2 .ensures
+    ∙ past-constants (first e₂) _ _ (past-right-zero e₂ _ _
+    (neg-none (λ (y : ℕ). make (recordOf 6 (a .l .number) y (a .g) 0)) (make (recordOf 7 (a .l .number) (a .r .number) (a .g) 0)) _
+    (n .get-neg-child .ensures) (c .before .enum-told .given .1)))
+    ∙ sym (sub-is _ _ _ _ _ _)
 
 make-node-requires-3 : tie.Need-make-node-requires-3
 make-node-requires-3 c κs = search needs
 
 returns-4 : tie.Need-returns-4
 returns-4 c =
-    let a = c .before .before .before .before .before .before .before .before .before .args in
-    c .make-node3 .ensures ∙ passed _ _ (c .before .before .before .before .before .before .before .before .both-constant .ensures) (c .before .before .before .before .before .before .before .if1 .left) (passed _ _ (c .before .before .before .before .before .before .is-const .ensures) (c .before .before .before .before .before .if2 .left) (neg-some (λ (y : ℕ). make (recordOf 6 (a .l .number) y (a .g) 0)) (make (recordOf 7 (a .l .number) (a .r .number) (a .g) 0)) _ (c .before .before .before .before .get-neg-child .ensures) (c .before .before .y .given .1))) ∙ sym (sub-is _ _ _ _ _ _)
+    let n = has-neg (c .before) in
+    let e₂ = tested n in
+    let a = start (first e₂) .args in
+    c .make-node3 .ensures
+    ∙ past-constants (first e₂) _ _ (past-right-zero e₂ _ _
+    (neg-some (λ (y : ℕ). make (recordOf 6 (a .l .number) y (a .g) 0)) (make (recordOf 7 (a .l .number) (a .r .number) (a .g) 0)) _
+    (n .get-neg-child .ensures) (c .before .before .y .given .1)))
+    ∙ sym (sub-is _ _ _ _ _ _)
 
 pub sub-rule-spec : {M : Type 1} → statement M
 sub-rule-spec =
