@@ -10,20 +10,20 @@ use Rattle.semantics.specs.Check.{readSheet, check}
 use Rattle.semantics.specs.Walk.{Mem, Below, order}
 use Rattle.semantics.specs.Monomial.{listAt}
 use Rattle.semantics.specs.Group.{Root, constraintRoots}
-use Rattle.semantics.specs.Lists.{All}
 use Rattle.semantics.proofs.Members.{mem-here, mem-there}
-use Rattle.semantics.proofs.Orders.{order-roots, order-below, order-distinct, distinct-length}
+use Rattle.semantics.proofs.Orders.{order-roots}
 use Rattle.semantics.proofs.GraphSheets.{named-below}
 use Rattle.semantics.proofs.Demands.{constraint-nodes}
 use Rattle.records.specs.Access.{recordsOf, part, constraintsAt, NamesInside}
 use Rattle.records.specs.Orders.{Visiting}
-use Rattle.records.proofs.Reading.{constraints-are, constraints-inside, counts-small}
+use Rattle.records.proofs.Reading.{constraints-are, constraints-inside}
 use Rattle.records.proofs.Steps.{inside, lows}
 use Rattle.expand.specs.declared.Expanded.{Expanded}
 use Rattle.expand.specs.Walking.{Holds, Expands, Walking}
 use Rattle.expand.proofs.Roots.{start-walking, all-expanded}
 use Rattle.constraint_lists.specs.Lists.{CheckedSheet}
-use Rattle.grouping.specs.Families.{Standing, Grouping}
+use Rattle.monomial.specs.Words.{Stored}
+use Rattle.grouping.specs.Families.{Grouping}
 
 -- Cleared words in front of a pool.
 module _ (ws : List ℕ) (records : ℕ) (are : records ≡ length (recordsOf ws)) (z rest : List ℕ) (n : ℕ) (e : z ≡ replicate n 0) (m : n ≡ 2 * records) where
@@ -69,17 +69,12 @@ all-nodes P (r ∷ rs) f = (
 -- The lists of all that was reached stand in the pool.
 module _ (ws : List ℕ) (checked : check prime ws ≡ good (readSheet ws)) (names : List ℕ) (below : Below (length (recordsOf ws)) names)
     (pool : List ℕ) (used : ℕ) (holds : Holds ws (order (recordsOf ws) names) pool used) where
-  pub standing : (i : ℕ) → Mem i names → Standing (listAt prime (recordsOf ws)) pool i
-  standing i m =
-      let k = holds .old i (order-roots (recordsOf ws) (lows ws checked) names below i m) in
-      let d = distinct-length (length (recordsOf ws)) (order (recordsOf ws) names) (order-distinct (recordsOf ws) (lows ws checked) names below)
-      (order-below (recordsOf ws) (lows ws checked) names below) in
-      record { stored = k .stored; low = omega (arith, k .before, holds .small, d, counts-small ws checked .0); few = k .few }
-
   pub grouping-of : (roots : List Root) → ((i : ℕ) → Mem i (map (λ (r : Root). r .node) roots) → Mem i names) → Grouping ws pool roots
   grouping-of roots f = record {
     checked = checked;
-    lists = all-nodes (Standing (listAt prime (recordsOf ws)) pool) roots (λ i m. standing i (f i m));
+    lists =
+        all-nodes (λ (i : ℕ). Stored pool i (listAt prime (recordsOf ws) i)) roots
+        (λ i m. holds .old i (order-roots (recordsOf ws) (lows ws checked) names below i (f i m)));
   }
 
 -- The constraints.

@@ -28,7 +28,7 @@ module _ (ws done pool : List ℕ) (used : ℕ) (h : Holds ws done pool used) (r
   fresh e = go (member r done) refl
     where
       go : (t : Bool) → member r done ≡ t → member r done ≡ false
-      go true m = absurd (omega (arith, h .old r m .behind))
+      go true m = absurd (omega (arith, h .behind r m))
       go false m = m
 
   pub expanded : (getD pool (2 * r) 0 ≡ 0 → ⊥) → member r done ≡ true

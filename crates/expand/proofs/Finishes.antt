@@ -23,9 +23,9 @@ use Rattle.records.specs.Access.{fiveWords, nodeIn, recordsOf}
 use Rattle.records.specs.Orders.{Order}
 use Rattle.records.proofs.Steps.{lows}
 use Rattle.records.proofs.Visits.{record-good, kind-limits, is, kind-is, a-is, b-is, has-a, has-b}
-use Rattle.monomial.specs.Words.{held, listIn, signed, ListFits}
+use Rattle.monomial.specs.Words.{held, listIn, signed, ListFits, Stored}
 use Rattle.expand.specs.Making.{Makes}
-use Rattle.expand.specs.Walking.{Kept, Holds, Expands, refusedBy, Storing, Stores, Finishing}
+use Rattle.expand.specs.Walking.{Holds, Expands, refusedBy, Storing, Stores, Finishing}
 use Rattle.expand.specs.declared.kinds.Made.{Made}
 use Rattle.expand.specs.declared.kinds.Made.the-variants.{Held, Fault}
 use Rattle.expand.specs.declared.kinds.PoolList.{PoolList}
@@ -103,19 +103,20 @@ module _ {ws : List ℕ} {r : ℕ} {work pool : List ℕ} {used : ℕ} (p : Fini
 
   -- A child's list.
   module _ (c : ℕ) (m : Mem c (childrenAt (recordsOf ws) r)) where
-    kept : Kept ws pool used c
+    kept : Stored pool c (lists c)
     kept = p .ready .walking .holds .old c (p .there c m)
 
     child-head : 2 * c + 1 < length pool
-    child-head = kept .stored .head
+    child-head = kept .head
 
     module _ (x : PoolList) (g : Reads pool c x) where
       both : ListFits pool (x .at) (x .count) × (listIn pool (x .at) (x .count) ≡ lists c)
       both =
-          rw (g .0, g .1) (list-fits-at pool (getD pool (2 * c) 0) (getD pool (2 * c + 1) 0) (lists c) (kept .stored .words-are) (kept .stored .count-is) (kept .stored .inside) (kept .stored .fit))
+          rw (g .0, g .1)
+          (list-fits-at pool (getD pool (2 * c) 0) (getD pool (2 * c + 1) 0) (lists c) (kept .words-are) (kept .count-is) (kept .inside) (kept .fit))
 
       child-fits : (x .count ≤ 256) × ListFits pool (x .at) (x .count)
-      child-fits = (omega (arith, g .1, kept .stored .count-is, kept .few), both .0)
+      child-fits = (omega (arith, g .1, kept .count-is, kept .few), both .0)
 
       child-list : listIn pool (x .at) (x .count) ≡ lists c
       child-list = both .1

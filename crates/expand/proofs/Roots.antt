@@ -129,6 +129,8 @@ module _ (ws pool : List ℕ) (room : 2 * length (recordsOf ws) ≤ length pool)
     small = omega arith;
     new = λ i l m. clear i l;
     old = λ i m. not-in i m;
+    behind = λ i m. not-in i m;
+    before = λ i m. not-in i m;
   }
 
   pub start-walking : check prime ws ≡ good (readSheet ws) → (work : List ℕ) → 4096 ≤ length work → Walking ws work pool (2 * length (recordsOf ws))

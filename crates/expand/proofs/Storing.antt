@@ -22,8 +22,8 @@ use Rattle.semantics.proofs.Orders.{distinct-length}
 use Rattle.records.specs.Access.{recordsOf}
 use Rattle.records.specs.Orders.{Order}
 use Rattle.records.proofs.Steps.{few-records}
-use Rattle.monomial.specs.Words.{held, listWords, Fits}
-use Rattle.expand.specs.Walking.{Kept, Holds, Expands, withList, Storing, Stores}
+use Rattle.monomial.specs.Words.{held, listWords, Fits, Stored}
+use Rattle.expand.specs.Walking.{Holds, Expands, withList, Storing, Stores}
 use Rattle.expand.specs.declared.Expanded.{Expanded}
 use Rattle.expand.specs.declared.Expanded.the-variants.{Used, Refused}
 use Rattle.monomial.proofs.ListLaws.{size-nil, size-cons, words-length}
@@ -129,51 +129,69 @@ module _ (ws done pool : List ℕ) (used : ℕ) (h : Holds ws done pool used) (o
   pub head-room : 2 * r + 2 ≤ used
   head-room = omega (arith, h .low)
 
-  module _ (fine : recordFault prime (recordsOf ws) r ≡ 0) (few : length L ≤ 256) (fit : All Fits L) (room : used + listSize L ≤ length pool) where
+  module _ (fine : recordFault prime (recordsOf ws) r ≡ 0) (few : length L ≤ 256) (fit : All Fits L) (room : used + listSize L ≤ length pool)
+      (low : used + listSize L ≤ 4294967295) where
     abbrev Q : List ℕ
     Q = withList pool r used L
 
     long : length Q ≡ length pool
     long = with-length pool r used L head-room room
 
-    kept-new : Kept ws Q (used + listSize L) r
-    kept-new =
-        let start = with-start pool r used L head-room room in
+    start-new : getD Q (2 * r) 0 ≡ used
+    start-new = with-start pool r used L head-room room
+
+    stored-new : Stored Q r L
+    stored-new =
+        let start = start-new in
         record {
-          stored = record {
-            head = omega (arith, long, h .low, h .high);
-            count-is = with-count pool r used L head-room room;
-            inside = omega (arith, start, long);
-            words-are = subst (λ (s : ℕ). take (listSize L) (drop s Q) ≡ listWords L) (sym start) (with-words pool r used L head-room room);
-            fit = fit;
-          };
-          behind = omega (arith, start, h .low);
-          before = omega (arith, start);
+          head = omega (arith, long, h .low, h .high);
+          count-is = with-count pool r used L head-room room;
+          inside = omega (arith, long);
+          low = omega arith;
           few = few;
+          words-are = subst (λ (s : ℕ). take (listSize L) (drop s Q) ≡ listWords L) (sym start) (with-words pool r used L head-room room);
+          fit = fit;
         }
 
-    kept-old : (i : ℕ) → member i done ≡ true → Kept ws Q (used + listSize L) i
-    kept-old i m =
-        let k = h .old i m in
-        let b : i < length (recordsOf ws) = o .below i m in
-        let n : i ≡ r → ⊥ = λ e. not-both (subst (λ (j : ℕ). member j done ≡ true) e m) new in
-        let start = with-word pool r used L head-room room (2 * i) (omega (arith, h .low)) (λ e. n (omega arith)) (λ e. omega arith) in
-        let count = with-word pool r used L head-room room (2 * i + 1) (omega (arith, h .low)) (λ e. omega arith) (λ e. n (omega arith)) in
-        let size : ℕ = listSize (listAt prime (recordsOf ws) i) in
-        record {
-          stored = record {
+    -- A record that was expanded before.
+    module _ (i : ℕ) (m : member i done ≡ true) where
+      below : i < length (recordsOf ws)
+      below = o .below i m
+
+      other : i ≡ r → ⊥
+      other e = not-both (subst (λ (j : ℕ). member j done ≡ true) e m) new
+
+      start-old : getD Q (2 * i) 0 ≡ getD pool (2 * i) 0
+      start-old =
+          let b = below in
+          with-word pool r used L head-room room (2 * i) (omega (arith, h .low)) (λ e. other (omega arith)) (λ e. omega arith)
+
+      stored-old : Stored Q i (listAt prime (recordsOf ws) i)
+      stored-old =
+          let k = h .old i m in
+          let b = below in
+          let start = start-old in
+          let count = with-word pool r used L head-room room (2 * i + 1) (omega (arith, h .low)) (λ e. omega arith) (λ e. other (omega arith)) in
+          let size : ℕ = listSize (listAt prime (recordsOf ws) i) in
+          record {
             head = omega (arith, long, h .low, h .high);
-            count-is = count ∙ k .stored .count-is;
-            inside = omega (arith, start, long, k .stored .inside);
+            count-is = count ∙ k .count-is;
+            inside = omega (arith, long, k .inside);
+            low = omega (arith, k .low);
+            few = k .few;
             words-are =
                 subst (λ (s : ℕ). take size (drop s Q) ≡ listWords (listAt prime (recordsOf ws) i)) (sym start)
-                (with-part pool r used L head-room room (getD pool (2 * i) 0) size (omega (arith, k .behind)) (k .before) ∙ k .stored .words-are);
-            fit = k .stored .fit;
-          };
-          behind = omega (arith, start, k .behind);
-          before = omega (arith, start, k .before);
-          few = k .few;
-        }
+                (with-part pool r used L head-room room (getD pool (2 * i) 0) size (omega (arith, h .behind i m)) (h .before i m) ∙ k .words-are);
+            fit = k .fit;
+          }
+
+    -- What holds for the record that is expanded now and for those before.
+    either : (P : ℕ → Type 0) → P r → ((i : ℕ) → member i done ≡ true → P i) → (i : ℕ) → member i (r ∷ done) ≡ true → P i
+    either P now old i m = go (mem-cases i r done m)
+      where
+        go : (i ≡ r) ⊎ (member i done ≡ true) → P i
+        go (inl e) = subst P (sym e) now
+        go (inr k) = old i k
 
     holds-more : Holds ws (r ∷ done) Q (used + listSize L)
     holds-more = record {
@@ -184,15 +202,20 @@ module _ (ws done pool : List ℕ) (used : ℕ) (h : Holds ws done pool used) (o
       new = λ i l m.
           let n = not-here i r done m in
           with-word pool r used L head-room room (2 * i) (omega (arith, h .low)) (λ e. n .0 (omega arith)) (λ e. omega arith) ∙ h .new i l (n .1);
-      old = λ i m. go i (mem-cases i r done m);
+      old = either (λ (i : ℕ). Stored Q i (listAt prime (recordsOf ws) i)) stored-new stored-old;
+      behind =
+          either (λ (i : ℕ). 2 * length (recordsOf ws) ≤ getD Q (2 * i) 0) (omega (arith, start-new, h .low))
+          (λ i m. omega (arith, start-old i m, h .behind i m));
+      before =
+          either (λ (i : ℕ). getD Q (2 * i) 0 + listSize (listAt prime (recordsOf ws) i) ≤ used + listSize L) (omega (arith, start-new))
+          (λ i m. omega (arith, start-old i m, h .before i m));
     }
-      where
-        go : (i : ℕ) → (i ≡ r) ⊎ (member i done ≡ true) → Kept ws Q (used + listSize L) i
-        go i (inl e) = subst (Kept ws Q (used + listSize L)) (sym e) kept-new
-        go i (inr m) = kept-old i m
 
   -- What storing asks, and what it comes to.
   module _ (checked : check prime ws ≡ good (readSheet ws)) (work : List ℕ) (n : ℕ) (is : held n work ≡ L) (few : n ≤ 256) (fit : All Fits L) where
+    used-small : used ≤ 16785408
+    used-small = omega (arith, h .small, few-records ws checked, distinct-length (length (recordsOf ws)) done (o .distinct) (o .below))
+
     pub storing : 4096 ≤ length work → Storing work n pool r used
     storing k = record {
       few = few;
@@ -200,7 +223,7 @@ module _ (ws done pool : List ℕ) (used : ℕ) (h : Holds ws done pool used) (o
       fit = subst (All Fits) (sym is) fit;
       head = head-room;
       high = h .high;
-      small = omega (arith, h .small, few-records ws checked, distinct-length (length (recordsOf ws)) done (o .distinct) (o .below));
+      small = omega (arith, used-small);
     }
 
     pub stored : recordFault prime (recordsOf ws) r ≡ 0 → (pool′ : List ℕ) → length pool′ ≡ length pool → (u : Expanded) → Stores pool pool′ r used (held n work) u
@@ -209,7 +232,7 @@ module _ (ws done pool : List ℕ) (used : ℕ) (h : Holds ws done pool used) (o
         let t : Stores pool pool′ r used L (Used u) = subst (λ (l : List Monomial). Stores pool pool′ r used l (Used u)) is s in
         let c : length L ≤ 256 = omega (arith, ap length is, held-length n work) in
         subst (λ (q : List ℕ). Holds ws (r ∷ done) q u) (sym (t .2))
-        (subst (Holds ws (r ∷ done) (withList pool r used L)) (sym (t .0)) (holds-more fine c fit (omega arith)))
+        (subst (Holds ws (r ∷ done) (withList pool r used L)) (sym (t .0)) (holds-more fine c fit (omega arith) (omega (arith, used-small, size-small L fit))))
     stored fine pool′ lp (Refused q) s =
         let t : Stores pool pool′ r used L (Refused q) = subst (λ (l : List Monomial). Stores pool pool′ r used l (Refused q)) is s in
         subst (λ (k : ℕ). expandAll prime (recordsOf ws) k (r ∷ done) ≡ refused (q .number) (q .place)) (sym lp)

@@ -18,22 +18,18 @@ use Rattle.expand.specs.declared.kinds.Made.the-variants.{Held, Fault}
 use Rattle.expand.specs.declared.Expanded.{Expanded}
 use Rattle.expand.specs.declared.Expanded.the-variants.{Used, Refused}
 
--- An expanded record: its list is stored behind the two words of each record, and before what is free.
-pub record Kept (ws pool : List ℕ) (used i : ℕ) : Type 0 where
-  pub stored : Stored pool i (listAt (primeOf ws) (recordsOf ws) i)
-  pub behind : 2 * length (recordsOf ws) ≤ getD pool (2 * i) 0
-  pub before : getD pool (2 * i) 0 + listSize (listAt (primeOf ws) (recordsOf ws) i) ≤ used
-  pub few : length (listAt (primeOf ws) (recordsOf ws) i) ≤ 256
-
 -- The walk accepted the records `done`, newest first, and `used` words of the pool are taken: a record that is not among them has
--- 0 for its start, and one that is has its list. A list takes at most sixteen words for each of 256 monomials.
+-- 0 for its start, and one that is has its list, behind the two words of each record and before what is free. A list takes at most sixteen
+-- words for each of 256 monomials.
 pub record Holds (ws done pool : List ℕ) (used : ℕ) : Type 0 where
   pub used-is : expandAll (primeOf ws) (recordsOf ws) (length pool) done ≡ good used
   pub low : 2 * length (recordsOf ws) ≤ used
   pub high : used ≤ length pool
   pub small : used ≤ 2 * length (recordsOf ws) + 4096 * length done
   pub new : (i : ℕ) → i < length (recordsOf ws) → member i done ≡ false → getD pool (2 * i) 0 ≡ 0
-  pub old : (i : ℕ) → member i done ≡ true → Kept ws pool used i
+  pub old : (i : ℕ) → member i done ≡ true → Stored pool i (listAt prime (recordsOf ws) i)
+  pub behind : (i : ℕ) → member i done ≡ true → 2 * length (recordsOf ws) ≤ getD pool (2 * i) 0
+  pub before : (i : ℕ) → member i done ≡ true → getD pool (2 * i) 0 + listSize (listAt prime (recordsOf ws) i) ≤ used
 
 -- What an answer says of the records that were to be expanded: the words taken, or the refusal.
 abbrev pub Expands : (ws pool : List ℕ) → Expanded → (done : List ℕ) → Type 0

@@ -126,11 +126,9 @@ list-standing (m ∷ ms) P at f w i b =
 
 pub stands : (P : List ℕ) (i : ℕ) → InPool P i → Standing (getD P (2 * i + 1) 0) P (getD P (2 * i) 0)
 stands P i s =
-    let r = s .stored in
-    subst (λ (m : ℕ). Standing m P (getD P (2 * i) 0)) (sym (r .count-is))
-    (list-standing (listOf P i) P (getD P (2 * i) 0) (r .fit) (r .words-are) (r .inside) (s .low))
+    subst (λ (m : ℕ). Standing m P (getD P (2 * i) 0)) (sym (s .count-is))
+    (list-standing (listOf P i) P (getD P (2 * i) 0) (s .fit) (s .words-are) (s .inside) (s .low))
 
-pub stored-in : (P : List ℕ) (i : ℕ) (l : List Monomial) → Stored P i l → getD P (2 * i) 0 + listSize l ≤ 4294967295 → InPool P i
-stored-in P i l r b =
-    let e = stored-list P i l r in
-    record { stored = subst (Stored P i) (sym e) r; low = subst (λ (x : List Monomial). getD P (2 * i) 0 + listSize x ≤ 4294967295) (sym e) b }
+-- The list that is read from the pool stands there, where any list does.
+pub stored-in : (P : List ℕ) (i : ℕ) (l : List Monomial) → Stored P i l → InPool P i
+stored-in P i l s = subst (Stored P i) (sym (stored-list P i l s)) s

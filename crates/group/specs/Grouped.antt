@@ -6,7 +6,6 @@ use Prim.Native.Nat.{ℕ, zero, suc, _+_, _*_, _-_, _≤_, _<_}
 use lib.Dec.{eqb}
 use lib.ListN.{length, getD, take, drop, set}
 use Rattle.semantics.specs.Monomial.{BeforeVars, Monomial, beforeVars}
-use Rattle.semantics.specs.Expand.{listSize}
 use Rattle.semantics.specs.Group.{Item, itemsOf, constraintTerm, interactionTerm, rows}
 use Rattle.semantics.specs.Call.{zeros, padded}
 use Rattle.semantics.specs.Lists.{AscendBy, All}
@@ -124,9 +123,8 @@ Standing (suc n) pool at =
 abbrev pub listOf : (pool : List ℕ) (i : ℕ) → List Monomial
 listOf pool i = listIn pool (getD pool (2 * i) 0) (getD pool (2 * i + 1) 0)
 
-pub record InPool (pool : List ℕ) (i : ℕ) : Type 0 where
-  pub stored : Stored pool i (listOf pool i)
-  pub low : getD pool (2 * i) 0 + listSize (listOf pool i) ≤ 4294967295
+abbrev pub InPool : (pool : List ℕ) (i : ℕ) → Type 0
+InPool pool i = Stored pool i (listOf pool i)
 
 -- One word of each row, and the sum of some words.
 unfoldable pub column : (word n : ℕ) (headers : List ℕ) → List ℕ
@@ -191,11 +189,6 @@ abbrev pub Places : (interaction : Bool) (n : ℕ) (pool headers terms headers�
 Places interaction n pool headers terms headers′ terms′ ts =
     (gs : List Tally) → (done : List Item) → Placing interaction gs n headers pool terms done → Room gs (done ++ ts)
     → Placing interaction gs n headers′ pool terms′ (done ++ ts)
-
--- A record whose list stands in the pool, with no more monomials than a walk allows.
-pub record Rooted (pool : List ℕ) (i : ℕ) : Type 0 where
-  pub inPool : InPool pool i
-  pub few : length (listOf pool i) ≤ 256
 
 -- The variables of the monomials that the lists of these records have, zero coefficients left out.
 unfoldable pub varsNamed : (pool names : List ℕ) → List (List ℕ)

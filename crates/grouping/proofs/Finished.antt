@@ -13,7 +13,7 @@ use Rattle.semantics.specs.Call.{zeros, padded}
 use Rattle.semantics.specs.Lists.{All}
 use Rattle.semantics.proofs.Calls.{zeros-add, zeros-long, padded-is}
 use Rattle.group.specs.Grouped.{Tally, tallyAll, Ascends, total, tallyRow, tallied, RowInside, Rows, column, sum, totalled, cursors, select, placed}
-use Rattle.group.specs.Grouped.{itemsAt, termOf, widthOf, Placing, varsIn, headersOf, Vacant, Rooted, varsNamed}
+use Rattle.group.specs.Grouped.{itemsAt, termOf, widthOf, Placing, varsIn, headersOf, Vacant, InPool, varsNamed}
 use Rattle.group.proofs.Tallies.{total-all, length-all}
 use Rattle.group.proofs.Places.{placed-none}
 use Rattle.group.proofs.Headers.{rows-length, tallied-length}
@@ -189,7 +189,7 @@ unfolding total
 total-nil = refl
 
 -- There are few monomials, and so few rows.
-pub family-small : (n : ℕ) (H P names : List ℕ) → tallied n H P ≡ tallyAll (varsNamed P names) [] → All (Rooted P) names → length names ≤ 65536
+pub family-small : (n : ℕ) (H P names : List ℕ) → tallied n H P ≡ tallyAll (varsNamed P names) [] → All (InPool P) names → length names ≤ 65536
     → (total (tallied n H P) ≤ 16777216) × (n ≤ 16777216)
 family-small n H P names g a h =
     let f = vars-length P names a in

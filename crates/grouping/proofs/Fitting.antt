@@ -17,12 +17,14 @@ use Rattle.semantics.specs.Group.{Root, Item, itemsOf, items, Group, groups, he
 use Rattle.semantics.specs.Call.{zeros, padded, firstShort}
 use Rattle.semantics.specs.Lists.{All}
 use Rattle.semantics.proofs.Basics.{cond-true, cond-false}
+use Rattle.semantics.proofs.Sorting.{all-imply, all-map}
 use Rattle.semantics.proofs.Grouping.{headers-length}
 use Rattle.semantics.proofs.HeaderSizes.{constraints-few, counts-few, fields-few}
 use Rattle.semantics.proofs.Calls.{padded-is}
 use Rattle.semantics.proofs.RecordLists.{lists-ascend}
 use Rattle.records.specs.Access.{recordsOf}
 use Rattle.records.proofs.Steps.{inside}
+use Rattle.monomial.specs.Words.{Stored}
 use Rattle.group.specs.declared.Tallied.{Tallied}
 use Rattle.group.specs.declared.Tallied.the-variants.{Headers, Full}
 use Rattle.grouping.specs.declared.families.Family.{Family}
@@ -30,8 +32,8 @@ use Rattle.grouping.specs.declared.families.Family.the-variants.{Constra
 use Rattle.grouping.specs.declared.Lengths.{Lengths}
 use Rattle.grouping.specs.declared.Grouped.{Grouped}
 use Rattle.grouping.specs.declared.Grouped.the-variants.{Written, Short}
-use Rattle.group.specs.Grouped.{Tally, tallyAll, total, tallied, Rows, Counted, select, countOf, placed, Room, column, sum, listOf, InPool, Rooted, varsNamed, termOf, widthOf, Placing, Places, varsIn, headersOf}
-use Rattle.grouping.specs.Families.{rootsOf, nodesOf, ToTally, ToPlaceRoots, Standing, Grouping, groupsOf, Measured, Front, Laid}
+use Rattle.group.specs.Grouped.{Tally, tallyAll, total, tallied, Rows, Counted, select, countOf, placed, Room, column, sum, listOf, InPool, varsNamed, termOf, widthOf, Placing, Places, varsIn, headersOf}
+use Rattle.grouping.specs.Families.{rootsOf, nodesOf, ToTally, ToPlaceRoots, Grouping, groupsOf, Measured, Front, Laid}
 use Rattle.group.proofs.Gathering.{gathered}
 use Rattle.group.proofs.Tallies.{counted, counted-gathered, gathered-whole, count-all}
 use Rattle.group.proofs.Labels.{Labels, constraint-labels, count-labels, field-labels, groups-gathered}
@@ -139,35 +141,25 @@ module _ {ws P : List ℕ} {roots : List Root} (f : Known ws P roots) where
   abbrev list : ℕ → List Monomial
   list = listAt prime (recordsOf ws)
 
-  rooted : All (Rooted P) (nodesOf roots)
+  named : All (InPool P) (nodesOf roots)
   unfolding nodesOf
-  rooted = go roots (f .grouping .lists)
-    where
-      go : (rs : List Root) → All (λ (r : Root). Standing list P (r .node)) rs → All (Rooted P) (map (λ (r : Root). r .node) rs)
-      go [] h = tt
-      go (r ∷ rs) h = (
-        record {
-          inPool = stored-in P (r .node) (list (r .node)) (h .0 .stored) (h .0 .low);
-          few = subst (λ (l : List Monomial). length l ≤ 256) (sym (stored-list P (r .node) (list (r .node)) (h .0 .stored))) (h .0 .few);
-        },
-        go rs (h .1),
-      )
+  named =
+      all-map (λ (r : Root). Stored P (r .node) (list (r .node))) (InPool P) (λ (r : Root). r .node) (λ r. stored-in P (r .node) (list (r .node))) roots
+      (f .grouping .lists)
 
   in-pool : All (λ (r : Root). InPool P (r .node)) roots
-  in-pool = go roots (f .grouping .lists)
-    where
-      go : (rs : List Root) → All (λ (r : Root). Standing list P (r .node)) rs → All (λ (r : Root). InPool P (r .node)) rs
-      go [] h = tt
-      go (r ∷ rs) h = (stored-in P (r .node) (list (r .node)) (h .0 .stored) (h .0 .low), go rs (h .1))
+  in-pool =
+      all-imply (λ (r : Root). Stored P (r .node) (list (r .node))) (λ (r : Root). InPool P (r .node)) (λ r. stored-in P (r .node) (list (r .node))) roots
+      (f .grouping .lists)
 
   -- The lists in the pool are the finished ones.
   agree : items list roots ≡ items (listOf P) roots
   unfolding items flatMap
   agree = go roots (f .grouping .lists)
     where
-      go : (rs : List Root) → All (λ (r : Root). Standing list P (r .node)) rs → items list rs ≡ items (listOf P) rs
+      go : (rs : List Root) → All (λ (r : Root). Stored P (r .node) (list (r .node))) rs → items list rs ≡ items (listOf P) rs
       go [] h = refl
-      go (r ∷ rs) h = λ i. itemsOf r (sym (stored-list P (r .node) (list (r .node)) (h .0 .stored)) i) ++ go rs (h .1) i
+      go (r ∷ rs) h = λ i. itemsOf r (sym (stored-list P (r .node) (list (r .node)) (h .0)) i) ++ go rs (h .1) i
 
   nodes-few : length (nodesOf roots) ≤ 65536
   unfolding nodesOf
@@ -199,7 +191,7 @@ module _ {ws P : List ℕ} {roots : List Root} (f : Known ws P roots) {H names :
       let t = ap total (r .1) ∙ total-nil in
       let l = ap length e in
       let k = nodes-few f in
-      record { rows-are = r .0; lists = subst (All (Rooted P)) (sym e) (rooted f); small = omega arith }
+      record { rows-are = r .0; lists = subst (All (InPool P)) (sym e) (named f); small = omega arith }
 
   pub fit-counted : (H′ : List ℕ) (u : Tallied) → Counted H′ P (tallyAll (varsNamed P names) (tallied 0 H P)) u
       → Counted H′ P (tallyAll (varsNamed P (nodesOf roots)) []) u
@@ -216,7 +208,7 @@ module _ {ws P : List ℕ} {roots : List Root} (f : Known ws P roots) (H : List 
   pub fit-rows : {n : ℕ} → u ≡ Headers n → Rowed ws P roots n H
   fit-rows {n} e =
       let d = subst (Counted H P (tallyAll (varsNamed P (nodesOf roots)) [])) e c in
-      let s = family-small n H P (nodesOf roots) (d .1) (rooted f) (nodes-few f) in
+      let s = family-small n H P (nodesOf roots) (d .1) (named f) (nodes-few f) in
       record { known = f; rows-are = d .0; tallies-are = d .1; total-small = s .0; rows-few = s .1 }
 
 -- A term has at most three words.

@@ -12,7 +12,7 @@ use Rattle.records.specs.Access.{recordsOf, part, eachWords, RootsInside, AllRo
 use Rattle.records.proofs.Takings.{Taken, taken-words, taken-names}
 use Rattle.group.specs.declared.Tallied.{Tallied}
 use Rattle.group.specs.declared.Tallied.the-variants.{Headers, Full}
-use Rattle.group.specs.Grouped.{tallyAll, total, tallied, Rows, Counted, nonZero, listOf, InPool, Rooted, varsNamed}
+use Rattle.group.specs.Grouped.{tallyAll, total, tallied, Rows, Counted, nonZero, listOf, InPool, varsNamed}
 use Rattle.grouping.specs.Families.{ToTally, interactionIn}
 use Rattle.group.proofs.Tallies.{tallyAll-append, tallyAll-grows, total-all}
 use Rattle.group.proofs.PoolLists.{nonZero-length}
@@ -94,7 +94,7 @@ module _ (P : List ℕ) where
   unfolding varsNamed flatMap
   vars-one i = append-nil (nonZero (listOf P i))
 
-  pub vars-length : (xs : List ℕ) → All (Rooted P) xs → length (varsNamed P xs) ≤ 256 * length xs
+  pub vars-length : (xs : List ℕ) → All (InPool P) xs → length (varsNamed P xs) ≤ 256 * length xs
   unfolding varsNamed flatMap
   vars-length [] h = omega arith
   vars-length (x ∷ xs) h =
@@ -119,14 +119,14 @@ module _ {H₀ : List ℕ} {n : ℕ} {P names H : List ℕ} {rows : ℕ} {left :
   names-done e = (g .ready .rows-are, sym (ap (λ (l : List ℕ). tallyAll (varsNamed P l) (tallied rows H P)) e) ∙ g .same)
 
   module _ (xs ys : List ℕ) (e : left ≡ xs ++ ys) where
-    lists-are : All (Rooted P) (xs ++ ys)
-    lists-are = subst (All (Rooted P)) e (g .ready .lists)
+    lists-are : All (InPool P) (xs ++ ys)
+    lists-are = subst (All (InPool P)) e (g .ready .lists)
 
     pub names-next : ToTally rows H P xs
     names-next =
         let s = g .ready .small in
         let l = ap length e ∙ length-append xs ys in
-        record { rows-are = g .ready .rows-are; lists = all-front (Rooted P) xs ys lists-are; small = omega arith }
+        record { rows-are = g .ready .rows-are; lists = all-front (InPool P) xs ys lists-are; small = omega arith }
 
     both : tallyAll (varsNamed P ys) (tallyAll (varsNamed P xs) (tallied rows H P)) ≡ tallyAll (varsNamed P names) (tallied n H₀ P)
     both =
@@ -142,9 +142,9 @@ module _ {H₀ : List ℕ} {n : ℕ} {P names H : List ℕ} {rows : ℕ} {left :
           let s = g .ready .small in
           let l = ap length e ∙ length-append xs ys in
           let t = ap total (d .1) ∙ total-all (varsNamed P xs) (tallied rows H P) in
-          let v = vars-length P xs (all-front (Rooted P) xs ys lists-are) in
+          let v = vars-length P xs (all-front (InPool P) xs ys lists-are) in
           record {
-            ready = record { rows-are = d .0; lists = all-back (Rooted P) xs ys lists-are; small = omega arith };
+            ready = record { rows-are = d .0; lists = all-back (InPool P) xs ys lists-are; small = omega arith };
             long = z ∙ g .long;
             same = ap (tallyAll (varsNamed P ys)) (d .1) ∙ both;
           }
@@ -181,7 +181,7 @@ module _ {ws : List ℕ} {at count : ℕ} {H₀ : List ℕ} {n : ℕ} {P H : Lis
         let t = names-next (g .left) (r ∷ []) rest next-is in
         let s = t .small in
         let f = t .lists .0 .few in
-        (t .rows-are, t .lists .0 .inPool, omega arith)
+        (t .rows-are, t .lists .0, omega arith)
 
     module _ (H′ : List ℕ) (u : Tallied) (c : Counted H′ P (tallyAll (nonZero (listOf P r)) (tallied rows H P)) u) where
       named : Counted H′ P (tallyAll (varsNamed P (r ∷ [])) (tallied rows H P)) u

@@ -8,8 +8,7 @@ use lib.ListN.{length, getD, take}
 use Rattle.semantics.specs.Answer.{good}
 use Rattle.semantics.specs.Sheet.{Sheet}
 use Rattle.semantics.specs.Check.{primeOf, readSheet, check}
-use Rattle.semantics.specs.Monomial.{Monomial, listAt}
-use Rattle.semantics.specs.Expand.{listSize}
+use Rattle.semantics.specs.Monomial.{listAt}
 use Rattle.semantics.specs.Group.{Root, labelled, constraintRoots, countRoots, fieldRoots, Item, items, Group, groups, headers, variables, terms, layout}
 use Rattle.semantics.specs.Call.{firstShort}
 use Rattle.semantics.specs.Lists.{All}
@@ -20,7 +19,7 @@ use Rattle.grouping.specs.declared.Grouped.{Grouped}
 use Rattle.grouping.specs.declared.Grouped.the-variants.{Written, Short}
 use Rattle.grouping.specs.declared.families.Family.{Family}
 use Rattle.grouping.specs.declared.families.Family.the-variants.{Constraints, Counts, Fields}
-use Rattle.group.specs.Grouped.{total, tallied, Rows, listOf, InPool, ToPlace, Rooted}
+use Rattle.group.specs.Grouped.{total, tallied, Rows, listOf, InPool, ToPlace}
 
 -- The roots of a family, and whether its terms are those of interactions.
 abbrev pub rootsOf : Family → Sheet → List Root
@@ -40,7 +39,7 @@ nodesOf rs = map (λ (r : Root). r .node) rs
 -- What counting the lists of these records asks.
 pub record ToTally (n : ℕ) (headers pool names : List ℕ) : Type 0 where
   pub rows-are : Rows n headers pool
-  pub lists : All (Rooted pool) names
+  pub lists : All (InPool pool) names
   pub small : total (tallied n headers pool) + 256 * length names ≤ 4294967295
 
 -- The root of constraint j, and of field j of interaction i.
@@ -71,16 +70,10 @@ pub record ToPlaceRoots (interaction : Bool) (n : ℕ) (headers pool terms : Lis
   pub to-place : ToPlace interaction n headers pool terms (items (listOf pool) roots)
   pub lists : All (λ (r : Root). InPool pool (r .node)) roots
 
--- A record's finished list stands in the pool, at places that a word can hold, and is inside the limit.
-pub record Standing (list : ℕ → List Monomial) (pool : List ℕ) (i : ℕ) : Type 0 where
-  pub stored : Stored pool i (list i)
-  pub low : getD pool (2 * i) 0 + listSize (list i) ≤ 4294967295
-  pub few : length (list i) ≤ 256
-
--- What grouping a family asks: a checked sheet, and the list of every root in the pool.
+-- What grouping a family asks: a checked sheet, and the finished list of every root in the pool.
 pub record Grouping (ws pool : List ℕ) (roots : List Root) : Type 0 where
   pub checked : check (primeOf ws) ws ≡ good (readSheet ws)
-  pub lists : All (λ (r : Root). Standing (listAt (primeOf ws) (recordsOf ws)) pool (r .node)) roots
+  pub lists : All (λ (r : Root). Stored pool (r .node) (listAt (primeOf ws) (recordsOf ws) (r .node))) roots
 
 -- The groups of a family of a sheet's roots.
 abbrev pub groupsOf : (ws : List ℕ) → List Root → List Group

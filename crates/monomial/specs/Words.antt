@@ -79,10 +79,13 @@ unfoldable pub insertAll : List semantics.Monomial → List semantics.Monomial �
 insertAll [] acc = acc
 insertAll (m ∷ ms) acc = insertAll ms (insertMonomial prime m acc)
 
--- A record's list in the pool: two words for each record, where its list starts and how many monomials it has.
+-- Record i's list stands in the pool: two words for each record say where its list starts and how many monomials it has. The list stands at
+-- places that a word can hold, and has no more monomials than a walk allows.
 pub record Stored (pool : List ℕ) (i : ℕ) (l : List semantics.Monomial) : Type 0 where
   pub head : 2 * i + 1 < length pool
   pub count-is : getD pool (2 * i + 1) 0 ≡ length l
   pub inside : getD pool (2 * i) 0 + listSize l ≤ length pool
+  pub low : getD pool (2 * i) 0 + listSize l ≤ 4294967295
+  pub few : length l ≤ 256
   pub words-are : take (listSize l) (drop (getD pool (2 * i) 0) pool) ≡ listWords l
   pub fit : All Fits l

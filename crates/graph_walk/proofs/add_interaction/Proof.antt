@@ -4,7 +4,7 @@ use mathlib.Core.List.{List}
 use Prim.Native.Nat.{ℕ, _<_}
 use lib.ListN.{length}
 use borrow.Author.Needs.{needs}
-use Rattle.semantics.proofs.Members.{Mem}
+use Rattle.semantics.specs.Walk.{Mem}
 use Rattle.records.specs.Access.{recordsOf, part, NamesInside}
 use Rattle.records.proofs.Rooting.{names-below}
 use Rattle.records.proofs.Interactions.{fields-named, count-named, roots-read}

@@ -43,7 +43,7 @@ tally-list-requires c κs =
     let P = a .pool .now in
     let x = c .before .before .before .wide .ensures in
     let y = c .before .wide2 .ensures in
-    let e = p .1 .stored .count-is in
+    let e = p .1 .count-is in
     (p .0, subst (λ (i : ℕ). Standing (c .before .wide2 .result) P i) (sym x) (subst (λ (i : ℕ). Standing i P (getD P (2 * a .node) 0)) (sym y) (stands P (a .node) (p .1))), omega (arith, p .2))
 
 same-length : tie.Need-same-length
