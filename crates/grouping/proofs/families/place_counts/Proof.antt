@@ -1,3 +1,4 @@
+-- Interaction by interaction. Kept: the terms of the interactions' counts so far are placed, and there is room for those of the rest.
 use mathlib.Core.Bool.{true}
 use Prim.Native.Nat.{_-_}
 use native.Mathlib.Omega.{arith}
@@ -9,24 +10,39 @@ use Rattle.grouping.proofs.families.place_counts.Statement.{statement}
 use Rattle.grouping.proofs.families.place_counts.Tie as tie
 
 abbrev Inv-loop : tie.InvT-loop
-Inv-loop sheet at count headers₀ n pool terms₀ from₀ i₀ headers terms from i = EachRoots (countRootAt sheet) true sheet at count n pool headers₀ terms₀ headers terms from i
+Inv-loop sheet at count headers₀ n pool terms₀ from₀ i₀ headers terms from i =
+    EachRoots (countRootAt sheet) true sheet at count n pool headers₀ terms₀ headers terms from i
 
 abbrev μ-loop : tie.MeasureT-loop
 μ-loop sheet at count headers₀ n pool terms₀ from₀ i₀ headers terms from i = count - i
 
+abbrev start : tie.After-slice-known2 Inv-loop μ-loop → tie.Start Inv-loop μ-loop
+start c = c .before .before .before .before
+
+-- An interaction is read, and its terms are placed.
+abbrev entry : tie.In-loop Inv-loop μ-loop → tie.Start Inv-loop μ-loop
+entry c = start (c .before .before)
+
+abbrev read : tie.After-place-names-arg2 Inv-loop μ-loop → tie.After-interaction-at Inv-loop μ-loop
+read c = c .before .before
+
+abbrev placed : tie.After-slice-known4 Inv-loop μ-loop → tie.After-place-names Inv-loop μ-loop
+placed c = c .before .before .before .before
+
 loop-holds : tie.Need-loop-holds Inv-loop μ-loop
-loop-holds c = each-roots-start (c .before .before .before .before .pre .0) (c .before .before .before .before .pre .2)
+loop-holds c = each-roots-start (start c .pre .0) (start c .pre .2)
 
 interaction-at-requires : tie.Need-interaction-at-requires Inv-loop μ-loop
 interaction-at-requires c κs = rest-next (c .before .loop .inv .rest) (c .loop-test .taken) .inside
 
 cast-place-names : tie.Need-cast-place-names Inv-loop μ-loop
-cast-place-names c = let h = c .before .before .before .before .before .before .before .pre .1 in search needs
+cast-place-names c = let few = entry (c .before) .pre .1 in search needs
 
 place-names-requires : tie.Need-place-names-requires Inv-loop μ-loop
 place-names-requires c κs =
-    let l = c .before .before .before in
-    let g = each-roots-ready (l .before .loop .inv) (l .loop-test .taken) (count-root-taken (l .before .before .before .before .before .before .args .sheet .now)) (c .before .before .interaction-at .ensures) in
+    let e = read c .interaction-at .ensures in
+    let t = read c .before in
+    let g = each-roots-ready (t .before .loop .inv) (t .loop-test .taken) (count-root-taken (entry t .args .sheet .now)) e in
     (g .0, omega arith, g .1)
 
 add-i : tie.Need-add-i Inv-loop μ-loop
@@ -37,10 +53,11 @@ loop-less c = search needs
 
 loop-again : tie.Need-loop-again Inv-loop μ-loop
 loop-again c =
-    let v = c .before .before .before .before in
-    let l = v .before .before .before .before in
-    each-roots-more (l .before .loop .inv) (l .loop-test .taken) (count-root-taken (l .before .before .before .before .before .before .args .sheet .now)) (v .before .before .before .interaction-at .ensures)
-    (v .place-names .kept .1 .1 .1 .1 .0) (v .place-names .kept .1 .1 .1 .1 .1 .1 .1 .0) (v .place-names .ensures)
+    let place = placed c .place-names in
+    let r = read (placed c .before) in
+    let t = r .before in
+    each-roots-more (t .before .loop .inv) (t .loop-test .taken) (count-root-taken (entry t .args .sheet .now)) (r .interaction-at .ensures)
+    (place .kept .1 .1 .1 .1 .0) (place .kept .1 .1 .1 .1 .1 .1 .1 .0) (place .ensures)
 
 same-length : tie.Need-same-length Inv-loop μ-loop
 same-length c = c .before .loop .inv .left .headers-long
