@@ -1,3 +1,4 @@
+-- Name by name. Kept: the monomials of the lists so far are counted, and those of the rest may be counted.
 use mathlib.Core.Path.{_∙_}
 use Prim.Native.Nat.{_-_}
 use native.Mathlib.Omega.{arith}
@@ -12,23 +13,42 @@ Inv-loop sheet at count headers₀ n pool rows₀ j₀ headers rows j = NamesAt 
 abbrev μ-loop : tie.MeasureT-loop
 μ-loop sheet at count headers₀ n pool rows₀ j₀ headers rows j = count - j
 
+abbrev start : tie.After-shared-slice-known2 Inv-loop μ-loop → tie.Start Inv-loop μ-loop
+start c = c .before .before .before
+
+-- A name is read, and its list is counted.
+abbrev entry : tie.In-loop Inv-loop μ-loop → tie.Start Inv-loop μ-loop
+entry c = start (c .before .before)
+
+abbrev turn : tie.After-wide Inv-loop μ-loop → tie.In-loop Inv-loop μ-loop
+turn c = c .before .before
+
+-- The counting found no room, or it went on.
+abbrev full : tie.After-enum-told Inv-loop μ-loop → tie.After-tally-root Inv-loop μ-loop
+full c = c .before .before .before .before
+
+abbrev more : tie.After-known-told Inv-loop μ-loop → tie.After-tally-root Inv-loop μ-loop
+more c = c .before .before .before .before .before
+
 loop-holds : tie.Need-loop-holds Inv-loop μ-loop
-loop-holds c = at-start (c .before .before .before .pre .1)
+loop-holds c = at-start (start c .pre .1)
 
 add-wide : tie.Need-add-wide Inv-loop μ-loop
-add-wide c = let h = c .before .before .before .before .before .pre .0 in search needs
+add-wide c = let inside = entry c .pre .0 in search needs
 
 mul-wide : tie.Need-mul-wide Inv-loop μ-loop
-mul-wide c = let h = c .before .before .before .before .before .pre .0 in search needs
+mul-wide c = let inside = entry c .pre .0 in search needs
 
 shared-slice-read-wide : tie.Need-shared-slice-read-wide Inv-loop μ-loop
-shared-slice-read-wide c = let h = c .before .before .before .before .before .before .pre .0 in omega arith
+shared-slice-read-wide c = let inside = entry (c .before) .pre .0 in omega arith
 
 wide-requires : tie.Need-wide-requires Inv-loop μ-loop
 wide-requires c κs = search needs
 
 tally-root-requires : tie.Need-tally-root-requires Inv-loop μ-loop
-tally-root-requires c κs = let l = c .before .before .before in at-ready (l .before .loop .inv) (l .loop-test .taken) (l .before .before .before .before .before .pre .0) (c .before .wide .ensures)
+tally-root-requires c κs =
+    let t = turn (c .before) in
+    at-ready (t .before .loop .inv) (t .loop-test .taken) (entry t .pre .0) (c .before .wide .ensures)
 
 enum-known-answer : tie.Need-enum-known-answer Inv-loop μ-loop
 enum-known-answer c = search needs
@@ -37,13 +57,15 @@ enum-told : tie.Need-enum-told Inv-loop μ-loop
 enum-told c = search needs
 
 same-length : tie.Need-same-length Inv-loop μ-loop
-same-length c = let v = c .before .before .before .before in v .tally-root .kept .0 ∙ v .before .before .before .before .before .loop .inv .left .long
+same-length c = full c .tally-root .kept .0 ∙ turn (full c .before .before) .before .loop .inv .left .long
 
 returns : tie.Need-returns Inv-loop μ-loop
 returns c =
-    let v = c .before .before .before .before in
-    let l = v .before .before .before .before in
-    at-full (l .before .loop .inv) (l .loop-test .taken) (l .before .before .before .before .before .pre .0) (v .before .before .wide .ensures) (v .tally-root .last .0) (v .tally-root .result) (v .tally-root .ensures) (c .enum-told .given .1)
+    let tally = full c .tally-root in
+    let r = full c .before .before in
+    let t = turn r in
+    at-full (t .before .loop .inv) (t .loop-test .taken) (entry t .pre .0) (r .wide .ensures)
+    (tally .last .0) (tally .result) (tally .ensures) (c .enum-told .given .1)
 
 add-j : tie.Need-add-j Inv-loop μ-loop
 add-j c = search needs
@@ -53,10 +75,11 @@ loop-less c = search needs
 
 loop-again : tie.Need-loop-again Inv-loop μ-loop
 loop-again c =
-    let v = c .before .before .before .before .before in
-    let l = v .before .before .before .before in
-    at-more (l .before .loop .inv) (l .loop-test .taken) (l .before .before .before .before .before .pre .0) (v .before .before .wide .ensures) (v .tally-root .last .0) (v .tally-root .result) (v .tally-root .ensures)
-    (v .tally-root .kept .0) (c .before .answer .given .1)
+    let tally = more c .tally-root in
+    let r = more c .before .before in
+    let t = turn r in
+    at-more (t .before .loop .inv) (t .loop-test .taken) (entry t .pre .0) (r .wide .ensures)
+    (tally .last .0) (tally .result) (tally .ensures) (tally .kept .0) (c .before .answer .given .1)
 
 same-length-2 : tie.Need-same-length-2 Inv-loop μ-loop
 same-length-2 c = c .before .loop .inv .left .long
