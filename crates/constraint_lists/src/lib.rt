@@ -6,7 +6,8 @@ ghost use Rattle.semantics.specs.Check.{readSheet};
 ghost use Rattle.semantics.specs.Walk.{order};
 ghost use Rattle.records.specs.Access.{recordsOf};
 ghost use Rattle.expand.specs.Walking.{Expands};
-ghost use Rattle.constraint_lists.specs.Lists.{refusalOf, shortOf, ShortFew, constraintsIn, constraintAnswer, constraintsOf, Inside, CheckedSheet};
+ghost use Rattle.constraint_lists.specs.Lists.{refusalOf, shortOf, ShortFew, constraintsIn};
+ghost use Rattle.constraint_lists.specs.Lists.{constraintAnswer, constraintsOf, Inside, CheckedSheet};
 use answers::Refusal;
 use expand::Expanded;
 use grouping::Grouped;
@@ -66,8 +67,10 @@ fn walk_constraints(
     work: &mut [u32],
     pool: &mut [u32],
 ) -> Expanded
-    requires { ⌜ ((interactions : ℕ) × CheckedSheet (now s) records constraints interactions) × (4096 ≤ length (now work)) × (2 * records ≤ length (now pool)) ⌝ }
-    ensures { λ u. ⌜ Expands (now (s .entry)) (now (pool .exit)) u (order (recordsOf (now (s .entry))) (readSheet (now (s .entry)) .constraints)) ⌝ }
+    requires { ⌜ ((interactions : ℕ) × CheckedSheet (now s) records constraints interactions) × (4096 ≤ length (now work))
+        × (2 * records ≤ length (now pool)) ⌝ }
+    ensures { λ u. ⌜ Expands (now (s .entry)) (now (pool .exit)) u
+        (order (recordsOf (now (s .entry))) (readSheet (now (s .entry)) .constraints)) ⌝ }
 {
     let heads = 2 * records;
     slices::zero_all(&mut pool[..heads]);
@@ -87,7 +90,10 @@ pub fn expand_checked(
     terms: &mut [u32],
 ) -> ConstraintLists
     requires { ⌜ ((interactions : ℕ) × CheckedSheet (now s) records constraints interactions) ⌝ }
-    ensures { λ r. ⌜ (constraintAnswer r (now (headers .exit)) (now (variables .exit)) (now (terms .exit)) ≡ constraintsOf (length (now (work .entry))) (length (now (pool .entry))) (length (now (headers .entry))) (length (now (variables .entry))) (length (now (terms .entry))) (readSheet (now (s .entry)))) × Inside r (now (headers .exit)) (now (variables .exit)) (now (terms .exit)) ⌝ }
+    ensures { λ r. ⌜ (constraintAnswer r (now (headers .exit)) (now (variables .exit)) (now (terms .exit))
+        ≡ constraintsOf (length (now (work .entry))) (length (now (pool .entry)))
+        (length (now (headers .entry))) (length (now (variables .entry))) (length (now (terms .entry))) (readSheet (now (s .entry))))
+        × Inside r (now (headers .exit)) (now (variables .exit)) (now (terms .exit)) ⌝ }
 {
     if work.len() < 4096 {
         return ConstraintLists::Refused(Refusal {

@@ -21,7 +21,11 @@ fn expand_sheet(
     variables: &mut [u32],
     terms: &mut [u32],
 ) -> ConstraintLists
-    ensures { λ r. ⌜ (constraintAnswer r (now (headers .exit)) (now (variables .exit)) (now (terms .exit)) ≡ onSheet (primeOf (now (s .entry))) (now (s .entry)) (constraintsOf (length (now (work .entry))) (length (now (pool .entry))) (length (now (headers .entry))) (length (now (variables .entry))) (length (now (terms .entry))))) × Inside r (now (headers .exit)) (now (variables .exit)) (now (terms .exit)) ⌝ }
+    ensures { λ r. ⌜ (constraintAnswer r (now (headers .exit)) (now (variables .exit)) (now (terms .exit))
+        ≡ onSheet (primeOf (now (s .entry))) (now (s .entry))
+        (constraintsOf (length (now (work .entry))) (length (now (pool .entry)))
+        (length (now (headers .entry))) (length (now (variables .entry))) (length (now (terms .entry)))))
+        × Inside r (now (headers .exit)) (now (variables .exit)) (now (terms .exit)) ⌝ }
 {
     let checked = sheet::check_sheet(s);
     let Checked::Sheet(head) = checked else {
@@ -55,7 +59,9 @@ fn lengths_of(lists: ConstraintLists) -> Lengths
 
 // Zeros behind the words of three lists.
 fn clear_behind(headers: &mut [u32], variables: &mut [u32], terms: &mut [u32], kept: Lengths)
-    ensures { λ _. ⌜ (now (headers .exit) ≡ cut (kept .headers) (now (headers .entry))) × (now (variables .exit) ≡ cut (kept .variables) (now (variables .entry))) × (now (terms .exit) ≡ cut (kept .terms) (now (terms .entry))) ⌝ }
+    ensures { λ _. ⌜ (now (headers .exit) ≡ cut (kept .headers) (now (headers .entry)))
+        × (now (variables .exit) ≡ cut (kept .variables) (now (variables .entry)))
+        × (now (terms .exit) ≡ cut (kept .terms) (now (terms .entry))) ⌝ }
 {
     slices::zero_from(headers, kept.headers);
     slices::zero_from(variables, kept.variables);
@@ -71,7 +77,10 @@ pub fn expand_constraints(
     variables: &mut [u32],
     terms: &mut [u32],
 ) -> ConstraintLists
-    ensures { λ r. ⌜ constraintOutcome r (now (work .exit)) (now (pool .exit)) (now (headers .exit)) (now (variables .exit)) (now (terms .exit)) ≡ constraintCall (primeOf (now (s .entry))) (now (s .entry)) (length (now (work .entry))) (length (now (pool .entry))) (length (now (headers .entry))) (length (now (variables .entry))) (length (now (terms .entry))) ⌝ }
+    ensures { λ r. ⌜ constraintOutcome r (now (work .exit)) (now (pool .exit))
+        (now (headers .exit)) (now (variables .exit)) (now (terms .exit))
+        ≡ constraintCall (primeOf (now (s .entry))) (now (s .entry)) (length (now (work .entry))) (length (now (pool .entry)))
+        (length (now (headers .entry))) (length (now (variables .entry))) (length (now (terms .entry))) ⌝ }
 {
     let lists = expand_sheet(s, work, pool, headers, variables, terms);
     let kept = lengths_of(lists);
@@ -93,7 +102,14 @@ fn expand_sheet_interactions(
     denom_variables: &mut [u32],
     denom_terms: &mut [u32],
 ) -> InteractionLists
-    ensures { λ r. ⌜ (interactionAnswer r (now (headers .exit)) (now (variables .exit)) (now (terms .exit)) (now («denom_headers» .exit)) (now («denom_variables» .exit)) (now («denom_terms» .exit)) ≡ onSheet (primeOf (now (s .entry))) (now (s .entry)) (interactionsOf (length (now (work .entry))) (length (now (pool .entry))) (length (now (headers .entry))) (length (now (variables .entry))) (length (now (terms .entry))) (length (now («denom_headers» .entry))) (length (now («denom_variables» .entry))) (length (now («denom_terms» .entry))))) × BothInside r (now (headers .exit)) (now (variables .exit)) (now (terms .exit)) (now («denom_headers» .exit)) (now («denom_variables» .exit)) (now («denom_terms» .exit)) ⌝ }
+    ensures { λ r. ⌜ (interactionAnswer r (now (headers .exit)) (now (variables .exit)) (now (terms .exit))
+        (now («denom_headers» .exit)) (now («denom_variables» .exit)) (now («denom_terms» .exit))
+        ≡ onSheet (primeOf (now (s .entry))) (now (s .entry))
+        (interactionsOf (length (now (work .entry))) (length (now (pool .entry)))
+        (length (now (headers .entry))) (length (now (variables .entry))) (length (now (terms .entry)))
+        (length (now («denom_headers» .entry))) (length (now («denom_variables» .entry))) (length (now («denom_terms» .entry)))))
+        × BothInside r (now (headers .exit)) (now (variables .exit)) (now (terms .exit))
+        (now («denom_headers» .exit)) (now («denom_variables» .exit)) (now («denom_terms» .exit)) ⌝ }
 {
     let checked = sheet::check_sheet(s);
     let Checked::Sheet(head) = checked else {
@@ -149,7 +165,12 @@ pub fn expand_interactions(
     denom_variables: &mut [u32],
     denom_terms: &mut [u32],
 ) -> InteractionLists
-    ensures { λ r. ⌜ interactionOutcome r (now (work .exit)) (now (pool .exit)) (now (headers .exit)) (now (variables .exit)) (now (terms .exit)) (now («denom_headers» .exit)) (now («denom_variables» .exit)) (now («denom_terms» .exit)) ≡ interactionCall (primeOf (now (s .entry))) (now (s .entry)) (length (now (work .entry))) (length (now (pool .entry))) (length (now (headers .entry))) (length (now (variables .entry))) (length (now (terms .entry))) (length (now («denom_headers» .entry))) (length (now («denom_variables» .entry))) (length (now («denom_terms» .entry))) ⌝ }
+    ensures { λ r. ⌜ interactionOutcome r (now (work .exit)) (now (pool .exit))
+        (now (headers .exit)) (now (variables .exit)) (now (terms .exit))
+        (now («denom_headers» .exit)) (now («denom_variables» .exit)) (now («denom_terms» .exit))
+        ≡ interactionCall (primeOf (now (s .entry))) (now (s .entry)) (length (now (work .entry))) (length (now (pool .entry)))
+        (length (now (headers .entry))) (length (now (variables .entry))) (length (now (terms .entry)))
+        (length (now («denom_headers» .entry))) (length (now («denom_variables» .entry))) (length (now («denom_terms» .entry))) ⌝ }
 {
     let lists = expand_sheet_interactions(
         s,

@@ -10,7 +10,8 @@ ghost use Rattle.semantics.specs.Group.{labelled, items};
 ghost use Rattle.semantics.specs.Call.{zeros};
 ghost use Rattle.records.specs.Access.{recordsOf, part, countWords, fieldWords, AllRootsInside};
 ghost use Rattle.group.specs.Grouped.{tallyAll, tallied, Counted, listOf, varsNamed, widthOf, Places};
-ghost use Rattle.grouping.specs.Families.{ToTally, constraintRoot, fieldRoot, eachRoots, countRootAt, fieldRootsAt, ToPlaceRoots, Grouping, rootsOf, isInteraction, nodesOf};
+ghost use Rattle.grouping.specs.Families.{ToTally, constraintRoot, fieldRoot, eachRoots, countRootAt, fieldRootsAt};
+ghost use Rattle.grouping.specs.Families.{ToPlaceRoots, Grouping, rootsOf, isInteraction, nodesOf};
 use group::Tallied;
 use group::place;
 
@@ -42,7 +43,9 @@ fn tally_names(
     pool: &[u32],
 ) -> Tallied
     requires { ⌜ (at + count ≤ length (now sheet)) × ToTally n (now headers) (now pool) (part at count (now sheet)) ⌝ }
-    ensures { λ r. ⌜ Counted (now (headers .exit)) (now (pool .entry)) (tallyAll (varsNamed (now (pool .entry)) (part at count (now (sheet .entry)))) (tallied n (now (headers .entry)) (now (pool .entry)))) r ⌝ }
+    ensures { λ r. ⌜ Counted (now (headers .exit)) (now (pool .entry))
+        (tallyAll (varsNamed (now (pool .entry)) (part at count (now (sheet .entry))))
+        (tallied n (now (headers .entry)) (now (pool .entry)))) r ⌝ }
 {
     let mut rows = n;
     let mut j: usize = 0;
@@ -67,8 +70,11 @@ fn tally_counts(
     n: usize,
     pool: &[u32],
 ) -> Tallied
-    requires { ⌜ AllRootsInside (length (recordsOf (now sheet))) (now sheet) at count × ToTally n (now headers) (now pool) (countWords (now sheet) at count) ⌝ }
-    ensures { λ r. ⌜ Counted (now (headers .exit)) (now (pool .entry)) (tallyAll (varsNamed (now (pool .entry)) (countWords (now (sheet .entry)) at count)) (tallied n (now (headers .entry)) (now (pool .entry)))) r ⌝ }
+    requires { ⌜ AllRootsInside (length (recordsOf (now sheet))) (now sheet) at count
+        × ToTally n (now headers) (now pool) (countWords (now sheet) at count) ⌝ }
+    ensures { λ r. ⌜ Counted (now (headers .exit)) (now (pool .entry))
+        (tallyAll (varsNamed (now (pool .entry)) (countWords (now (sheet .entry)) at count))
+        (tallied n (now (headers .entry)) (now (pool .entry)))) r ⌝ }
 {
     let mut rows = n;
     let mut from = at;
@@ -95,8 +101,11 @@ fn tally_fields(
     n: usize,
     pool: &[u32],
 ) -> Tallied
-    requires { ⌜ AllRootsInside (length (recordsOf (now sheet))) (now sheet) at count × ToTally n (now headers) (now pool) (fieldWords (now sheet) at count) ⌝ }
-    ensures { λ r. ⌜ Counted (now (headers .exit)) (now (pool .entry)) (tallyAll (varsNamed (now (pool .entry)) (fieldWords (now (sheet .entry)) at count)) (tallied n (now (headers .entry)) (now (pool .entry)))) r ⌝ }
+    requires { ⌜ AllRootsInside (length (recordsOf (now sheet))) (now sheet) at count
+        × ToTally n (now headers) (now pool) (fieldWords (now sheet) at count) ⌝ }
+    ensures { λ r. ⌜ Counted (now (headers .exit)) (now (pool .entry))
+        (tallyAll (varsNamed (now (pool .entry)) (fieldWords (now (sheet .entry)) at count))
+        (tallied n (now (headers .entry)) (now (pool .entry)))) r ⌝ }
 {
     let mut rows = n;
     let mut from = at;
@@ -124,8 +133,11 @@ fn place_constraints(
     pool: &[u32],
     terms: &mut [u32],
 )
-    requires { ⌜ (at + count ≤ length (now sheet)) × (count ≤ 4294967295) × ToPlaceRoots false n (now headers) (now pool) (now terms) (labelled constraintRoot 0 (part at count (now sheet))) ⌝ }
-    ensures { λ _. ⌜ Places false n (now (pool .entry)) (now (headers .entry)) (now (terms .entry)) (now (headers .exit)) (now (terms .exit)) (items (listOf (now (pool .entry))) (labelled constraintRoot 0 (part at count (now (sheet .entry))))) ⌝ }
+    requires { ⌜ (at + count ≤ length (now sheet)) × (count ≤ 4294967295)
+        × ToPlaceRoots false n (now headers) (now pool) (now terms) (labelled constraintRoot 0 (part at count (now sheet))) ⌝ }
+    ensures { λ _. ⌜ Places false n (now (pool .entry)) (now (headers .entry)) (now (terms .entry))
+        (now (headers .exit)) (now (terms .exit))
+        (items (listOf (now (pool .entry))) (labelled constraintRoot 0 (part at count (now (sheet .entry))))) ⌝ }
 {
     let mut j: usize = 0;
     while j < count {
@@ -146,8 +158,11 @@ fn place_names(
     pool: &[u32],
     terms: &mut [u32],
 )
-    requires { ⌜ (at + count ≤ length (now sheet)) × (count ≤ 4294967295) × ToPlaceRoots true n (now headers) (now pool) (now terms) (labelled (fieldRoot index) 0 (part at count (now sheet))) ⌝ }
-    ensures { λ _. ⌜ Places true n (now (pool .entry)) (now (headers .entry)) (now (terms .entry)) (now (headers .exit)) (now (terms .exit)) (items (listOf (now (pool .entry))) (labelled (fieldRoot index) 0 (part at count (now (sheet .entry))))) ⌝ }
+    requires { ⌜ (at + count ≤ length (now sheet)) × (count ≤ 4294967295)
+        × ToPlaceRoots true n (now headers) (now pool) (now terms) (labelled (fieldRoot index) 0 (part at count (now sheet))) ⌝ }
+    ensures { λ _. ⌜ Places true n (now (pool .entry)) (now (headers .entry)) (now (terms .entry))
+        (now (headers .exit)) (now (terms .exit))
+        (items (listOf (now (pool .entry))) (labelled (fieldRoot index) 0 (part at count (now (sheet .entry))))) ⌝ }
 {
     let mut j: usize = 0;
     while j < count {
@@ -167,8 +182,12 @@ fn place_counts(
     pool: &[u32],
     terms: &mut [u32],
 )
-    requires { ⌜ AllRootsInside (length (recordsOf (now sheet))) (now sheet) at count × (count ≤ 4294967295) × ToPlaceRoots true n (now headers) (now pool) (now terms) (eachRoots (countRootAt (now sheet)) (now sheet) 0 at count) ⌝ }
-    ensures { λ _. ⌜ Places true n (now (pool .entry)) (now (headers .entry)) (now (terms .entry)) (now (headers .exit)) (now (terms .exit)) (items (listOf (now (pool .entry))) (eachRoots (countRootAt (now (sheet .entry))) (now (sheet .entry)) 0 at count)) ⌝ }
+    requires { ⌜ AllRootsInside (length (recordsOf (now sheet))) (now sheet) at count × (count ≤ 4294967295)
+        × ToPlaceRoots true n (now headers) (now pool) (now terms)
+        (eachRoots (countRootAt (now sheet)) (now sheet) 0 at count) ⌝ }
+    ensures { λ _. ⌜ Places true n (now (pool .entry)) (now (headers .entry)) (now (terms .entry))
+        (now (headers .exit)) (now (terms .exit))
+        (items (listOf (now (pool .entry))) (eachRoots (countRootAt (now (sheet .entry))) (now (sheet .entry)) 0 at count)) ⌝ }
 {
     let mut from = at;
     let mut i: usize = 0;
@@ -190,8 +209,12 @@ fn place_fields(
     pool: &[u32],
     terms: &mut [u32],
 )
-    requires { ⌜ AllRootsInside (length (recordsOf (now sheet))) (now sheet) at count × (count ≤ 4294967295) × ToPlaceRoots true n (now headers) (now pool) (now terms) (eachRoots (fieldRootsAt (now sheet)) (now sheet) 0 at count) ⌝ }
-    ensures { λ _. ⌜ Places true n (now (pool .entry)) (now (headers .entry)) (now (terms .entry)) (now (headers .exit)) (now (terms .exit)) (items (listOf (now (pool .entry))) (eachRoots (fieldRootsAt (now (sheet .entry))) (now (sheet .entry)) 0 at count)) ⌝ }
+    requires { ⌜ AllRootsInside (length (recordsOf (now sheet))) (now sheet) at count × (count ≤ 4294967295)
+        × ToPlaceRoots true n (now headers) (now pool) (now terms)
+        (eachRoots (fieldRootsAt (now sheet)) (now sheet) 0 at count) ⌝ }
+    ensures { λ _. ⌜ Places true n (now (pool .entry)) (now (headers .entry)) (now (terms .entry))
+        (now (headers .exit)) (now (terms .exit))
+        (items (listOf (now (pool .entry))) (eachRoots (fieldRootsAt (now (sheet .entry))) (now (sheet .entry)) 0 at count)) ⌝ }
 {
     let mut from = at;
     let mut i: usize = 0;
@@ -215,7 +238,8 @@ fn place_fields(
 // Counts the lists of a family's records; the headers are cleared.
 pub fn tally_family(sheet: &[u32], family: Family, headers: &mut [u32], pool: &[u32]) -> Tallied
     requires { ⌜ Grouping (now sheet) (now pool) (rootsOf family (readSheet (now sheet))) × (now headers ≡ zeros (length (now headers))) ⌝ }
-    ensures { λ r. ⌜ Counted (now (headers .exit)) (now (pool .entry)) (tallyAll (varsNamed (now (pool .entry)) (nodesOf (rootsOf family (readSheet (now (sheet .entry)))))) []) r ⌝ }
+    ensures { λ r. ⌜ Counted (now (headers .exit)) (now (pool .entry))
+        (tallyAll (varsNamed (now (pool .entry)) (nodesOf (rootsOf family (readSheet (now (sheet .entry)))))) []) r ⌝ }
 {
     match family {
         Family::Constraints => {
@@ -245,8 +269,11 @@ pub fn place_family(
     pool: &[u32],
     terms: &mut [u32],
 )
-    requires { ⌜ (check (primeOf (now sheet)) (now sheet) ≡ good (readSheet (now sheet))) × ToPlaceRoots (isInteraction family) n (now headers) (now pool) (now terms) (rootsOf family (readSheet (now sheet))) ⌝ }
-    ensures { λ _. ⌜ Places (isInteraction family) n (now (pool .entry)) (now (headers .entry)) (now (terms .entry)) (now (headers .exit)) (now (terms .exit)) (items (listOf (now (pool .entry))) (rootsOf family (readSheet (now (sheet .entry))))) ⌝ }
+    requires { ⌜ (check (primeOf (now sheet)) (now sheet) ≡ good (readSheet (now sheet)))
+        × ToPlaceRoots (isInteraction family) n (now headers) (now pool) (now terms) (rootsOf family (readSheet (now sheet))) ⌝ }
+    ensures { λ _. ⌜ Places (isInteraction family) n (now (pool .entry)) (now (headers .entry)) (now (terms .entry))
+        (now (headers .exit)) (now (terms .exit))
+        (items (listOf (now (pool .entry))) (rootsOf family (readSheet (now (sheet .entry))))) ⌝ }
 {
     match family {
         Family::Constraints => {

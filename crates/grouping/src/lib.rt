@@ -31,7 +31,8 @@ pub enum Grouped {
 // Whether variables and terms have room; the headers of n rows stand in their slice.
 fn room_for(headers: &[u32], n: usize, width: usize, variables: usize, terms: usize) -> Grouped
     requires { ⌜ (4 * n ≤ length (now headers)) × (n ≤ 16777216) × (sum (column 3 n (now headers)) ≤ 16777216) × (width ≤ 3) ⌝ }
-    ensures { λ r. ⌜ Measured n width (sum (column 2 n (now (headers .entry)))) (sum (column 3 n (now (headers .entry)))) variables terms r ⌝ }
+    ensures { λ r. ⌜ Measured n width
+        (sum (column 2 n (now (headers .entry)))) (sum (column 3 n (now (headers .entry)))) variables terms r ⌝ }
 {
     let v = totals::total_variables(headers, n);
     if variables < v {
@@ -51,7 +52,10 @@ fn room_for(headers: &[u32], n: usize, width: usize, variables: usize, terms: us
 // Makes the slices ready for terms.
 fn start_groups(headers: &mut [u32], n: usize, pool: &[u32], terms: &mut [u32])
     requires { ⌜ Rows n (now headers) (now pool) × (total (tallied n (now headers) (now pool)) ≤ 16777216) ⌝ }
-    ensures { λ _. ⌜ ((b : Bool) → widthOf b * total (tallied n (now (headers .entry)) (now (pool .entry))) ≤ length (now (terms .entry)) → Placing b (tallied n (now (headers .entry)) (now (pool .entry))) n (now (headers .exit)) (now (pool .entry)) (now (terms .exit)) []) ⌝ }
+    ensures { λ _. ⌜ ((b : Bool)
+        → widthOf b * total (tallied n (now (headers .entry)) (now (pool .entry))) ≤ length (now (terms .entry))
+        → Placing b (tallied n (now (headers .entry)) (now (pool .entry))) n
+        (now (headers .exit)) (now (pool .entry)) (now (terms .exit)) []) ⌝ }
 {
     slices::zero_all(terms);
     totals::start_terms(headers, n);
@@ -59,8 +63,10 @@ fn start_groups(headers: &mut [u32], n: usize, pool: &[u32], terms: &mut [u32])
 
 // Writes the variables of the rows, and the offsets.
 fn finish_groups(headers: &mut [u32], n: usize, pool: &[u32], variables: &mut [u32])
-    requires { ⌜ Rows n (now headers) (now pool) × (n ≤ 16777216) × (total (tallied n (now headers) (now pool)) ≤ 16777216) × (length (varsIn (tallied n (now headers) (now pool))) ≤ length (now variables)) ⌝ }
-    ensures { λ _. ⌜ Front (headersOf 0 0 (tallied n (now (headers .entry)) (now (pool .entry)))) (now (headers .exit)) × Front (varsIn (tallied n (now (headers .entry)) (now (pool .entry)))) (now (variables .exit)) ⌝ }
+    requires { ⌜ Rows n (now headers) (now pool) × (n ≤ 16777216) × (total (tallied n (now headers) (now pool)) ≤ 16777216)
+        × (length (varsIn (tallied n (now headers) (now pool))) ≤ length (now variables)) ⌝ }
+    ensures { λ _. ⌜ Front (headersOf 0 0 (tallied n (now (headers .entry)) (now (pool .entry)))) (now (headers .exit))
+        × Front (varsIn (tallied n (now (headers .entry)) (now (pool .entry)))) (now (variables .exit)) ⌝ }
 {
     place::write_variables(headers, n, pool, variables);
     totals::fill_offsets(headers, n);
@@ -76,7 +82,9 @@ fn group_family(
     terms: &mut [u32],
 ) -> Grouped
     requires { ⌜ Grouping (now sheet) (now pool) (rootsOf family (readSheet (now sheet))) ⌝ }
-    ensures { λ r. ⌜ Laid (termOf (isInteraction family)) (groupsOf (now (sheet .entry)) (rootsOf family (readSheet (now (sheet .entry))))) (now (headers .exit)) (now (variables .exit)) (now (terms .exit)) r ⌝ }
+    ensures { λ r. ⌜ Laid (termOf (isInteraction family))
+        (groupsOf (now (sheet .entry)) (rootsOf family (readSheet (now (sheet .entry)))))
+        (now (headers .exit)) (now (variables .exit)) (now (terms .exit)) r ⌝ }
 {
     slices::zero_all(headers);
     let counted = families::tally_family(sheet, family, headers, pool);
@@ -103,7 +111,8 @@ pub fn group_constraints(
     terms: &mut [u32],
 ) -> Grouped
     requires { ⌜ Grouping (now sheet) (now pool) (constraintRoots (readSheet (now sheet))) ⌝ }
-    ensures { λ r. ⌜ Laid constraintTerm (groupsOf (now (sheet .entry)) (constraintRoots (readSheet (now (sheet .entry))))) (now (headers .exit)) (now (variables .exit)) (now (terms .exit)) r ⌝ }
+    ensures { λ r. ⌜ Laid constraintTerm (groupsOf (now (sheet .entry)) (constraintRoots (readSheet (now (sheet .entry)))))
+        (now (headers .exit)) (now (variables .exit)) (now (terms .exit)) r ⌝ }
 {
     group_family(sheet, pool, Family::Constraints, headers, variables, terms)
 }
@@ -117,7 +126,8 @@ pub fn group_counts(
     terms: &mut [u32],
 ) -> Grouped
     requires { ⌜ Grouping (now sheet) (now pool) (countRoots (readSheet (now sheet))) ⌝ }
-    ensures { λ r. ⌜ Laid interactionTerm (groupsOf (now (sheet .entry)) (countRoots (readSheet (now (sheet .entry))))) (now (headers .exit)) (now (variables .exit)) (now (terms .exit)) r ⌝ }
+    ensures { λ r. ⌜ Laid interactionTerm (groupsOf (now (sheet .entry)) (countRoots (readSheet (now (sheet .entry)))))
+        (now (headers .exit)) (now (variables .exit)) (now (terms .exit)) r ⌝ }
 {
     group_family(sheet, pool, Family::Counts, headers, variables, terms)
 }
@@ -131,7 +141,8 @@ pub fn group_fields(
     terms: &mut [u32],
 ) -> Grouped
     requires { ⌜ Grouping (now sheet) (now pool) (fieldRoots (readSheet (now sheet))) ⌝ }
-    ensures { λ r. ⌜ Laid interactionTerm (groupsOf (now (sheet .entry)) (fieldRoots (readSheet (now (sheet .entry))))) (now (headers .exit)) (now (variables .exit)) (now (terms .exit)) r ⌝ }
+    ensures { λ r. ⌜ Laid interactionTerm (groupsOf (now (sheet .entry)) (fieldRoots (readSheet (now (sheet .entry)))))
+        (now (headers .exit)) (now (variables .exit)) (now (terms .exit)) r ⌝ }
 {
     group_family(sheet, pool, Family::Fields, headers, variables, terms)
 }

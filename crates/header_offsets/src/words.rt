@@ -58,7 +58,8 @@ fn take_headers(words: &[u32], at: usize, k: usize) -> [MonomialHeader; 16]
 // The first k of these headers, as words from `at` on.
 fn put_headers(words: &mut [u32], at: usize, k: usize, headers: [MonomialHeader; 16])
     requires { ⌜ (k ≤ 16) × (at + 4 * k ≤ length (now words)) ⌝ }
-    ensures { λ _. ⌜ now (words .exit) ≡ take at (now (words .entry)) ++ (wordsOf (take k headers) ++ drop (at + 4 * k) (now (words .entry))) ⌝ }
+    ensures { λ _. ⌜ now (words .exit)
+        ≡ take at (now (words .entry)) ++ (wordsOf (take k headers) ++ drop (at + 4 * k) (now (words .entry))) ⌝ }
 {
     let mut j: usize = 0;
     while j < k {
@@ -69,7 +70,8 @@ fn put_headers(words: &mut [u32], at: usize, k: usize, headers: [MonomialHeader;
 
 // Both offsets of the first n headers become the totals over the headers before each, sixteen headers at a time.
 pub fn fill_words(words: &mut [u32], n: usize)
-    requires { ⌜ (4 * n ≤ length (now words)) × (total numVars (headersIn n (now words)) ≤ 4294967295) × (total numTerms (headersIn n (now words)) ≤ 4294967295) ⌝ }
+    requires { ⌜ (4 * n ≤ length (now words)) × (total numVars (headersIn n (now words)) ≤ 4294967295)
+        × (total numTerms (headersIn n (now words)) ≤ 4294967295) ⌝ }
     ensures { λ _. ⌜ now (words .exit) ≡ filledWords n (now (words .entry)) ⌝ }
 {
     let mut vars: u32 = 0;

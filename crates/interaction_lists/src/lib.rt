@@ -38,8 +38,11 @@ fn walk_interactions(
     work: &mut [u32],
     pool: &mut [u32],
 ) -> Expanded
-    requires { ⌜ ((constraints : ℕ) × CheckedSheet (now s) records constraints interactions) × (4096 ≤ length (now work)) × (2 * records ≤ length (now pool)) ⌝ }
-    ensures { λ u. ⌜ Expands (now (s .entry)) (now (pool .exit)) u (order (recordsOf (now (s .entry))) (counts (readSheet (now (s .entry)) .interactions) ++ fields (readSheet (now (s .entry)) .interactions))) ⌝ }
+    requires { ⌜ ((constraints : ℕ) × CheckedSheet (now s) records constraints interactions) × (4096 ≤ length (now work))
+        × (2 * records ≤ length (now pool)) ⌝ }
+    ensures { λ u. ⌜ Expands (now (s .entry)) (now (pool .exit)) u
+        (order (recordsOf (now (s .entry)))
+        (counts (readSheet (now (s .entry)) .interactions) ++ fields (readSheet (now (s .entry)) .interactions))) ⌝ }
 {
     let heads = 2 * records;
     slices::zero_all(&mut pool[..heads]);
@@ -80,8 +83,17 @@ fn group_interactions(
     denom_variables: &mut [u32],
     denom_terms: &mut [u32],
 ) -> InteractionLists
-    requires { ⌜ Grouping (now s) (now pool) (countRoots (readSheet (now s))) × Grouping (now s) (now pool) (fieldRoots (readSheet (now s))) × (interactions ≡ length (readSheet (now s) .interactions)) ⌝ }
-    ensures { λ r. ⌜ (interactionAnswer r (now (headers .exit)) (now (variables .exit)) (now (terms .exit)) (now («denom_headers» .exit)) (now («denom_variables» .exit)) (now («denom_terms» .exit)) ≡ fitted (interactionOutputs (primeOf (now (s .entry))) (readSheet (now (s .entry)))) (length (now (headers .entry)) ∷ length (now (variables .entry)) ∷ length (now (terms .entry)) ∷ length (now («denom_headers» .entry)) ∷ length (now («denom_variables» .entry)) ∷ length (now («denom_terms» .entry)) ∷ []) (length (readSheet (now (s .entry)) .interactions) ∷ maxFieldsLen (readSheet (now (s .entry))) ∷ [])) × BothInside r (now (headers .exit)) (now (variables .exit)) (now (terms .exit)) (now («denom_headers» .exit)) (now («denom_variables» .exit)) (now («denom_terms» .exit)) ⌝ }
+    requires { ⌜ Grouping (now s) (now pool) (countRoots (readSheet (now s)))
+        × Grouping (now s) (now pool) (fieldRoots (readSheet (now s)))
+        × (interactions ≡ length (readSheet (now s) .interactions)) ⌝ }
+    ensures { λ r. ⌜ (interactionAnswer r (now (headers .exit)) (now (variables .exit)) (now (terms .exit))
+        (now («denom_headers» .exit)) (now («denom_variables» .exit)) (now («denom_terms» .exit))
+        ≡ fitted (interactionOutputs (primeOf (now (s .entry))) (readSheet (now (s .entry))))
+        (length (now (headers .entry)) ∷ length (now (variables .entry)) ∷ length (now (terms .entry))
+        ∷ length (now («denom_headers» .entry)) ∷ length (now («denom_variables» .entry)) ∷ length (now («denom_terms» .entry)) ∷ [])
+        (length (readSheet (now (s .entry)) .interactions) ∷ maxFieldsLen (readSheet (now (s .entry))) ∷ []))
+        × BothInside r (now (headers .exit)) (now (variables .exit)) (now (terms .exit))
+        (now («denom_headers» .exit)) (now («denom_variables» .exit)) (now («denom_terms» .exit)) ⌝ }
 {
     let counted = grouping::group_counts(s, pool, headers, variables, terms);
     let Grouped::Written(numerators) = counted else {
@@ -116,7 +128,14 @@ pub fn expand_checked(
     denom_terms: &mut [u32],
 ) -> InteractionLists
     requires { ⌜ CheckedSheet (now s) records constraints interactions ⌝ }
-    ensures { λ r. ⌜ (interactionAnswer r (now (headers .exit)) (now (variables .exit)) (now (terms .exit)) (now («denom_headers» .exit)) (now («denom_variables» .exit)) (now («denom_terms» .exit)) ≡ interactionsOf (length (now (work .entry))) (length (now (pool .entry))) (length (now (headers .entry))) (length (now (variables .entry))) (length (now (terms .entry))) (length (now («denom_headers» .entry))) (length (now («denom_variables» .entry))) (length (now («denom_terms» .entry))) (readSheet (now (s .entry)))) × BothInside r (now (headers .exit)) (now (variables .exit)) (now (terms .exit)) (now («denom_headers» .exit)) (now («denom_variables» .exit)) (now («denom_terms» .exit)) ⌝ }
+    ensures { λ r. ⌜ (interactionAnswer r (now (headers .exit)) (now (variables .exit)) (now (terms .exit))
+        (now («denom_headers» .exit)) (now («denom_variables» .exit)) (now («denom_terms» .exit))
+        ≡ interactionsOf (length (now (work .entry))) (length (now (pool .entry)))
+        (length (now (headers .entry))) (length (now (variables .entry))) (length (now (terms .entry)))
+        (length (now («denom_headers» .entry))) (length (now («denom_variables» .entry))) (length (now («denom_terms» .entry)))
+        (readSheet (now (s .entry))))
+        × BothInside r (now (headers .exit)) (now (variables .exit)) (now (terms .exit))
+        (now («denom_headers» .exit)) (now («denom_variables» .exit)) (now («denom_terms» .exit)) ⌝ }
 {
     if work.len() < 4096 {
         return InteractionLists::Refused(Refusal {

@@ -46,9 +46,9 @@ returns c =
     let T = zero .last .0 in
     let small = s .pre .1 in
     λ b h.
-      let room = subst (λ (k : ℕ). widthOf b * total (counted s) ≤ k) (sym (zero .kept .0)) h in
-      placing-start b (a .n) (a .headers .now) (begin .last .0) (a .pool .now) T (s .pre .0) (begin .ensures .0) (begin .ensures .1) (begin .kept .0)
-      (vacant-terms b (counted s) T (zeros-again T (length (a .terms .now)) (zero .ensures)) room) (omega arith)
+    let room = subst (λ (k : ℕ). widthOf b * total (counted s) ≤ k) (sym (zero .kept .0)) h in
+    placing-start b (a .n) (a .headers .now) (begin .last .0) (a .pool .now) T (s .pre .0) (begin .ensures .0) (begin .ensures .1) (begin .kept .0)
+    (vacant-terms b (counted s) T (zeros-again T (length (a .terms .now)) (zero .ensures)) room) (omega arith)
 
 pub start-groups-spec : {M : Type 1} → statement M
 start-groups-spec =
