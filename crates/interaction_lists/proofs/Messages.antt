@@ -36,7 +36,7 @@ pub record Looking (bound : ℕ) (ws : List ℕ) (at count : ℕ) (most from i :
   pub left : AllRootsInside bound ws from (count - i)
   pub whole : max most (longestFrom ws from (count - i)) ≡ longestFrom ws at count
 
-module _ (bound : ℕ) (ws : List ℕ) (at count : ℕ) where
+module _ {bound : ℕ} {ws : List ℕ} {at count : ℕ} where
   pub looking-none : AllRootsInside bound ws at count → Looking bound ws at count 0 at 0
   looking-none h =
       let all : count - 0 ≡ count = omega arith in
@@ -46,7 +46,7 @@ module _ (bound : ℕ) (ws : List ℕ) (at count : ℕ) where
         whole = ap (λ (n : ℕ). max 0 (longestFrom ws at n)) all ∙ omega arith;
       }
 
-  module _ (most from i : ℕ) (h : Looking bound ws at count most from i) where
+  module _ {most from i : ℕ} (h : Looking bound ws at count most from i) where
     pub looking-done : count ≤ i → most ≡ longestFrom ws at count
     unfolding longestFrom
     looking-done l =

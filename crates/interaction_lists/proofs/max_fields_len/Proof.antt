@@ -1,3 +1,4 @@
+-- Interaction by interaction. Kept: the largest length so far and those of the rest give the largest of all.
 use borrow.Author.Needs.{needs}
 use mathlib.Core.Path.{ap, _∙_}
 use Prim.Native.Nat.{_-_, max}
@@ -15,15 +16,10 @@ abbrev μ-loop : tie.MeasureT-loop
 μ-loop s at interactions most₀ from₀ i₀ most from i = interactions - i
 
 loop-holds : tie.Need-loop-holds Inv-loop μ-loop
-loop-holds c =
-    let a = c .before .args in
-    looking-none (length (recordsOf (a .s .now))) (a .s .now) (a .at) (a .interactions) (c .before .pre)
+loop-holds c = looking-none (c .before .pre)
 
 interaction-at-requires : tie.Need-interaction-at-requires Inv-loop μ-loop
-interaction-at-requires c κs =
-    let a = c .before .before .before .args in
-    let b = c .before .loop in
-    looking-at (length (recordsOf (a .s .now))) (a .s .now) (a .at) (a .interactions) (b .most) (b .from) (b .i) (b .inv) (c .loop-test .taken) .inside
+interaction-at-requires c κs = looking-at (c .before .loop .inv) (c .loop-test .taken) .inside
 
 larger-requires : tie.Need-larger-requires Inv-loop μ-loop
 larger-requires c κs = search needs
@@ -36,17 +32,14 @@ loop-less c = search needs
 
 loop-again : tie.Need-loop-again Inv-loop μ-loop
 loop-again c =
-    let a = c .before .before .before .before .before .args in
-    let b = c .before .before .before .loop in
-    let x = c .before .interaction-at in
-    looking-more (length (recordsOf (a .s .now))) (a .s .now) (a .at) (a .interactions) (b .most) (b .from) (b .i) (b .inv) (c .before .before .loop-test .taken) (c .larger .result) (x .result .next)
-    (c .larger .ensures ∙ ap (λ (y : Interaction). max (b .most) (y .message)) (x .ensures)) (ap (λ (y : Interaction). y .next) (x .ensures))
+    let read = c .before .interaction-at in
+    let turn = c .before .before in
+    let l = turn .before .loop in
+    looking-more (l .inv) (turn .loop-test .taken) (c .larger .result) (read .result .next)
+    (c .larger .ensures ∙ ap (λ (y : Interaction). max (l .most) (y .message)) (read .ensures)) (ap (λ (y : Interaction). y .next) (read .ensures))
 
 returns : tie.Need-returns Inv-loop μ-loop
-returns c =
-    let a = c .before .before .before .args in
-    let b = c .before .loop in
-    looking-done (length (recordsOf (a .s .now))) (a .s .now) (a .at) (a .interactions) (b .most) (b .from) (b .i) (b .inv) (c .loop-test .left)
+returns c = looking-done (c .before .loop .inv) (c .loop-test .left)
 
 pub max-fields-len-spec : {M : Type 1} → statement M
 max-fields-len-spec =
