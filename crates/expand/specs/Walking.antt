@@ -27,9 +27,9 @@ pub record Holds (ws done pool : List ℕ) (used : ℕ) : Type 0 where
   pub high : used ≤ length pool
   pub small : used ≤ 2 * length (recordsOf ws) + 4096 * length done
   pub new : (i : ℕ) → i < length (recordsOf ws) → member i done ≡ false → getD pool (2 * i) 0 ≡ 0
-  pub old : (i : ℕ) → member i done ≡ true → Stored pool i (listAt prime (recordsOf ws) i)
+  pub old : (i : ℕ) → member i done ≡ true → Stored pool i (listAt (primeOf ws) (recordsOf ws) i)
   pub behind : (i : ℕ) → member i done ≡ true → 2 * length (recordsOf ws) ≤ getD pool (2 * i) 0
-  pub before : (i : ℕ) → member i done ≡ true → getD pool (2 * i) 0 + listSize (listAt prime (recordsOf ws) i) ≤ used
+  pub before : (i : ℕ) → member i done ≡ true → getD pool (2 * i) 0 + listSize (listAt (primeOf ws) (recordsOf ws) i) ≤ used
 
 -- What an answer says of the records that were to be expanded: the words taken, or the refusal.
 abbrev pub Expands : (ws pool : List ℕ) → Expanded → (done : List ℕ) → Type 0

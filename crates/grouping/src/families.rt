@@ -10,8 +10,7 @@ ghost use Rattle.semantics.specs.Group.{labelled, items};
 ghost use Rattle.semantics.specs.Call.{zeros};
 ghost use Rattle.records.specs.Access.{recordsOf, part, countWords, fieldWords, AllRootsInside};
 ghost use Rattle.group.specs.Grouped.{tallyAll, tallied, Counted, listOf, varsNamed, widthOf, Places};
-ghost use Rattle.grouping.specs.Families.{ToTally, constraintRoot, fieldRoot, eachRoots, countRootAt, fieldRootsAt};
-ghost use Rattle.grouping.specs.Families.{ToPlaceRoots, Grouping, rootsOf, isInteraction, nodesOf};
+ghost use Rattle.grouping.specs.Families.{ToTally, constraintRoot, fieldRoot, eachRoots, countRootAt, fieldRootsAt, ToPlaceRoots, Grouping, rootsOf, isInteraction, nodesOf};
 use group::Tallied;
 use group::place;
 

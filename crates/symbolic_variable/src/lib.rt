@@ -1,8 +1,7 @@
 // Entries and variables, as in symbolic_variable.rs.
 ghost use mathlib.Core.Path.{_≡_};
 ghost use Rattle.symbolic_variable.specs.Variable.{offsetMoved, variableOf, degreeMultiple};
-ghost use Rattle.symbolic_variable.specs.Replies.{offsetOutcome, offsetCall, sumAnswer, rotatedOutcome};
-ghost use Rattle.symbolic_variable.specs.Replies.{rotateCall, refusalOf, rotatedVariableOutcome, rotateVariableCall};
+ghost use Rattle.symbolic_variable.specs.Replies.{offsetOutcome, offsetCall, sumAnswer, rotatedOutcome, rotateCall, refusalOf, rotatedVariableOutcome, rotateVariableCall};
 use answers::Refusal;
 
 pub enum Entry {

@@ -11,8 +11,7 @@ use Rattle.semantics.specs.Group.{Root}
 use Rattle.grouping.specs.declared.Lengths.{Lengths}
 use Rattle.grouping.specs.Families.{rootsOf, isInteraction}
 use Rattle.grouping.proofs.Finished.{zeros-again}
-use Rattle.grouping.proofs.Fitting.{Known, Rowed, Fits, Started, known, fit-full, fit-rows}
-use Rattle.grouping.proofs.Fitting.{fit-room, fit-fits, fit-short, fit-terms, fit-place, fit-finish, fit-written}
+use Rattle.grouping.proofs.Fitting.{Known, Rowed, Fits, Started, known, fit-full, fit-rows, fit-room, fit-fits, fit-short, fit-terms, fit-place, fit-finish, fit-written}
 use Rattle.grouping.proofs.group_family.Statement.{statement}
 use Rattle.grouping.proofs.group_family.Tie as tie
 

@@ -7,15 +7,13 @@ use native.Mathlib.Omega.{arith}
 use lib.ListN.{length, take, drop, length-take}
 use Rattle.semantics.specs.Check.{readSheet}
 use Rattle.semantics.specs.Walk.{order}
-use Rattle.records.specs.Access.{recordsOf, AllRootsInside}
+use Rattle.records.specs.Access.{counts, fields, recordsOf, AllRootsInside}
 use Rattle.records.specs.Orders.{Visiting}
-use Rattle.records.proofs.Reading.{counts, fields}
 use Rattle.expand.specs.declared.Expanded.{Expanded}
 use Rattle.expand.specs.Walking.{Holds, Expands, Walking}
 use Rattle.constraint_lists.specs.Lists.{CheckedSheet}
 use Rattle.constraint_lists.proofs.Walked.{walk-starts, walk-ends}
-use Rattle.interaction_lists.proofs.Walked.{interactions-there, counts-there, fields-there, counts-below}
-use Rattle.interaction_lists.proofs.Walked.{first-refused, second-walking, both-walked}
+use Rattle.interaction_lists.proofs.Walked.{interactions-there, counts-there, fields-there, counts-below, first-refused, second-walking, both-walked}
 use borrow.Author.Needs.{needs}
 use Rattle.interaction_lists.proofs.walk_interactions.Statement.{statement}
 use Rattle.interaction_lists.proofs.walk_interactions.Tie as tie

@@ -7,8 +7,7 @@ use Rattle.semantics.specs.Check.{readSheet}
 use Rattle.semantics.specs.Group.{Root, labelled}
 use Rattle.records.specs.Access.{part}
 use Rattle.grouping.specs.Families.{isInteraction, rootsOf, constraintRoot, eachRoots, countRootAt, fieldRootsAt}
-use Rattle.grouping.proofs.RootItems.{constraint-span, constraint-labelled, interaction-span, count-labelled, field-labelled}
-use Rattle.grouping.proofs.RootItems.{named-ready, named-placed}
+use Rattle.grouping.proofs.RootItems.{constraint-span, constraint-labelled, interaction-span, count-labelled, field-labelled, named-ready, named-placed}
 use Rattle.grouping.proofs.families.place_family.Statement.{statement}
 use Rattle.grouping.proofs.families.place_family.Tie as tie
 
