@@ -1,3 +1,4 @@
+-- The fault's number and the record's place.
 use Rattle.expand.specs.Walking.{refusedBy}
 use mathlib.Core.Path.{sym, ap}
 use borrow.Author.Needs.{needs}

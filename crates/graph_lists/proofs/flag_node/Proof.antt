@@ -1,3 +1,4 @@
+-- A node that has the flag stays as it is; another one's word is set.
 use mathlib.Core.Path.{sym, ap, _∙_}
 use mathlib.Core.Bool.{Bool, cond}
 use Prim.Native.Nat.{_+_}
@@ -19,7 +20,9 @@ returns : tie.Need-returns
 unfolding flagWord
 returns c =
     let a = c .before .before .args in
-    sym (ap (λ (b : Bool). set (a .scratch .now) (a .node) (cond b (getD (a .scratch .now) (a .node) 0) (getD (a .scratch .now) (a .node) 0 + 65536))) (le-leb 65536 (getD (a .scratch .now) (a .node) 0) (c .if1 .taken)) ∙ set-getD (a .scratch .now) (a .node) 0)
+    let s = a .scratch .now in
+    let word = getD s (a .node) 0 in
+    sym (ap (λ (b : Bool). set s (a .node) (cond b word (word + 65536))) (le-leb 65536 word (c .if1 .taken)) ∙ set-getD s (a .node) 0)
 
 add-scratch : tie.Need-add-scratch
 add-scratch c = search needs
@@ -37,7 +40,9 @@ returns-2 : tie.Need-returns-2
 unfolding flagWord
 returns-2 c =
     let a = c .before .before .args in
-    sym (ap (λ (b : Bool). set (a .scratch .now) (a .node) (cond b (getD (a .scratch .now) (a .node) 0) (getD (a .scratch .now) (a .node) 0 + 65536))) (lt-leb 65536 (getD (a .scratch .now) (a .node) 0) (c .if1 .left)))
+    let s = a .scratch .now in
+    let word = getD s (a .node) 0 in
+    sym (ap (λ (b : Bool). set s (a .node) (cond b word (word + 65536))) (lt-leb 65536 word (c .if1 .left)))
 
 pub flag-node-spec : {M : Type 1} → statement M
 flag-node-spec =

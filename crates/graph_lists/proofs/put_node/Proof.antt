@@ -1,3 +1,4 @@
+-- Nothing is written where the node is not wanted; one word is where it is.
 use mathlib.Core.Path.{sym, ap, subst, _∙_}
 use mathlib.Core.Bool.{Bool}
 use Prim.Native.Nat.{_+_, _<_}
@@ -11,27 +12,31 @@ use Rattle.slices.proofs.Puts.{put-none, put-one}
 use Rattle.graph_lists.proofs.put_node.Statement.{statement}
 use Rattle.graph_lists.proofs.put_node.Tie as tie
 
+place-inside : (c : tie.Else1) → c .before .args .at < length (c .before .args .out .now)
+place-inside c =
+    let a = c .before .args in
+    subst (λ (b : Bool). Wanted b (a .at) (a .out .now)) (not-false (a .wanted) (c .if1 .left)) (c .before .pre .1)
+
 returns : tie.Need-returns
 returns c =
     let a = c .before .args in
     let e = not-true (a .wanted) (c .if1 .taken) in
-    (sym (ap (λ (b : Bool). put (a .out .now) (a .at) (chosen b (a .node))) e ∙ put-none (a .out .now) (a .at)), sym (ap (λ (b : Bool). (a .at) + length (chosen b (a .node))) e ∙ add-zero (a .at)))
+    (
+      sym (ap (λ (b : Bool). put (a .out .now) (a .at) (chosen b (a .node))) e ∙ put-none (a .out .now) (a .at)),
+      sym (ap (λ (b : Bool). a .at + length (chosen b (a .node))) e ∙ add-zero (a .at)),
+    )
 
 cast-out : tie.Need-cast-out
 cast-out c = search needs
 
 mul-out : tie.Need-mul-out
-mul-out c =
-    let h : (c .before .args .at) < length (c .before .args .out .now) = subst (λ (b : Bool). Wanted b (c .before .args .at) (c .before .args .out .now)) (not-false (c .before .args .wanted) (c .if1 .left)) (c .before .pre .1) in
-    search needs
+mul-out c = let h = place-inside c in search needs
 
 slice-write-out : tie.Need-slice-write-out
-slice-write-out c = subst (λ (b : Bool). Wanted b (c .before .args .at) (c .before .args .out .now)) (not-false (c .before .args .wanted) (c .if1 .left)) (c .before .pre .1)
+slice-write-out c = place-inside c
 
 add-result : tie.Need-add-result
-add-result c =
-    let h : (c .before .args .at) < length (c .before .args .out .now) = subst (λ (b : Bool). Wanted b (c .before .args .at) (c .before .args .out .now)) (not-false (c .before .args .wanted) (c .if1 .left)) (c .before .pre .1) in
-    search needs
+add-result c = let h = place-inside c in search needs
 
 same-length : tie.Need-same-length
 same-length c = search needs
@@ -40,8 +45,10 @@ returns-2 : tie.Need-returns-2
 returns-2 c =
     let a = c .before .args in
     let e = not-false (a .wanted) (c .if1 .left) in
-    let h : (a .at) < length (a .out .now) = subst (λ (b : Bool). Wanted b (a .at) (a .out .now)) e (c .before .pre .1) in
-    (put-one (a .out .now) (a .at) (a .node) h ∙ ap (λ (b : Bool). put (a .out .now) (a .at) (chosen b (a .node))) (sym e), ap (λ (b : Bool). (a .at) + length (chosen b (a .node))) (sym e))
+    (
+      put-one (a .out .now) (a .at) (a .node) (place-inside c) ∙ ap (λ (b : Bool). put (a .out .now) (a .at) (chosen b (a .node))) (sym e),
+      ap (λ (b : Bool). a .at + length (chosen b (a .node))) (sym e),
+    )
 
 pub put-node-spec : {M : Type 1} → statement M
 put-node-spec =

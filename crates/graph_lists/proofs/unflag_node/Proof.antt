@@ -1,3 +1,4 @@
+-- A node that has no flag stays as it is; another one's word is set, and the answer says which.
 use mathlib.Core.Path.{sym, ap, _∙_}
 use mathlib.Core.Bool.{Bool, cond}
 use Prim.Native.Nat.{_-_}
@@ -19,7 +20,10 @@ returns : tie.Need-returns
 unfolding plainWord
 returns c =
     let a = c .before .before .args in
-    (sym (lt-leb 65536 (getD (a .scratch .now) (a .node) 0) (c .if1 .taken)), sym (ap (λ (b : Bool). set (a .scratch .now) (a .node) (cond b (getD (a .scratch .now) (a .node) 0 - 65536) (getD (a .scratch .now) (a .node) 0))) (lt-leb 65536 (getD (a .scratch .now) (a .node) 0) (c .if1 .taken)) ∙ set-getD (a .scratch .now) (a .node) 0))
+    let s = a .scratch .now in
+    let word = getD s (a .node) 0 in
+    let plain = lt-leb 65536 word (c .if1 .taken) in
+    (sym plain, sym (ap (λ (b : Bool). set s (a .node) (cond b (word - 65536) word)) plain ∙ set-getD s (a .node) 0))
 
 mul-scratch : tie.Need-mul-scratch
 mul-scratch c = search needs
@@ -34,7 +38,10 @@ returns-2 : tie.Need-returns-2
 unfolding plainWord
 returns-2 c =
     let a = c .before .before .args in
-    (sym (le-leb 65536 (getD (a .scratch .now) (a .node) 0) (c .if1 .left)), sym (ap (λ (b : Bool). set (a .scratch .now) (a .node) (cond b (getD (a .scratch .now) (a .node) 0 - 65536) (getD (a .scratch .now) (a .node) 0))) (le-leb 65536 (getD (a .scratch .now) (a .node) 0) (c .if1 .left))))
+    let s = a .scratch .now in
+    let word = getD s (a .node) 0 in
+    let flagged = le-leb 65536 word (c .if1 .left) in
+    (sym flagged, sym (ap (λ (b : Bool). set s (a .node) (cond b (word - 65536) word)) flagged))
 
 pub unflag-node-spec : {M : Type 1} → statement M
 unflag-node-spec =

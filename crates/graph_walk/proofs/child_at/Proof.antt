@@ -1,3 +1,4 @@
+-- The first child is the left one; the second is the right one, or a Neg's only one.
 use mathlib.Core.Path.{sym, _∙_}
 use borrow.Author.Needs.{needs}
 use borrow.Author.Tests.{eq-eqb, ne-eqb}

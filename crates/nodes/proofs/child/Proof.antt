@@ -1,3 +1,4 @@
+-- The node's record is read, of which the rules look at the kind and the word a.
 use mathlib.Core.Path.{_≡_, refl, ap, _∙_}
 use native.Mathlib.Omega.{arith}
 use borrow.Author.Needs.{needs}

@@ -1,3 +1,4 @@
+-- The node that the search finds is the one, or there is none and it is written behind the others.
 use Prim.Native.Nat.{_+_}
 use native.Mathlib.Omega.{arith}
 use borrow.Author.Needs.{needs}

@@ -1,3 +1,4 @@
+-- The constraints start where the records end, whose count is in the head.
 use mathlib.Core.Path.{ap, _∙_}
 use native.Mathlib.Omega.{arith}
 use borrow.Author.Needs.{needs}

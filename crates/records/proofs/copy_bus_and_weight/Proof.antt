@@ -1,3 +1,4 @@
+-- Two words are copied one behind the other.
 use mathlib.Core.List.{[], _∷_}
 use Prim.Native.Nat.{_+_}
 use borrow.Author.Needs.{needs}

@@ -1,3 +1,4 @@
+-- The length of the message is read, and says where the rest stands.
 use mathlib.Core.Path.{ap, _∙_}
 use borrow.Author.Needs.{needs}
 use Rattle.records.specs.Access.{interactionFrom}

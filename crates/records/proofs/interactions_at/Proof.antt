@@ -1,3 +1,4 @@
+-- The interactions start where the constraints end.
 use Rattle.records.proofs.Reading.{places-small}
 use native.Mathlib.Omega.{arith}
 use borrow.Author.Needs.{needs}

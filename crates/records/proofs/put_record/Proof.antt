@@ -1,3 +1,4 @@
+-- Five words are written one behind the other, from the record's place on.
 use mathlib.Core.Path.{ap, _∙_}
 use mathlib.Core.List.{[], _∷_}
 use Prim.Native.Nat.{ℕ}

@@ -1,3 +1,4 @@
+-- Each monomial is negated on its way into the work.
 use Rattle.expand.proofs.Working.{neg-made}
 use borrow.Author.Needs.{needs}
 use Rattle.expand.proofs.kinds.expand_neg.Statement.{statement}

@@ -1,3 +1,4 @@
+-- Both kinds are a constant's.
 use mathlib.Core.Path.{refl}
 use borrow.Author.Tests.{eq-eqb, ne-eqb}
 use Rattle.records.proofs.Writing.{and-fails, and-goes}

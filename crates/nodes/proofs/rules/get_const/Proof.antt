@@ -1,3 +1,4 @@
+-- The kind says whether it is a constant, and its word a which.
 use mathlib.Core.Path.{refl, sym, _∙_}
 use borrow.Author.Tests.{eq-eqb, ne-eqb}
 use Rattle.nodes.specs.declared.rules.Option.the-variants.{Some, None}
