@@ -96,8 +96,7 @@ module _ {s₀ out₀ : List ℕ} {at nodes : ℕ} {s out : List ℕ} {next node
   -- All entries are done.
   pub swept-done : nodes ≤ node → (s ≡ tabulate 0 (length s₀) (plainBelow nodes s₀)) × (out ≡ put out₀ at (flaggedAmong 0 nodes s₀)) × (next ≡ at + length (flaggedAmong 0 nodes s₀))
   swept-done l =
-      let e : node ≡ nodes = omega (arith, h .node-le) in
-      (
+      let e : node ≡ nodes = omega (arith, h .node-le) in (
         h .scratch-is ∙ ap (λ (k : ℕ). tabulate 0 (length s₀) (plainBelow k s₀)) e,
         h .out-is ∙ ap (λ (k : ℕ). put out₀ at (flaggedAmong 0 k s₀)) e,
         h .next-is ∙ ap (λ (k : ℕ). at + length (flaggedAmong 0 k s₀)) e,

@@ -122,6 +122,6 @@ module _ (ws : List ℕ) (ns : List Record) (e : ws ≡ nodesOut (length ws) ns)
       let more : ns ++ (q ∷ []) ≡ intern q ns = sym (cond-false (ltb (find q ns) (length ns)) ns (ns ++ (q ∷ [])) (le-ltb (find q ns) (length ns) (omega (arith, found-is)))) in (
         omega (arith, found-is, f .inside),
         w ∙ (λ i. sets (e i) (place 5 (z i)) (recordWords q))
-        ∙ nodes-more (length ws) ns q (omega (arith, ap (λ (k : ℕ). place 5 (k + 1)) z)) ∙ ap (nodesOut (length ws)) more,
+            ∙ nodes-more (length ws) ns q (omega (arith, ap (λ (k : ℕ). place 5 (k + 1)) z)) ∙ ap (nodesOut (length ws)) more,
         ap (λ (k : ℕ). k + 1) z ∙ sym (length-append ns (q ∷ [])) ∙ ap length more,
       )

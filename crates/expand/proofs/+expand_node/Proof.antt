@@ -222,8 +222,7 @@ module _ (t : ℕ) where
   expand-node-requires : lts.Need-expand-node-requires (claims t) (At t) expand-node.Post
   expand-node-requires c κs =
       let k = named-parent c in
-      let n = parent-new k in
-      (
+      let n = parent-new k in (
         subst (λ (m : ℕ). c .left-at .result < m) (start n .pre .0) (left-low (fresh n) (parent k) (c .left-at .ensures)),
         ready-left (fresh n) (parent k) (c .left-at .ensures),
       )
@@ -274,8 +273,7 @@ module _ (t : ℕ) where
   expand-node-requires-2 c κs =
       let k = named-two c in
       let l = taken-left (two-left k) in
-      let g = two-left k .before .answer .given .1 in
-      (
+      let g = two-left k .before .answer .given .1 in (
         subst (λ (m : ℕ). c .right-at .result < m) (start (left-new l) .pre .0) (right-low (left l) g (two k) (c .right-at .ensures)),
         ready-right (left l) g (two k) (c .right-at .ensures),
       )

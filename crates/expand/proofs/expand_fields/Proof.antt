@@ -44,8 +44,7 @@ expand-names-requires : tie.Need-expand-names-requires Inv-loop μ-loop
 expand-names-requires c κs =
     let k = c .before .before in
     let l = in-loop k in
-    let s = start l in
-    (
+    let s = start l in (
       passing-walking (s .pre .0) (l .loop .inv),
       names-next (s .pre .0) (l .loop .inv) (k .before .loop-test .taken) (fields-taken (s .args .sheet .now)) (k .interaction-at .ensures),
     )

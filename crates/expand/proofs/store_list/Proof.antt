@@ -83,8 +83,7 @@ returns-2 c =
     let k = fits (w .before) in
     let a = start k .args in
     let l : List semantics.Monomial = held (a .count) (a .work .now) in
-    let tail = tail-written (a .pool .now) (w .write-list .last .1 .1 .0) (listWords l) (a .used) (listSize l) (w .write-list .ensures) in
-    (
+    let tail = tail-written (a .pool .now) (w .write-list .last .1 .1 .0) (listWords l) (a .used) (listSize l) (w .write-list .ensures) in (
       omega (arith, k .before .list-size .ensures),
       omega (arith, k .if1 .left),
       λ i. set (set (tail i) (2 * a .r) (a .used)) (2 * a .r + 1) (sym (held-length (a .count) (a .work .now)) i),

@@ -20,8 +20,7 @@ place-inside c =
 returns : tie.Need-returns
 returns c =
     let a = c .before .args in
-    let e = not-true (a .wanted) (c .if1 .taken) in
-    (
+    let e = not-true (a .wanted) (c .if1 .taken) in (
       sym (ap (λ (b : Bool). put (a .out .now) (a .at) (chosen b (a .node))) e ∙ put-none (a .out .now) (a .at)),
       sym (ap (λ (b : Bool). a .at + length (chosen b (a .node))) e ∙ add-zero (a .at)),
     )
@@ -44,8 +43,7 @@ same-length c = search needs
 returns-2 : tie.Need-returns-2
 returns-2 c =
     let a = c .before .args in
-    let e = not-false (a .wanted) (c .if1 .left) in
-    (
+    let e = not-false (a .wanted) (c .if1 .left) in (
       put-one (a .out .now) (a .at) (a .node) (place-inside c) ∙ ap (λ (b : Bool). put (a .out .now) (a .at) (chosen b (a .node))) (sym e),
       ap (λ (b : Bool). a .at + length (chosen b (a .node))) (sym e),
     )

@@ -81,8 +81,7 @@ loop-again c =
     let k = c .before in
     let loop = in-loop k .loop in
     let p = node-start c .pre in
-    let a = node-start c .args in
-    (
+    let a = node-start c .args in (
       omega arith,
       length-set (loop .out) _ _ ∙ loop .inv .1,
       naming-more (p .0) (left k) (a .out .now) (a .to) (p .1) (loop .inv .2) (number-is (p .0) (left k) (k .wide .ensures) (c .node-number .ensures)),

@@ -158,8 +158,7 @@ module _ (t : ℕ) where
       let k = c .before .before in
       let l = in-loop k in
       let s = start (parent-new (l .before)) in
-      let e = k .child-at .ensures in
-      (
+      let e = k .child-at .ensures in (
         subst (λ (m : ℕ). k .child-at .result < m) (s .pre .0) (child-below (s .pre .1) (parent (l .before)) (l .loop .inv) e),
         child-ready (s .pre .1) (parent (l .before)) (l .loop .inv) e,
       )

@@ -48,8 +48,7 @@ add-names-requires-2 : tie.Need-add-names-requires-2
 add-names-requires-2 c κs =
     let v = fields-added c .add-names in
     let r = is-read (fields-added c) in
-    let a = start r .args in
-    (
+    let a = start r .args in (
       walking-after (a .sheet .now) _ (fields-below r) (a .scratch .now) (a .out .now) (a .n) (v .last .1 .1 .1 .0) (v .last .1 .1 .1 .1 .0) (v .result)
           (start r .pre .0) (v .kept .1 .1 .1 .1 .0) (v .ensures),
       count r,

@@ -48,8 +48,7 @@ loop-again : tie.Need-loop-again Inv-loop μ-loop
 loop-again c =
     let k = c .before in
     let loop = in-loop k .loop in
-    let a = start (in-loop k) .args in
-    (
+    let a = start (in-loop k) .args in (
       omega arith,
       omega arith,
       skips (λ k. equalRecords (fiveWords (a .r)) (nodeIn (a .out .now) k) ≡ false) (a .from) (loop .i) (loop .inv .2) (sym (k .same-record .ensures) ∙ c .if1 .left),
