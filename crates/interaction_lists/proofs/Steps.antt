@@ -1,7 +1,7 @@
 -- The steps of an expansion, in the order of its refusals.
 use mathlib.Core.Path.{_≡_, refl, sym, ap, subst, _∙_}
 use mathlib.Core.List.{List, [], _∷_, _++_, map, map-append}
-use Prim.Native.Nat.{ℕ, _+_, _*_, _≤_}
+use Prim.Native.Nat.{ℕ, _+_, _*_, _≤_, _<_}
 use native.Mathlib.Omega.{arith}
 use lib.ListN.{length}
 use Rattle.semantics.specs.Arithmetic.{prime}
@@ -21,18 +21,32 @@ use Rattle.expand.specs.Walking.{Holds, Expands}
 use Rattle.grouping.specs.declared.Grouped.{Grouped}
 use Rattle.grouping.specs.declared.Grouped.the-variants as grouped
 use Rattle.grouping.specs.Families.{groupsOf, Laid}
-use Rattle.constraint_lists.proofs.Steps.{walk-refused, walk-done, fits, short, front-take}
+use Rattle.constraint_lists.proofs.Steps.{work-short, pool-short, walk-refused, walk-done, fits, short, front-take}
 use Rattle.interaction_lists.specs.declared.InteractionLists.{InteractionLists}
 use Rattle.interaction_lists.specs.declared.InteractionLists.the-variants as interaction
 use Rattle.grouping.proofs.Slices.{later-none, later-short, first-none, first-short}
 use Rattle.grouping.specs.declared.Lengths.{Lengths}
-use Rattle.constraint_lists.specs.Lists.{tooShort, expansionOf, refusalOf, shortOf}
+use Rattle.constraint_lists.specs.Lists.{Fit, tooShort, expansionOf, refusalOf, shortOf}
 use Rattle.interaction_lists.specs.Lists.{interactionAnswer, BothInside}
+
+-- Lists that are written stand inside their slices.
+written-inside : (gs : List Group) (h v t : List ℕ) (a : Lengths) → Laid interactionTerm gs h v t (grouped.Written a) → Fit a h v t
+written-inside gs h v t a (z, fh, fv, ft, eh, ev, et) = (
+  subst (λ (n : ℕ). n ≤ length h) (sym eh) (fh .0),
+  subst (λ (n : ℕ). n ≤ length v) (sym ev) (fv .0),
+  subst (λ (n : ℕ). n ≤ length t) (sym et) (ft .0),
+)
 
 -- Both families of the interactions.
 module _ (gs ks : List Group) (h v t h₂ v₂ t₂ : List ℕ) where
+  abbrev lent-first : List ℕ
+  lent-first = length h ∷ length v ∷ length t ∷ []
+
+  abbrev lent-second : List ℕ
+  lent-second = length h₂ ∷ length v₂ ∷ length t₂ ∷ []
+
   abbrev lent : List ℕ
-  lent = length h ∷ length v ∷ length t ∷ length h₂ ∷ length v₂ ∷ length t₂ ∷ []
+  lent = length h ∷ length v ∷ length t ∷ lent-second
 
   abbrev both : List (List ℕ)
   both = layout interactionTerm gs ++ layout interactionTerm ks
@@ -42,26 +56,25 @@ module _ (gs ks : List Group) (h v t h₂ v₂ t₂ : List ℕ) where
   unfolding layout
   counts-short g k l e numbers =
       let m = subst (Laid interactionTerm gs h v t) e l in
-      let n : firstShort 1 (layout interactionTerm gs) (length h ∷ length v ∷ length t ∷ []) ≡ 0 → ⊥ = λ z. m .1 (sym (m .0) ∙ z) in
+      let n : firstShort 1 (layout interactionTerm gs) lent-first ≡ 0 → ⊥ = λ z. m .1 (sym (m .0) ∙ z) in
       short both lent numbers k
-      (first-short 0 (layout interactionTerm gs) (layout interactionTerm ks) (length h ∷ length v ∷ length t ∷ []) (length h₂ ∷ length v₂ ∷ length t₂ ∷ []) refl n ∙ m .0) (m .1)
+      (first-short 0 (layout interactionTerm gs) (layout interactionTerm ks) lent-first lent-second refl n ∙ m .0) (m .1)
 
   module _ (g : Grouped) (a : Lengths) (l : Laid interactionTerm gs h v t g) (e : g ≡ grouped.Written a) where
     first : Laid interactionTerm gs h v t (grouped.Written a)
     first = subst (Laid interactionTerm gs h v t) e l
 
-    goes-on : firstShort 1 both lent ≡ firstShort 4 (layout interactionTerm ks) (length h₂ ∷ length v₂ ∷ length t₂ ∷ [])
+    goes-on : firstShort 1 both lent ≡ firstShort 4 (layout interactionTerm ks) lent-second
     unfolding layout
-    goes-on =
-        first-none 0 (layout interactionTerm gs) (layout interactionTerm ks) (length h ∷ length v ∷ length t ∷ []) (length h₂ ∷ length v₂ ∷ length t₂ ∷ []) refl (first .0)
+    goes-on = first-none 0 (layout interactionTerm gs) (layout interactionTerm ks) lent-first lent-second refl (first .0)
 
     pub fields-short : (g₂ : Grouped) (k : ℕ) → Laid interactionTerm ks h₂ v₂ t₂ g₂ → g₂ ≡ grouped.Short k → (numbers : List ℕ)
         → refused 17 (3 + k) ≡ fitted both lent numbers
     fields-short g₂ k l₂ e₂ numbers =
         let m = subst (Laid interactionTerm ks h₂ v₂ t₂) e₂ l₂ in
-        let n : firstShort 1 (layout interactionTerm ks) (length h₂ ∷ length v₂ ∷ length t₂ ∷ []) ≡ 0 → ⊥ = λ z. m .1 (sym (m .0) ∙ z) in
+        let n : firstShort 1 (layout interactionTerm ks) lent-second ≡ 0 → ⊥ = λ z. m .1 (sym (m .0) ∙ z) in
         short both lent numbers (3 + k)
-        (goes-on ∙ later-short 3 0 (layout interactionTerm ks) (length h₂ ∷ length v₂ ∷ length t₂ ∷ []) n ∙ ap (λ (x : ℕ). 3 + x) (m .0)) (λ z. absurd (omega (arith, z)))
+        (goes-on ∙ later-short 3 0 (layout interactionTerm ks) lent-second n ∙ ap (λ (x : ℕ). 3 + x) (m .0)) (λ z. absurd (omega (arith, z)))
 
     module _ (g₂ : Grouped) (b : Lengths) (l₂ : Laid interactionTerm ks h₂ v₂ t₂ g₂) (e₂ : g₂ ≡ grouped.Written b) (ni mf : ℕ) where
       abbrev answer : InteractionLists
@@ -74,22 +87,31 @@ module _ (gs ks : List Group) (h v t h₂ v₂ t₂ : List ℕ) where
       unfolding layout
       both-fit = (
         (λ i. good (record {
-          outputs = front-take (a .headers) (headers 0 0 gs) h (first .1) (first .4) i ∷ front-take (a .variables) (variables gs) v (first .2) (first .5) i
+          outputs =
+              front-take (a .headers) (headers 0 0 gs) h (first .1) (first .4) i
+              ∷ front-take (a .variables) (variables gs) v (first .2) (first .5) i
               ∷ front-take (a .terms) (terms interactionTerm gs) t (first .3) (first .6) i
-              ∷ front-take (b .headers) (headers 0 0 ks) h₂ (second .1) (second .4) i ∷ front-take (b .variables) (variables ks) v₂ (second .2) (second .5) i
+              ∷ front-take (b .headers) (headers 0 0 ks) h₂ (second .1) (second .4) i
+              ∷ front-take (b .variables) (variables ks) v₂ (second .2) (second .5) i
               ∷ front-take (b .terms) (terms interactionTerm ks) t₂ (second .3) (second .6) i ∷ [];
           numbers = ni ∷ mf ∷ [];
         }))
-            ∙ fits both lent (ni ∷ mf ∷ []) (goes-on ∙ later-none 3 0 (layout interactionTerm ks) (length h₂ ∷ length v₂ ∷ length t₂ ∷ []) (second .0)),
-        (
-          (subst (λ (n : ℕ). n ≤ length h) (sym (first .4)) (first .1 .0), subst (λ (n : ℕ). n ≤ length v) (sym (first .5)) (first .2 .0), subst (λ (n : ℕ). n ≤ length t) (sym (first .6)) (first .3 .0)),
-          (subst (λ (n : ℕ). n ≤ length h₂) (sym (second .4)) (second .1 .0), subst (λ (n : ℕ). n ≤ length v₂) (sym (second .5)) (second .2 .0), subst (λ (n : ℕ). n ≤ length t₂) (sym (second .6)) (second .3 .0)),
-        ),
+            ∙ fits both lent (ni ∷ mf ∷ []) (goes-on ∙ later-none 3 0 (layout interactionTerm ks) lent-second (second .0)),
+        (written-inside gs h v t a first, written-inside ks h₂ v₂ t₂ b second),
       )
 
+-- Three slices have the lengths that were lent.
+pub record Kept (lh lv lt : ℕ) (h v t : List ℕ) : Type 0 where
+  pub headers-long : length h ≡ lh
+  pub variables-long : length v ≡ lv
+  pub terms-long : length t ≡ lt
+
+pub unchanged : (h v t : List ℕ) → Kept (length h) (length v) (length t) h v t
+unchanged h v t = record { headers-long = refl; variables-long = refl; terms-long = refl }
+
 -- The interaction call on a checked sheet.
-module _ (ws : List ℕ) (lh lv lt lh₂ lv₂ lt₂ : ℕ) (h v t h₂ v₂ t₂ : List ℕ) (eh : length h ≡ lh) (ev : length v ≡ lv) (et : length t ≡ lt)
-    (eh₂ : length h₂ ≡ lh₂) (ev₂ : length v₂ ≡ lv₂) (et₂ : length t₂ ≡ lt₂) where
+module _ (ws : List ℕ) {lh lv lt lh₂ lv₂ lt₂ : ℕ} {h v t h₂ v₂ t₂ : List ℕ}
+    (numerators : Kept lh lv lt h v t) (denominators : Kept lh₂ lv₂ lt₂ h₂ v₂ t₂) where
   abbrev sheet : Sheet
   sheet = readSheet ws
 
@@ -102,12 +124,19 @@ module _ (ws : List ℕ) (lh lv lt lh₂ lv₂ lt₂ : ℕ) (h v t h₂ v₂ t�
   abbrev numbersOf : List ℕ
   numbersOf = length (sheet .interactions) ∷ maxFieldsLen sheet ∷ []
 
+  abbrev outputsOf : List (List ℕ)
+  outputsOf = layout interactionTerm gC ++ layout interactionTerm gF
+
   abbrev lists : Answer Result
   lists = fitted (interactionOutputs prime sheet) (lh ∷ lv ∷ lt ∷ lh₂ ∷ lv₂ ∷ lt₂ ∷ []) numbersOf
 
-  lent-is : fitted (layout interactionTerm gC ++ layout interactionTerm gF) (length h ∷ length v ∷ length t ∷ length h₂ ∷ length v₂ ∷ length t₂ ∷ []) numbersOf ≡ lists
+  lent-is : fitted outputsOf (length h ∷ length v ∷ length t ∷ length h₂ ∷ length v₂ ∷ length t₂ ∷ []) numbersOf ≡ lists
   unfolding interactionOutputs family
-  lent-is = λ i. fitted (layout interactionTerm gC ++ layout interactionTerm gF) (eh i ∷ ev i ∷ et i ∷ eh₂ i ∷ ev₂ i ∷ et₂ i ∷ []) numbersOf
+  lent-is =
+      λ i. fitted outputsOf
+      (numerators .headers-long i ∷ numerators .variables-long i ∷ numerators .terms-long i
+      ∷ denominators .headers-long i ∷ denominators .variables-long i ∷ denominators .terms-long i ∷ [])
+      numbersOf
 
   pub counts-refused : (g : Grouped) (q : Refusal) → Laid interactionTerm gC h v t g → (k : ℕ) → g ≡ grouped.Short k → q ≡ shortOf g 0
       → (interactionAnswer (interaction.Refused q) h v t h₂ v₂ t₂ ≡ lists) × BothInside (interaction.Refused q) h v t h₂ v₂ t₂
@@ -125,43 +154,60 @@ module _ (ws : List ℕ) (lh lv lt lh₂ lv₂ lt₂ : ℕ) (h v t h₂ v₂ t�
 
     pub all-written : (g₂ : Grouped) (b : Lengths) → Laid interactionTerm gF h₂ v₂ t₂ g₂ → g₂ ≡ grouped.Written b
         → (ni mf : ℕ) → ni ≡ length (sheet .interactions) → mf ≡ maxFieldsLen sheet
-        → (r : InteractionLists) → r ≡ interaction.Written (record { numerators = a; denominators = b; «num_interactions» = ni; «max_fields_len» = mf })
+        → (r : InteractionLists)
+        → r ≡ interaction.Written (record { numerators = a; denominators = b; «num_interactions» = ni; «max_fields_len» = mf })
         → (interactionAnswer r h v t h₂ v₂ t₂ ≡ lists) × BothInside r h v t h₂ v₂ t₂
     all-written g₂ b l₂ e₂ ni mf en em r er =
         let w = both-fit gC gF h v t h₂ v₂ t₂ g a l e g₂ b l₂ e₂ ni mf in (
           ap (λ (x : InteractionLists). interactionAnswer x h v t h₂ v₂ t₂) er ∙ w .0
-              ∙ (λ i. fitted (layout interactionTerm gC ++ layout interactionTerm gF) (length h ∷ length v ∷ length t ∷ length h₂ ∷ length v₂ ∷ length t₂ ∷ []) (en i ∷ em i ∷ []))
+              ∙ (λ i. fitted outputsOf (length h ∷ length v ∷ length t ∷ length h₂ ∷ length v₂ ∷ length t₂ ∷ []) (en i ∷ em i ∷ []))
               ∙ lent-is,
           subst (λ (x : InteractionLists). BothInside x h v t h₂ v₂ t₂) (sym er) (w .1),
         )
 
-module _ (ws : List ℕ) (work pool : ℕ) (lent : List ℕ) (enough : 4096 ≤ work) (room : 2 * length (readSheet ws .records) ≤ pool) where
+-- The refusals of the interaction call before its lists are grouped, and what it is once all is walked.
+module _ (ws : List ℕ) (work pool : ℕ) (lent : List ℕ) where
   abbrev sh : Sheet
   sh = readSheet ws
+
+  abbrev rootsOf : Sheet → List Root
+  rootsOf s = countRoots s ++ fieldRoots s
+
+  abbrev numbers : Sheet → List ℕ
+  numbers s = length (s .interactions) ∷ maxFieldsLen s ∷ []
 
   abbrev all : List ℕ
   all = order (recordsOf ws) (counts (sh .interactions) ++ fields (sh .interactions))
 
   abbrev wholeCall : Answer Result
-  wholeCall = expansionOf work pool lent (λ s. countRoots s ++ fieldRoots s) (interactionOutputs prime) (λ s. length (s .interactions) ∷ maxFieldsLen s ∷ []) sh
+  wholeCall = expansionOf work pool lent rootsOf (interactionOutputs prime) numbers sh
+
+  pub work-refused : work < 4096 → refused 14 4096 ≡ wholeCall
+  work-refused = work-short work pool lent rootsOf (interactionOutputs prime) numbers sh
 
   same-walk : expandAll prime (recordsOf ws) pool all
-      ≡ expandAll prime (sh .records) pool (order (sh .records) (map (λ (r : Root). r .node) (countRoots sh ++ fieldRoots sh)))
+      ≡ expandAll prime (sh .records) pool (order (sh .records) (map (λ (r : Root). r .node) (rootsOf sh)))
   same-walk =
       ap (λ (l : List ℕ). expandAll prime (sh .records) pool (order (sh .records) l))
       (sym (map-append (λ (r : Root). r .node) (countRoots sh) (fieldRoots sh) ∙ (λ i. count-nodes sh i ++ field-nodes sh i)))
 
-  pub interactions-refused : (w : Expanded) (q v₁ : Refusal) (pool′ : List ℕ) → length pool′ ≡ pool → Expands ws pool′ w all → w ≡ expanded.Refused v₁ → q ≡ refusalOf w
-      → refused (q .number) (q .place) ≡ wholeCall
-  interactions-refused w q v₁ pool′ e f g r =
-      let x : expandAll prime (recordsOf ws) (length pool′) all ≡ refused (v₁ .number) (v₁ .place) = subst (λ (u : Expanded). Expands ws pool′ u all) g f in
-      let y : q ≡ v₁ = r ∙ ap refusalOf g in
-      (λ i. refused (y i .number) (y i .place))
-      ∙ walk-refused work pool lent (λ s. countRoots s ++ fieldRoots s) (interactionOutputs prime) (λ s. length (s .interactions) ∷ maxFieldsLen s ∷ []) sh enough room (v₁ .number) (v₁ .place)
-      (sym same-walk ∙ subst (λ (n : ℕ). expandAll prime (recordsOf ws) n all ≡ refused (v₁ .number) (v₁ .place)) e x)
+  module _ (enough : 4096 ≤ work) where
+    pub pool-refused : (k : ℕ) → k ≡ 2 * length (sh .records) → pool < k → refused 14 k ≡ wholeCall
+    pool-refused = pool-short work pool lent rootsOf (interactionOutputs prime) numbers sh enough
 
-  pub interactions-walked : (used : ℕ) (pool′ : List ℕ) → length pool′ ≡ pool → Holds ws all pool′ used
-      → fitted (interactionOutputs prime sh) lent (length (sh .interactions) ∷ maxFieldsLen sh ∷ []) ≡ wholeCall
-  interactions-walked used pool′ e holds =
-      walk-done work pool lent (λ s. countRoots s ++ fieldRoots s) (interactionOutputs prime) (λ s. length (s .interactions) ∷ maxFieldsLen s ∷ []) sh enough room used
-      (sym same-walk ∙ subst (λ (n : ℕ). expandAll prime (recordsOf ws) n all ≡ good used) e (holds .used-is))
+    module _ (room : 2 * length (sh .records) ≤ pool) where
+      pub interactions-refused : (w : Expanded) (q v₁ : Refusal) (pool′ : List ℕ) → length pool′ ≡ pool → Expands ws pool′ w all
+          → w ≡ expanded.Refused v₁ → q ≡ refusalOf w → refused (q .number) (q .place) ≡ wholeCall
+      interactions-refused w q v₁ pool′ e f g r =
+          let x : expandAll prime (recordsOf ws) (length pool′) all ≡ refused (v₁ .number) (v₁ .place) =
+          subst (λ (u : Expanded). Expands ws pool′ u all) g f in
+          let y : q ≡ v₁ = r ∙ ap refusalOf g in
+          (λ i. refused (y i .number) (y i .place))
+          ∙ walk-refused work pool lent rootsOf (interactionOutputs prime) numbers sh enough room (v₁ .number) (v₁ .place)
+          (sym same-walk ∙ subst (λ (n : ℕ). expandAll prime (recordsOf ws) n all ≡ refused (v₁ .number) (v₁ .place)) e x)
+
+      pub interactions-walked : (used : ℕ) (pool′ : List ℕ) → length pool′ ≡ pool → Holds ws all pool′ used
+          → fitted (interactionOutputs prime sh) lent (numbers sh) ≡ wholeCall
+      interactions-walked used pool′ e holds =
+          walk-done work pool lent rootsOf (interactionOutputs prime) numbers sh enough room used
+          (sym same-walk ∙ subst (λ (n : ℕ). expandAll prime (recordsOf ws) n all ≡ good used) e (holds .used-is))

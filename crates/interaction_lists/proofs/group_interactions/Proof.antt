@@ -1,4 +1,8 @@
+-- The counts are grouped, then the fields, then the longest message is found. Of each family: what was written, and that the slices keep
+-- their lengths.
 use mathlib.Core.Path.{refl, _∙_}
+use mathlib.Core.List.{List}
+use Prim.Native.Nat.{ℕ}
 use native.Mathlib.Omega.{arith}
 use lib.ListN.{length}
 use Rattle.semantics.specs.Check.{readSheet}
@@ -7,10 +11,71 @@ use Rattle.grouping.specs.Families.{groupsOf}
 use Rattle.interaction_lists.proofs.Walked.{interactions-there}
 use Rattle.interaction_lists.proofs.Messages.{longest-is}
 use Rattle.constraint_lists.proofs.Steps.{short-few}
-use Rattle.interaction_lists.proofs.Steps.{counts-refused, fields-refused, all-written}
+use Rattle.interaction_lists.proofs.Steps.{Kept, unchanged, counts-refused, fields-refused, all-written}
 use borrow.Author.Needs.{needs}
 use Rattle.interaction_lists.proofs.group_interactions.Statement.{statement}
 use Rattle.interaction_lists.proofs.group_interactions.Tie as tie
+
+abbrev words : tie.Start → List ℕ
+words s = s .args .s .now
+
+-- The counts are grouped.
+module _ (c : tie.After-group-counts) where
+  abbrev start : tie.Start
+  start = c .before .before .before .before .before .before .before .before .before .before .before .before
+
+  abbrev headers : List ℕ
+  headers = c .group-counts .last .1 .1 .0
+
+  abbrev variables : List ℕ
+  variables = c .group-counts .last .1 .1 .1 .0
+
+  abbrev terms : List ℕ
+  terms = c .group-counts .last .1 .1 .1 .1 .0
+
+  numerators : Kept (length (start .args .headers .now)) (length (start .args .variables .now)) (length (start .args .terms .now)) headers variables terms
+  numerators = record {
+    headers-long = c .group-counts .kept .1 .1 .0;
+    variables-long = c .group-counts .kept .1 .1 .1 .0;
+    terms-long = c .group-counts .kept .1 .1 .1 .1 .0;
+  }
+
+abbrev counted : tie.After-slice-known9 → tie.After-group-counts
+counted c = c .before .before .before .before .before .before
+
+abbrev counts-written : tie.After-known-told → tie.After-group-counts
+counts-written c = counted (c .before .before .before)
+
+-- The fields are grouped.
+module _ (c : tie.After-group-fields) where
+  abbrev counts-told : tie.After-known-told
+  counts-told = c .before .before .before .before
+
+  abbrev entry : tie.Start
+  entry = start (counts-written counts-told)
+
+  abbrev denom-headers : List ℕ
+  denom-headers = c .group-fields .last .1 .1 .0
+
+  abbrev denom-variables : List ℕ
+  denom-variables = c .group-fields .last .1 .1 .1 .0
+
+  abbrev denom-terms : List ℕ
+  denom-terms = c .group-fields .last .1 .1 .1 .1 .0
+
+  denominators : let a = entry .args in
+      Kept (length (a .denom-headers .now)) (length (a .denom-variables .now)) (length (a .denom-terms .now)) denom-headers denom-variables denom-terms
+  denominators = record {
+    headers-long = c .group-fields .kept .1 .1 .0;
+    variables-long = c .group-fields .kept .1 .1 .1 .0;
+    terms-long = c .group-fields .kept .1 .1 .1 .1 .0;
+  }
+
+abbrev listed : tie.After-slice-known12 → tie.After-group-fields
+listed c = c .before .before .before .before .before .before
+
+abbrev fields-written : tie.After-known-told2 → tie.After-group-fields
+fields-written c = listed (c .before .before .before)
 
 group-counts-requires : tie.Need-group-counts-requires
 group-counts-requires c κs = search needs
@@ -23,9 +88,12 @@ enum-told c = search needs
 
 too-short-requires : tie.Need-too-short-requires
 too-short-requires c κs =
-    let a = c .before .before .before .before .before .before .before .before .before .before .before .before .before .before .before .before .before .before .before .before .args in
-    let g = c .before .before .before .before .before .before .before .before .group-counts in
-    (omega arith, short-few interactionTerm (groupsOf (a .s .now) (countRoots (readSheet (a .s .now)))) (g .last .1 .1 .0) (g .last .1 .1 .1 .0) (g .last .1 .1 .1 .1 .0) (g .result) (g .ensures))
+    let g = counted (c .before .before) in
+    let ws = words (start g) in (
+      omega arith,
+      short-few interactionTerm (groupsOf ws (countRoots (readSheet ws))) (headers g) (variables g) (terms g)
+          (g .group-counts .result) (g .group-counts .ensures),
+    )
 
 same-length : tie.Need-same-length
 same-length c = search needs
@@ -38,10 +106,12 @@ same-length-3 c = search needs
 
 returns : tie.Need-returns
 returns c =
-    let a = c .before .before .before .before .before .before .before .before .before .before .before .before .before .before .before .before .before .before .before .before .before .args in
-    let g = c .before .before .before .before .before .before .before .before .before .group-counts in
-    counts-refused (a .s .now) (length (a .headers .now)) (length (a .variables .now)) (length (a .terms .now)) (length (a .denom-headers .now)) (length (a .denom-variables .now)) (length (a .denom-terms .now)) (g .last .1 .1 .0) (g .last .1 .1 .1 .0) (g .last .1 .1 .1 .1 .0) (a .denom-headers .now) (a .denom-variables .now) (a .denom-terms .now) (g .kept .1 .1 .0) (g .kept .1 .1 .1 .0) (g .kept .1 .1 .1 .1 .0) refl refl refl
-    (g .result) (c .too-short .result) (g .ensures) (c .before .enum-told .given .0 .0) (c .before .enum-told .given .1) (c .too-short .ensures)
+    let told = c .before in
+    let g = counted (told .before .before) in
+    let a = start g .args in
+    counts-refused (words (start g)) (numerators g) (unchanged (a .denom-headers .now) (a .denom-variables .now) (a .denom-terms .now))
+    (g .group-counts .result) (c .too-short .result) (g .group-counts .ensures)
+    (told .enum-told .given .0 .0) (told .enum-told .given .1) (c .too-short .ensures)
 
 group-fields-requires : tie.Need-group-fields-requires
 group-fields-requires c κs = search needs
@@ -54,9 +124,12 @@ enum-told-2 c = search needs
 
 too-short-requires-2 : tie.Need-too-short-requires-2
 too-short-requires-2 c κs =
-    let a = c .before .before .before .before .before .before .before .before .before .before .before .before .before .before .before .before .before .before .before .before .before .before .before .before .before .before .before .before .before .before .before .before .before .args in
-    let f = c .before .before .before .before .before .before .before .before .group-fields in
-    (omega arith, short-few interactionTerm (groupsOf (a .s .now) (fieldRoots (readSheet (a .s .now)))) (f .last .1 .1 .0) (f .last .1 .1 .1 .0) (f .last .1 .1 .1 .1 .0) (f .result) (f .ensures))
+    let f = listed (c .before .before) in
+    let ws = words (entry f) in (
+      omega arith,
+      short-few interactionTerm (groupsOf ws (fieldRoots (readSheet ws))) (denom-headers f) (denom-variables f) (denom-terms f)
+          (f .group-fields .result) (f .group-fields .ensures),
+    )
 
 same-length-4 : tie.Need-same-length-4
 same-length-4 c = search needs
@@ -78,21 +151,22 @@ same-length-9 c = search needs
 
 returns-2 : tie.Need-returns-2
 returns-2 c =
-    let a = c .before .before .before .before .before .before .before .before .before .before .before .before .before .before .before .before .before .before .before .before .before .before .before .before .before .before .before .before .before .before .before .before .before .before .args in
-    let g = c .before .before .before .before .before .before .before .before .before .before .before .before .before .before .before .before .before .before .before .before .before .before .group-counts in
-    let f = c .before .before .before .before .before .before .before .before .before .group-fields in
-    fields-refused (a .s .now) (length (a .headers .now)) (length (a .variables .now)) (length (a .terms .now)) (length (a .denom-headers .now)) (length (a .denom-variables .now)) (length (a .denom-terms .now)) (g .last .1 .1 .0) (g .last .1 .1 .1 .0) (g .last .1 .1 .1 .1 .0) (f .last .1 .1 .0) (f .last .1 .1 .1 .0) (f .last .1 .1 .1 .1 .0) (g .kept .1 .1 .0) (g .kept .1 .1 .1 .0) (g .kept .1 .1 .1 .1 .0) (f .kept .1 .1 .0) (f .kept .1 .1 .1 .0) (f .kept .1 .1 .1 .1 .0)
-    (g .result) (c .before .before .before .before .before .before .before .before .before .before .before .before .before .before .counted .given .0 .0) (g .ensures) (c .before .before .before .before .before .before .before .before .before .before .before .before .before .before .counted .given .1)
-    (f .result) (c .too-short2 .result) (f .ensures) (c .before .enum-told2 .given .0 .0) (c .before .enum-told2 .given .1) (c .too-short2 .ensures)
+    let told = c .before in
+    let f = listed (told .before .before) in
+    let counts = counts-told f .before .counted .given in
+    let g = counts-written (counts-told f) in
+    fields-refused (words (entry f)) (numerators g) (denominators f)
+    (g .group-counts .result) (counts .0 .0) (g .group-counts .ensures) (counts .1)
+    (f .group-fields .result) (c .too-short2 .result) (f .group-fields .ensures)
+    (told .enum-told2 .given .0 .0) (told .enum-told2 .given .1) (c .too-short2 .ensures)
 
 interactions-at-requires : tie.Need-interactions-at-requires
-interactions-at-requires c κs = c .before .before .before .before .before .before .before .before .before .before .before .before .before .before .before .before .before .before .before .before .before .before .before .before .before .before .before .before .before .before .before .before .before .before .pre .0 .checked
+interactions-at-requires c κs = entry (fields-written c) .pre .0 .checked
 
 max-fields-len-requires : tie.Need-max-fields-len-requires
 max-fields-len-requires c κs =
-    let a = c .before .before .before .before .before .before .before .before .before .before .before .before .before .before .before .before .before .before .before .before .before .before .before .before .before .before .before .before .before .before .before .before .before .before .before .args in
-    let p = c .before .before .before .before .before .before .before .before .before .before .before .before .before .before .before .before .before .before .before .before .before .before .before .before .before .before .before .before .before .before .before .before .before .before .before .pre in
-    interactions-there (a .s .now) (p .0 .checked) (c .interactions-at .result) (a .interactions) (c .interactions-at .ensures) (p .2)
+    let s = entry (fields-written (c .before)) in
+    interactions-there (words s) (s .pre .0 .checked) (c .interactions-at .result) (s .args .interactions) (c .interactions-at .ensures) (s .pre .2)
 
 same-length-10 : tie.Need-same-length-10
 same-length-10 c = search needs
@@ -114,16 +188,18 @@ same-length-15 c = search needs
 
 returns-3 : tie.Need-returns-3
 returns-3 c =
-    let a = c .before .before .before .before .before .before .before .before .before .before .before .before .before .before .before .before .before .before .before .before .before .before .before .before .before .before .before .before .before .before .before .before .before .before .before .before .args in
-    let p = c .before .before .before .before .before .before .before .before .before .before .before .before .before .before .before .before .before .before .before .before .before .before .before .before .before .before .before .before .before .before .before .before .before .before .before .before .pre in
-    let g = c .before .before .before .before .before .before .before .before .before .before .before .before .before .before .before .before .before .before .before .before .before .before .before .before .group-counts in
-    let f = c .before .before .before .before .before .before .before .before .before .before .before .group-fields in
     let at = c .before .interactions-at in
-    all-written (a .s .now) (length (a .headers .now)) (length (a .variables .now)) (length (a .terms .now)) (length (a .denom-headers .now)) (length (a .denom-variables .now)) (length (a .denom-terms .now)) (g .last .1 .1 .0) (g .last .1 .1 .1 .0) (g .last .1 .1 .1 .1 .0) (f .last .1 .1 .0) (f .last .1 .1 .1 .0) (f .last .1 .1 .1 .1 .0) (g .kept .1 .1 .0) (g .kept .1 .1 .1 .0) (g .kept .1 .1 .1 .1 .0) (f .kept .1 .1 .0) (f .kept .1 .1 .1 .0) (f .kept .1 .1 .1 .1 .0)
-    (g .result) (c .before .before .before .before .before .before .before .before .before .before .before .before .before .before .before .before .counted .given .0 .0) (g .ensures) (c .before .before .before .before .before .before .before .before .before .before .before .before .before .before .before .before .counted .given .1)
-    (f .result) (c .before .before .before .listed .given .0 .0) (f .ensures) (c .before .before .before .listed .given .1)
-    (a .interactions) (c .max-fields-len .result) (p .2)
-    (c .max-fields-len .ensures ∙ longest-is (a .s .now) (p .0 .checked) (at .result) (a .interactions) (at .ensures) (p .2)) _ refl
+    let told = c .before .before in
+    let f = fields-written told in
+    let lists = told .before .listed .given in
+    let counts = counts-told f .before .counted .given in
+    let g = counts-written (counts-told f) in
+    let s = entry f in
+    all-written (words s) (numerators g) (denominators f)
+    (g .group-counts .result) (counts .0 .0) (g .group-counts .ensures) (counts .1)
+    (f .group-fields .result) (lists .0 .0) (f .group-fields .ensures) (lists .1)
+    (s .args .interactions) (c .max-fields-len .result) (s .pre .2)
+    (c .max-fields-len .ensures ∙ longest-is (words s) (s .pre .0 .checked) (at .result) (s .args .interactions) (at .ensures) (s .pre .2)) _ refl
 
 pub group-interactions-spec : {M : Type 1} → statement M
 group-interactions-spec =
