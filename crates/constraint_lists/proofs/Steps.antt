@@ -1,5 +1,5 @@
 -- The steps of an expansion, in the order of its refusals.
-use mathlib.Core.Path.{_≡_, sym, ap, subst, _∙_}
+use mathlib.Core.Path.{_≡_, refl, sym, ap, subst, _∙_}
 use mathlib.Core.List.{List, [], _∷_, map}
 use Prim.Native.Nat.{ℕ, suc, _+_, _*_, _≤_, _<_}
 use native.Mathlib.Omega.{arith}
@@ -23,11 +23,12 @@ use Rattle.expand.specs.declared.Expanded.{Expanded}
 use Rattle.expand.specs.declared.Expanded.the-variants as expanded
 use Rattle.expand.specs.Walking.{Holds, Expands}
 use Rattle.grouping.specs.declared.Grouped.{Grouped}
+use Rattle.grouping.specs.declared.Lengths.{Lengths}
 use Rattle.grouping.specs.declared.Grouped.the-variants as grouped
 use Rattle.constraint_lists.specs.declared.ConstraintLists.{ConstraintLists}
 use Rattle.constraint_lists.specs.declared.ConstraintLists.the-variants.{Refused}
 use Rattle.grouping.specs.Families.{groupsOf, Front, Laid}
-use Rattle.constraint_lists.specs.Lists.{expansionOf, constraintAnswer, constraintsIn, constraintsOf, refusalOf, ShortFew, Inside}
+use Rattle.constraint_lists.specs.Lists.{expansionOf, constraintAnswer, constraintsIn, constraintsOf, refusalOf, ShortFew, Fit, Inside}
 
 -- There are three slices.
 first-bound : (k : ℕ) (ws : List (List ℕ)) (ns : List ℕ) → firstShort (suc k) ws ns ≤ k + length ws
@@ -44,7 +45,8 @@ short-few term gs h v t (grouped.Written c) l = tt
 short-few term gs h v t (grouped.Short k) l =
     omega (arith, first-bound 0 (layout term gs) (length h ∷ length v ∷ length t ∷ []), l .0)
 
-module _ (work pool : ℕ) (lent : List ℕ) (roots : Sheet → List Root) (outputs : Sheet → List (List ℕ)) (numbers : Sheet → List ℕ) (s : Sheet) where
+module _ (work pool : ℕ) (lent : List ℕ) (roots : Sheet → List Root) (outputs : Sheet → List (List ℕ)) (numbers : Sheet → List ℕ)
+    (s : Sheet) where
   abbrev whole : Answer Result
   whole = expansionOf work pool lent roots outputs numbers s
 
@@ -81,7 +83,9 @@ module _ (work pool : ℕ) (lent : List ℕ) (roots : Sheet → List Root) (outp
 module _ (outputs : List (List ℕ)) (lent numbers : List ℕ) where
   pub fits : firstShort 1 outputs lent ≡ 0 → good (record { outputs = outputs; numbers = numbers }) ≡ fitted outputs lent numbers
   unfolding fitted result
-  fits e = sym (cond-true (eqb (firstShort 1 outputs lent) 0) (result outputs numbers) (refused 17 (firstShort 1 outputs lent)) (eq-eqb (firstShort 1 outputs lent) 0 e))
+  fits e =
+      sym (cond-true (eqb (firstShort 1 outputs lent) 0) (result outputs numbers) (refused 17 (firstShort 1 outputs lent))
+      (eq-eqb (firstShort 1 outputs lent) 0 e))
 
   pub short : (k : ℕ) → firstShort 1 outputs lent ≡ k → (k ≡ 0 → ⊥) → refused 17 k ≡ fitted outputs lent numbers
   unfolding fitted
@@ -92,6 +96,14 @@ module _ (outputs : List (List ℕ)) (lent numbers : List ℕ) where
 
 pub front-take : (k : ℕ) (words slice : List ℕ) → Front words slice → k ≡ length words → take k slice ≡ words
 front-take k words slice f e = ap (λ (n : ℕ). take n slice) e ∙ f .1
+
+-- Lists that are written stand inside their slices.
+pub written-inside : (term : Item → List ℕ) (gs : List Group) (h v t : List ℕ) (a : Lengths) → Laid term gs h v t (grouped.Written a) → Fit a h v t
+written-inside term gs h v t a (z, fh, fv, ft, eh, ev, et) = (
+  subst (λ (n : ℕ). n ≤ length h) (sym eh) (fh .0),
+  subst (λ (n : ℕ). n ≤ length v) (sym ev) (fv .0),
+  subst (λ (n : ℕ). n ≤ length t) (sym et) (ft .0),
+)
 
 module _ (gs : List Group) (h v t : List ℕ) where
   pub laid-constraints : (g : Grouped) → Laid constraintTerm gs h v t g
@@ -107,12 +119,20 @@ module _ (gs : List Group) (h v t : List ℕ) where
   laid-constraints (grouped.Short k) (e, n) = short (layout constraintTerm gs) (length h ∷ length v ∷ length t ∷ []) [] k e n
 
   pub laid-inside : (g : Grouped) → Laid constraintTerm gs h v t g → Inside (constraintsIn g) h v t
-  laid-inside (grouped.Written c) (z, fh, fv, ft, eh, ev, et) =
-      (subst (λ (n : ℕ). n ≤ length h) (sym eh) (fh .0), subst (λ (n : ℕ). n ≤ length v) (sym ev) (fv .0), subst (λ (n : ℕ). n ≤ length t) (sym et) (ft .0))
+  laid-inside (grouped.Written c) l = written-inside constraintTerm gs h v t c l
   laid-inside (grouped.Short k) l = tt
 
+-- Three slices have the lengths that were lent.
+pub record Kept (lh lv lt : ℕ) (h v t : List ℕ) : Type 0 where
+  pub headers-long : length h ≡ lh
+  pub variables-long : length v ≡ lv
+  pub terms-long : length t ≡ lt
+
+pub unchanged : (h v t : List ℕ) → Kept (length h) (length v) (length t) h v t
+unchanged h v t = record { headers-long = refl; variables-long = refl; terms-long = refl }
+
 -- The constraint call on a checked sheet.
-module _ (ws : List ℕ) (work pool : ℕ) (h v t : List ℕ) (lh lv lt : ℕ) (eh : length h ≡ lh) (ev : length v ≡ lv) (et : length t ≡ lt) where
+module _ (ws : List ℕ) (work pool : ℕ) {h v t : List ℕ} {lh lv lt : ℕ} (kept : Kept lh lv lt h v t) where
   abbrev s : Sheet
   s = readSheet ws
 
@@ -122,14 +142,16 @@ module _ (ws : List ℕ) (work pool : ℕ) (h v t : List ℕ) (lh lv lt : ℕ) (
   abbrev reached : List ℕ
   reached = order (recordsOf ws) (s .constraints)
 
-  walks : expandAll prime (s .records) pool reached ≡ expandAll prime (s .records) pool (order (s .records) (map (λ (r : Root). r .node) (constraintRoots s)))
+  walks : expandAll prime (s .records) pool reached
+      ≡ expandAll prime (s .records) pool (order (s .records) (map (λ (r : Root). r .node) (constraintRoots s)))
   walks = ap (λ (l : List ℕ). expandAll prime (s .records) pool (order (s .records) l)) (sym (constraint-nodes s))
 
   module _ (enough : 4096 ≤ work) (room : 2 * length (s .records) ≤ pool) where
-    pub constraints-refused : (w : Expanded) (q v₁ : Refusal) (pool′ : List ℕ) → length pool′ ≡ pool → Expands ws pool′ w reached → w ≡ expanded.Refused v₁ → q ≡ refusalOf w
-        → constraintAnswer (Refused q) h v t ≡ call
+    pub constraints-refused : (w : Expanded) (q v₁ : Refusal) (pool′ : List ℕ) → length pool′ ≡ pool → Expands ws pool′ w reached
+        → w ≡ expanded.Refused v₁ → q ≡ refusalOf w → constraintAnswer (Refused q) h v t ≡ call
     constraints-refused w q v₁ pool′ e f g r =
-        let x : expandAll prime (recordsOf ws) (length pool′) reached ≡ refused (v₁ .number) (v₁ .place) = subst (λ (u : Expanded). Expands ws pool′ u reached) g f in
+        let x : expandAll prime (recordsOf ws) (length pool′) reached ≡ refused (v₁ .number) (v₁ .place) =
+        subst (λ (u : Expanded). Expands ws pool′ u reached) g f in
         let y : q ≡ v₁ = r ∙ ap refusalOf g in
         (λ i. refused (y i .number) (y i .place))
         ∙ walk-refused work pool (lh ∷ lv ∷ lt ∷ []) constraintRoots (constraintOutputs prime) (λ x. []) s enough room (v₁ .number) (v₁ .place)
@@ -140,10 +162,11 @@ module _ (ws : List ℕ) (work pool : ℕ) (h v t : List ℕ) (lh lv lt : ℕ) (
         → (constraintAnswer r h v t ≡ call) × Inside r h v t
     unfolding constraintOutputs family
     constraints-grouped used pool′ e holds g l r q =
-        let x : expandAll prime (recordsOf ws) pool reached ≡ good used = subst (λ (n : ℕ). expandAll prime (recordsOf ws) n reached ≡ good used) e (holds .used-is) in (
+        let x : expandAll prime (recordsOf ws) pool reached ≡ good used =
+        subst (λ (n : ℕ). expandAll prime (recordsOf ws) n reached ≡ good used) e (holds .used-is) in (
           ap (λ (a : ConstraintLists). constraintAnswer a h v t) q
               ∙ laid-constraints (groupsOf ws (constraintRoots s)) h v t g l
-              ∙ (λ i. fitted (constraintOutputs prime s) (eh i ∷ ev i ∷ et i ∷ []) [])
+              ∙ (λ i. fitted (constraintOutputs prime s) (kept .headers-long i ∷ kept .variables-long i ∷ kept .terms-long i ∷ []) [])
               ∙ walk-done work pool (lh ∷ lv ∷ lt ∷ []) constraintRoots (constraintOutputs prime) (λ x. []) s enough room used (sym walks ∙ x),
           subst (λ (a : ConstraintLists). Inside a h v t) (sym q) (laid-inside (groupsOf ws (constraintRoots s)) h v t g l),
         )

@@ -24,6 +24,7 @@ use Rattle.interaction_lists.specs.declared.InteractionLengths.{InteractionLeng
 use Rattle.interaction_lists.specs.declared.InteractionLists.{InteractionLists}
 use Rattle.interaction_lists.specs.declared.InteractionLists.the-variants as interaction
 use Rattle.constraint_lists.specs.Lists.{constraintAnswer, Inside, constraintsOf, CheckedSheet}
+use Rattle.constraint_lists.proofs.Steps.{Kept}
 use Rattle.interaction_lists.specs.Lists.{interactionAnswer, BothInside, interactionsOf}
 use Rattle.expansion.specs.Answers.{constraintOutcome, lengthsOf, cut, interactionOutcome, bothLengths}
 
@@ -64,11 +65,17 @@ module _ (ws : List ℕ) (rest : Sheet → Answer Result) where
 
 -- The call, once scratch is zeroed and the outputs are zeroed behind their lists.
 pub constraint-finish : (r : ConstraintLists) (h v t : List ℕ) → Inside r h v t → (work pool : ℕ)
-    → constraintOutcome r (replicate work 0) (replicate pool 0) (cut (lengthsOf r .headers) h) (cut (lengthsOf r .variables) v) (cut (lengthsOf r .terms) t)
+    → constraintOutcome r (replicate work 0) (replicate pool 0)
+    (cut (lengthsOf r .headers) h) (cut (lengthsOf r .variables) v) (cut (lengthsOf r .terms) t)
     ≡ outcome (work ∷ pool ∷ []) (length h ∷ length v ∷ length t ∷ []) (constraintAnswer r h v t)
 unfolding outcome paddedAll zeros
 constraint-finish (Written n) h v t i work pool = λ j. record {
-  reply = record { number = 0; place = 0; counts = kept-count (n .headers) h (i .0) j ∷ kept-count (n .variables) v (i .1) j ∷ kept-count (n .terms) t (i .2) j ∷ []; numbers = [] };
+  reply = record {
+    number = 0;
+    place = 0;
+    counts = kept-count (n .headers) h (i .0) j ∷ kept-count (n .variables) v (i .1) j ∷ kept-count (n .terms) t (i .2) j ∷ [];
+    numbers = [];
+  };
   slices = replicate work 0 ∷ replicate pool 0 ∷ kept-padded (n .headers) h j ∷ kept-padded (n .variables) v j ∷ kept-padded (n .terms) t j ∷ [];
 }
 constraint-finish (Refused q) h v t i work pool = λ j. record {
@@ -76,25 +83,34 @@ constraint-finish (Refused q) h v t i work pool = λ j. record {
   slices = replicate work 0 ∷ replicate pool 0 ∷ cut-none h j ∷ cut-none v j ∷ cut-none t j ∷ [];
 }
 
-module _ (ws : List ℕ) (work pool headers variables terms : ℕ) (r : ConstraintLists) (h v t : List ℕ)
+-- Three slices are zeroed behind the words that stay.
+abbrev Cleared : (kept : Lengths) (h v t h′ v′ t′ : List ℕ) → Type 0
+Cleared kept h v t h′ v′ t′ = (h′ ≡ cut (kept .headers) h) × (v′ ≡ cut (kept .variables) v) × (t′ ≡ cut (kept .terms) t)
+
+-- A scratch slice of the length that was lent is zeroed.
+pub zeroed-again : {n k : ℕ} {s : List ℕ} → s ≡ replicate k 0 → k ≡ n → s ≡ replicate n 0
+zeroed-again e l = e ∙ ap (λ (k : ℕ). replicate k 0) l
+
+module _ (ws : List ℕ) (work pool : ℕ) {headers variables terms : ℕ} (r : ConstraintLists) {h v t : List ℕ}
+    (long : Kept headers variables terms h v t)
     (answer : constraintAnswer r h v t ≡ onSheet prime ws (constraintsOf work pool headers variables terms)) (inside : Inside r h v t) where
-  pub constraint-done : (kept : Lengths) → kept ≡ lengthsOf r → length h ≡ headers → length v ≡ variables → length t ≡ terms
-      → (work′ pool′ h′ v′ t′ : List ℕ) → work′ ≡ replicate work 0 → pool′ ≡ replicate pool 0
-      → h′ ≡ cut (kept .headers) h → v′ ≡ cut (kept .variables) v → t′ ≡ cut (kept .terms) t
+  pub constraint-done : (kept : Lengths) → kept ≡ lengthsOf r → (work′ pool′ : List ℕ) → work′ ≡ replicate work 0 → pool′ ≡ replicate pool 0
+      → (h′ v′ t′ : List ℕ) → Cleared kept h v t h′ v′ t′
       → constraintOutcome r work′ pool′ h′ v′ t′ ≡ constraintCall prime ws work pool headers variables terms
   unfolding constraintCall expansion
-  constraint-done kept k lh lv lt work′ pool′ h′ v′ t′ ew ep eh ev et =
+  constraint-done kept k work′ pool′ ew ep h′ v′ t′ (eh, ev, et) =
       (λ i. constraintOutcome r (ew i) (ep i) (eh i) (ev i) (et i))
       ∙ (λ i. constraintOutcome r (replicate work 0) (replicate pool 0) (cut (k i .headers) h) (cut (k i .variables) v) (cut (k i .terms) t))
       ∙ constraint-finish r h v t inside work pool
-      ∙ (λ i. outcome (work ∷ pool ∷ []) (lh i ∷ lv i ∷ lt i ∷ []) (answer i))
+      ∙ (λ i. outcome (work ∷ pool ∷ []) (long .headers-long i ∷ long .variables-long i ∷ long .terms-long i ∷ []) (answer i))
 
 -- The same for the interaction call.
 pub interaction-finish : (r : InteractionLists) (h v t h₂ v₂ t₂ : List ℕ) → BothInside r h v t h₂ v₂ t₂ → (work pool : ℕ)
     → interactionOutcome r (replicate work 0) (replicate pool 0)
     (cut (bothLengths r .numerators .headers) h) (cut (bothLengths r .numerators .variables) v) (cut (bothLengths r .numerators .terms) t)
     (cut (bothLengths r .denominators .headers) h₂) (cut (bothLengths r .denominators .variables) v₂) (cut (bothLengths r .denominators .terms) t₂)
-    ≡ outcome (work ∷ pool ∷ []) (length h ∷ length v ∷ length t ∷ length h₂ ∷ length v₂ ∷ length t₂ ∷ []) (interactionAnswer r h v t h₂ v₂ t₂)
+    ≡ outcome (work ∷ pool ∷ []) (length h ∷ length v ∷ length t ∷ length h₂ ∷ length v₂ ∷ length t₂ ∷ [])
+    (interactionAnswer r h v t h₂ v₂ t₂)
 unfolding outcome paddedAll zeros
 interaction-finish (interaction.Written n) h v t h₂ v₂ t₂ i work pool =
     let a = n .numerators in
@@ -114,22 +130,27 @@ interaction-finish (interaction.Written n) h v t h₂ v₂ t₂ i work pool =
     }
 interaction-finish (interaction.Refused q) h v t h₂ v₂ t₂ i work pool = λ j. record {
   reply = record { number = q .number; place = q .place; counts = []; numbers = [] };
-  slices = replicate work 0 ∷ replicate pool 0 ∷ cut-none h j ∷ cut-none v j ∷ cut-none t j ∷ cut-none h₂ j ∷ cut-none v₂ j ∷ cut-none t₂ j ∷ [];
+  slices =
+      replicate work 0 ∷ replicate pool 0 ∷ cut-none h j ∷ cut-none v j ∷ cut-none t j
+      ∷ cut-none h₂ j ∷ cut-none v₂ j ∷ cut-none t₂ j ∷ [];
 }
 
-module _ (ws : List ℕ) (work pool lh lv lt lh₂ lv₂ lt₂ : ℕ) (r : InteractionLists) (h v t h₂ v₂ t₂ : List ℕ)
-    (answer : interactionAnswer r h v t h₂ v₂ t₂ ≡ onSheet prime ws (interactionsOf work pool lh lv lt lh₂ lv₂ lt₂)) (inside : BothInside r h v t h₂ v₂ t₂) where
+module _ (ws : List ℕ) (work pool : ℕ) {lh lv lt lh₂ lv₂ lt₂ : ℕ} (r : InteractionLists) {h v t h₂ v₂ t₂ : List ℕ}
+    (numerators : Kept lh lv lt h v t) (denominators : Kept lh₂ lv₂ lt₂ h₂ v₂ t₂)
+    (answer : interactionAnswer r h v t h₂ v₂ t₂ ≡ onSheet prime ws (interactionsOf work pool lh lv lt lh₂ lv₂ lt₂))
+    (inside : BothInside r h v t h₂ v₂ t₂) where
   pub interaction-done : (kept : InteractionLengths) → kept ≡ bothLengths r
-      → length h ≡ lh → length v ≡ lv → length t ≡ lt → length h₂ ≡ lh₂ → length v₂ ≡ lv₂ → length t₂ ≡ lt₂
-      → (work′ pool′ h′ v′ t′ h₃ v₃ t₃ : List ℕ) → work′ ≡ replicate work 0 → pool′ ≡ replicate pool 0
-      → h′ ≡ cut (kept .numerators .headers) h → v′ ≡ cut (kept .numerators .variables) v → t′ ≡ cut (kept .numerators .terms) t
-      → h₃ ≡ cut (kept .denominators .headers) h₂ → v₃ ≡ cut (kept .denominators .variables) v₂ → t₃ ≡ cut (kept .denominators .terms) t₂
+      → (work′ pool′ : List ℕ) → work′ ≡ replicate work 0 → pool′ ≡ replicate pool 0
+      → (h′ v′ t′ : List ℕ) → Cleared (kept .numerators) h v t h′ v′ t′
+      → (h₃ v₃ t₃ : List ℕ) → Cleared (kept .denominators) h₂ v₂ t₂ h₃ v₃ t₃
       → interactionOutcome r work′ pool′ h′ v′ t′ h₃ v₃ t₃ ≡ interactionCall prime ws work pool lh lv lt lh₂ lv₂ lt₂
   unfolding interactionCall expansion
-  interaction-done kept k eh ev et eh₂ ev₂ et₂ work′ pool′ h′ v′ t′ h₃ v₃ t₃ ew ep a b c d e f =
+  interaction-done kept k work′ pool′ ew ep h′ v′ t′ (a, b, c) h₃ v₃ t₃ (d, e, f) =
       (λ i. interactionOutcome r (ew i) (ep i) (a i) (b i) (c i) (d i) (e i) (f i))
       ∙ (λ i. interactionOutcome r (replicate work 0) (replicate pool 0)
       (cut (k i .numerators .headers) h) (cut (k i .numerators .variables) v) (cut (k i .numerators .terms) t)
       (cut (k i .denominators .headers) h₂) (cut (k i .denominators .variables) v₂) (cut (k i .denominators .terms) t₂))
       ∙ interaction-finish r h v t h₂ v₂ t₂ inside work pool
-      ∙ (λ i. outcome (work ∷ pool ∷ []) (eh i ∷ ev i ∷ et i ∷ eh₂ i ∷ ev₂ i ∷ et₂ i ∷ []) (answer i))
+      ∙ (λ i. outcome (work ∷ pool ∷ [])
+      (numerators .headers-long i ∷ numerators .variables-long i ∷ numerators .terms-long i
+      ∷ denominators .headers-long i ∷ denominators .variables-long i ∷ denominators .terms-long i ∷ []) (answer i))

@@ -21,21 +21,13 @@ use Rattle.expand.specs.Walking.{Holds, Expands}
 use Rattle.grouping.specs.declared.Grouped.{Grouped}
 use Rattle.grouping.specs.declared.Grouped.the-variants as grouped
 use Rattle.grouping.specs.Families.{groupsOf, Laid}
-use Rattle.constraint_lists.proofs.Steps.{work-short, pool-short, walk-refused, walk-done, fits, short, front-take}
+use Rattle.constraint_lists.proofs.Steps.{Kept, work-short, pool-short, walk-refused, walk-done, fits, short, front-take, written-inside}
 use Rattle.interaction_lists.specs.declared.InteractionLists.{InteractionLists}
 use Rattle.interaction_lists.specs.declared.InteractionLists.the-variants as interaction
 use Rattle.grouping.proofs.Slices.{later-none, later-short, first-none, first-short}
 use Rattle.grouping.specs.declared.Lengths.{Lengths}
-use Rattle.constraint_lists.specs.Lists.{Fit, tooShort, expansionOf, refusalOf, shortOf}
+use Rattle.constraint_lists.specs.Lists.{tooShort, expansionOf, refusalOf, shortOf}
 use Rattle.interaction_lists.specs.Lists.{interactionAnswer, BothInside}
-
--- Lists that are written stand inside their slices.
-written-inside : (gs : List Group) (h v t : List ℕ) (a : Lengths) → Laid interactionTerm gs h v t (grouped.Written a) → Fit a h v t
-written-inside gs h v t a (z, fh, fv, ft, eh, ev, et) = (
-  subst (λ (n : ℕ). n ≤ length h) (sym eh) (fh .0),
-  subst (λ (n : ℕ). n ≤ length v) (sym ev) (fv .0),
-  subst (λ (n : ℕ). n ≤ length t) (sym et) (ft .0),
-)
 
 -- Both families of the interactions.
 module _ (gs ks : List Group) (h v t h₂ v₂ t₂ : List ℕ) where
@@ -97,17 +89,8 @@ module _ (gs ks : List Group) (h v t h₂ v₂ t₂ : List ℕ) where
           numbers = ni ∷ mf ∷ [];
         }))
             ∙ fits both lent (ni ∷ mf ∷ []) (goes-on ∙ later-none 3 0 (layout interactionTerm ks) lent-second (second .0)),
-        (written-inside gs h v t a first, written-inside ks h₂ v₂ t₂ b second),
+        (written-inside interactionTerm gs h v t a first, written-inside interactionTerm ks h₂ v₂ t₂ b second),
       )
-
--- Three slices have the lengths that were lent.
-pub record Kept (lh lv lt : ℕ) (h v t : List ℕ) : Type 0 where
-  pub headers-long : length h ≡ lh
-  pub variables-long : length v ≡ lv
-  pub terms-long : length t ≡ lt
-
-pub unchanged : (h v t : List ℕ) → Kept (length h) (length v) (length t) h v t
-unchanged h v t = record { headers-long = refl; variables-long = refl; terms-long = refl }
 
 -- The interaction call on a checked sheet.
 module _ (ws : List ℕ) {lh lv lt lh₂ lv₂ lt₂ : ℕ} {h v t h₂ v₂ t₂ : List ℕ}

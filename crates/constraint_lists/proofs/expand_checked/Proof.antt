@@ -1,5 +1,5 @@
 -- Work and pool are long enough, or refused; then the records are expanded, or one is refused; then their lists are grouped.
-use mathlib.Core.Path.{refl, ap, subst}
+use mathlib.Core.Path.{ap, subst}
 use mathlib.Core.List.{List, [], _∷_}
 use Prim.Native.Nat.{ℕ, _*_, _≤_}
 use native.Mathlib.Omega.{arith}
@@ -17,14 +17,23 @@ use Rattle.expand.specs.declared.Expanded.the-variants.{Used}
 use Rattle.expand.specs.Walking.{Expands}
 use Rattle.grouping.specs.Families.{groupsOf}
 use Rattle.constraint_lists.proofs.Walked.{constraints-grouping}
-use Rattle.constraint_lists.proofs.Steps.{short-few, work-short, pool-short, constraints-refused, constraints-grouped}
+use Rattle.constraint_lists.proofs.Steps.{Kept, unchanged, short-few, work-short, pool-short, constraints-refused, constraints-grouped}
 use Rattle.constraint_lists.proofs.expand_checked.Statement.{statement}
 use Rattle.constraint_lists.proofs.expand_checked.Tie as tie
+
+abbrev start : tie.After-slice-known5 → tie.Start
+start c = c .before .before .before .before .before .before
 
 -- What was lent: the words, the lengths of the slices, and that no count of a checked sheet is large.
 module _ (c : tie.Start) where
   abbrev words : List ℕ
   words = c .args .s .now
+
+  abbrev work : ℕ
+  work = length (c .args .work .now)
+
+  abbrev pool : ℕ
+  pool = length (c .args .pool .now)
 
   abbrev lent : List ℕ
   lent = length (c .args .headers .now) ∷ length (c .args .variables .now) ∷ length (c .args .terms .now) ∷ []
@@ -34,54 +43,84 @@ module _ (c : tie.Start) where
 
 -- The walk, before which work and pool were long enough.
 module _ (c : tie.After-walk-constraints) where
+  abbrev enough : tie.Else2
+  enough = c .before .before .before
+
   abbrev entry : tie.Start
-  entry = c .before .before .before .before .before .before .before .before .before .before .before
+  entry = start (enough .before .before)
 
-  abbrev pool : List ℕ
-  pool = c .walk-constraints .last .1 .1 .1 .1 .0
+  abbrev walked-pool : List ℕ
+  walked-pool = c .walk-constraints .last .1 .1 .1 .1 .0
 
-  work-long : 4096 ≤ length (entry .args .work .now)
-  work-long = c .before .before .before .before .if1 .left
+  work-long : 4096 ≤ work entry
+  work-long = enough .before .if1 .left
 
-  pool-long : 2 * length (readSheet (words entry) .records) ≤ length (entry .args .pool .now)
-  pool-long = omega (arith, entry .pre .1 .records-are, c .before .before .before .if2 .left)
+  pool-long : 2 * length (readSheet (words entry) .records) ≤ pool entry
+  pool-long = omega (arith, entry .pre .1 .records-are, enough .if2 .left)
 
--- The grouping, behind a walk that did not refuse.
-abbrev at-walk : tie.After-group-constraints-arg4 → tie.After-walk-constraints
-at-walk c = c .before .before .before .before .before .before .before .before .before .before .before
+abbrev walked : tie.After-slice-known7 → tie.After-walk-constraints
+walked c = c .before .before .before .before
 
-module _ (c : tie.After-group-constraints-arg4) where
+-- The walk did not refuse.
+module _ (c : tie.After-walked) where
+  abbrev walk : tie.After-walk-constraints
+  walk = walked (c .before .before)
+
   abbrev ws : List ℕ
-  ws = words (entry (at-walk c))
+  ws = words (entry walk)
 
   abbrev used : ℕ
-  used = c .before .before .before .before .before .walked .given .0 .0
+  used = c .walked .given .0 .0
 
-  expanded : Expands ws (pool (at-walk c)) (Used used) (order (recordsOf ws) (readSheet ws .constraints))
+  expanded : Expands ws (walked-pool walk) (Used used) (order (recordsOf ws) (readSheet ws .constraints))
   expanded =
-      subst (λ (u : Expanded). Expands ws (pool (at-walk c)) u (order (recordsOf ws) (readSheet ws .constraints)))
-      (c .before .before .before .before .before .walked .given .1) (at-walk c .walk-constraints .ensures)
+      subst (λ (u : Expanded). Expands ws (walked-pool walk) u (order (recordsOf ws) (readSheet ws .constraints)))
+      (c .walked .given .1) (walk .walk-constraints .ensures)
+
+-- The lists are grouped.
+abbrev to-group : tie.After-group-constraints-arg4 → tie.After-walked
+to-group c = c .before .before .before .before .before
+
+module _ (c : tie.After-slice-known10) where
+  abbrev grouped : tie.After-group-constraints
+  grouped = c .before .before .before .before .before .before
+
+  abbrev ready : tie.After-walked
+  ready = to-group (grouped .before)
+
+  abbrev headers : List ℕ
+  headers = grouped .group-constraints .last .1 .1 .0
+
+  abbrev variables : List ℕ
+  variables = grouped .group-constraints .last .1 .1 .1 .0
+
+  abbrev terms : List ℕ
+  terms = grouped .group-constraints .last .1 .1 .1 .1 .0
+
+  kept : let a = entry (walk ready) .args in
+      Kept (length (a .headers .now)) (length (a .variables .now)) (length (a .terms .now)) headers variables terms
+  kept = record {
+    headers-long = grouped .group-constraints .kept .1 .1 .0;
+    variables-long = grouped .group-constraints .kept .1 .1 .1 .0;
+    terms-long = grouped .group-constraints .kept .1 .1 .1 .1 .0;
+  }
 
 returns : tie.Need-returns
 returns c =
-    let e = c .before .before .before .before .before .before .before in
-    let a = e .args in (
-      work-short (length (a .work .now)) (length (a .pool .now)) (lent e) constraintRoots (constraintOutputs prime) (λ x. []) (readSheet (words e)) (c .if1 .taken),
-      tt,
-    )
+    let e = start (c .before) in
+    (work-short (work e) (pool e) (lent e) constraintRoots (constraintOutputs prime) (λ x. []) (readSheet (words e)) (c .if1 .taken), tt)
 
 mul-if2 : tie.Need-mul-if2
-mul-if2 c = omega (arith, few (c .before .before .before .before .before .before .before))
+mul-if2 c = omega (arith, few (start (c .before)))
 
 mul-t15 : tie.Need-mul-t15
-mul-t15 c = omega (arith, few (c .before .before .before .before .before .before .before .before))
+mul-t15 c = omega (arith, few (start (c .before .before)))
 
 returns-2 : tie.Need-returns-2
 returns-2 c =
-    let e = c .before .before .before .before .before .before .before .before in
-    let a = e .args in (
-      pool-short (length (a .work .now)) (length (a .pool .now)) (lent e) constraintRoots (constraintOutputs prime) (λ x. []) (readSheet (words e))
-          (c .before .if1 .left) (2 * a .records) (ap (λ (n : ℕ). 2 * n) (e .pre .1 .records-are)) (c .if2 .taken),
+    let e = start (c .before .before) in (
+      pool-short (work e) (pool e) (lent e) constraintRoots (constraintOutputs prime) (λ x. []) (readSheet (words e))
+          (c .before .if1 .left) (2 * e .args .records) (ap (λ (n : ℕ). 2 * n) (e .pre .1 .records-are)) (c .if2 .taken),
       tt,
     )
 
@@ -105,27 +144,27 @@ same-length-2 c = search needs
 
 returns-3 : tie.Need-returns-3
 returns-3 c =
-    let w = c .before .before .before .before .before .before .before in
-    let a = entry w .args in
-    let v = c .before .enum-told .given in (
-      constraints-refused (a .s .now) (length (a .work .now)) (length (a .pool .now)) (a .headers .now) (a .variables .now) (a .terms .now)
-          (length (a .headers .now)) (length (a .variables .now)) (length (a .terms .now)) refl refl refl (work-long w) (pool-long w)
-          (w .walk-constraints .result) (c .refusal-of .result) (v .0 .0) (pool w) (w .walk-constraints .kept .1 .1 .1 .1 .0)
+    let told = c .before in
+    let w = walked (told .before .before) in
+    let e = entry w in
+    let a = e .args in
+    let v = told .enum-told .given in (
+      constraints-refused (words e) (work e) (pool e) (unchanged (a .headers .now) (a .variables .now) (a .terms .now)) (work-long w) (pool-long w)
+          (w .walk-constraints .result) (c .refusal-of .result) (v .0 .0) (walked-pool w) (w .walk-constraints .kept .1 .1 .1 .1 .0)
           (w .walk-constraints .ensures) (v .1) (c .refusal-of .ensures),
       tt,
     )
 
 group-constraints-requires : tie.Need-group-constraints-requires
 group-constraints-requires c κs =
-    let w = at-walk c in
-    constraints-grouping (ws c) (entry w .pre .1 .checked) (pool w) (used c) (expanded c)
+    let t = to-group c in
+    constraints-grouping (ws t) (entry (walk t) .pre .1 .checked) (walked-pool (walk t)) (used t) (expanded t)
 
 constraints-in-requires : tie.Need-constraints-in-requires
 constraints-in-requires c κs =
-    let grouped = c .before .before .before .before .before .before in
-    let g = grouped .group-constraints in
-    let s = ws (grouped .before) in
-    short-few constraintTerm (groupsOf s (constraintRoots (readSheet s))) (g .last .1 .1 .0) (g .last .1 .1 .1 .0) (g .last .1 .1 .1 .1 .0) (g .result) (g .ensures)
+    let g = grouped c .group-constraints in
+    short-few constraintTerm (groupsOf (ws (ready c)) (constraintRoots (readSheet (ws (ready c))))) (headers c) (variables c) (terms c)
+    (g .result) (g .ensures)
 
 same-length-3 : tie.Need-same-length-3
 same-length-3 c = search needs
@@ -144,15 +183,13 @@ same-length-7 c = search needs
 
 returns-4 : tie.Need-returns-4
 returns-4 c =
-    let grouped = c .before .before .before .before .before .before .before in
-    let g = grouped .group-constraints in
-    let b = grouped .before in
-    let w = at-walk b in
-    let a = entry w .args in
-    constraints-grouped (a .s .now) (length (a .work .now)) (length (a .pool .now)) (g .last .1 .1 .0) (g .last .1 .1 .1 .0) (g .last .1 .1 .1 .1 .0)
-    (length (a .headers .now)) (length (a .variables .now)) (length (a .terms .now)) (g .kept .1 .1 .0) (g .kept .1 .1 .1 .0) (g .kept .1 .1 .1 .1 .0)
-    (work-long w) (pool-long w) (used b) (pool w) (w .walk-constraints .kept .1 .1 .1 .1 .0) (expanded b)
-    (g .result) (g .ensures) (c .constraints-in .result) (c .constraints-in .ensures)
+    let l = c .before in
+    let t = ready l in
+    let w = walk t in
+    let e = entry w in
+    constraints-grouped (words e) (work e) (pool e) (kept l) (work-long w) (pool-long w)
+    (used t) (walked-pool w) (w .walk-constraints .kept .1 .1 .1 .1 .0) (expanded t)
+    (grouped l .group-constraints .result) (grouped l .group-constraints .ensures) (c .constraints-in .result) (c .constraints-in .ensures)
 
 pub expand-checked-spec : {M : Type 1} → statement M
 expand-checked-spec =

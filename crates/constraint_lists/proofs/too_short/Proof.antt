@@ -12,14 +12,19 @@ enum-known-grouped c = search needs
 
 add-t5 : tie.Need-add-t5
 add-t5 c =
-    let few = subst ShortFew (c .before .grouped .given .1) (c .before .before .before .pre .1) in
-    omega (arith, few, c .before .before .before .pre .0)
+    let told = c .before in
+    let start = told .before .before in
+    let few = subst ShortFew (told .grouped .given .1) (start .pre .1) in
+    omega (arith, few, start .pre .0)
 
 enum-told : tie.Need-enum-told
 enum-told c = search needs
 
 returns : tie.Need-returns
-returns c = ap (λ (g : Grouped). shortOf g (c .before .before .before .args .first)) (sym (c .before .grouped .given .1))
+returns c =
+    let told = c .before in
+    let start = told .before .before in
+    ap (λ (g : Grouped). shortOf g (start .args .first)) (sym (told .grouped .given .1))
 
 returns-2 : tie.Need-returns-2
 returns-2 c = ap (λ (g : Grouped). shortOf g (c .before .before .args .first)) (sym (c .enum-told .given .1))

@@ -1,4 +1,5 @@
-use mathlib.Core.Path.{subst}
+-- The heads of the pool are zeroed, then all that the constraints name is expanded.
+use mathlib.Core.Path.{_≡_, subst}
 use mathlib.Core.List.{List}
 use Prim.Native.Nat.{ℕ, _*_}
 use native.Mathlib.Omega.{arith}
@@ -6,10 +7,39 @@ use lib.ListN.{length, take, drop, length-take}
 use Rattle.semantics.specs.Walk.{order}
 use Rattle.records.specs.Access.{recordsOf}
 use Rattle.expand.specs.Walking.{Expands}
+use Rattle.constraint_lists.specs.Lists.{CheckedSheet}
 use Rattle.constraint_lists.proofs.Walked.{walk-starts, walk-ends, names-there, names-are}
 use borrow.Author.Needs.{needs}
 use Rattle.constraint_lists.proofs.walk_constraints.Statement.{statement}
 use Rattle.constraint_lists.proofs.walk_constraints.Tie as tie
+
+abbrev start : tie.After-zero-all-arg → tie.Start
+start c = c .before .before .before .before
+
+module _ (s : tie.Start) where
+  abbrev words : List ℕ
+  words = s .args .s .now
+
+  abbrev heads : List ℕ
+  heads = take (2 * s .args .records) (s .args .pool .now)
+
+  abbrev rest : List ℕ
+  rest = drop (2 * s .args .records) (s .args .pool .now)
+
+  sheet-is : CheckedSheet words (s .args .records) (s .args .constraints) (s .pre .0 .0)
+  sheet-is = s .pre .0 .1
+
+  heads-long : length heads ≡ 2 * s .args .records
+  heads-long = omega (arith, length-take (2 * s .args .records) (s .args .pool .now), s .pre .2)
+
+abbrev zeroed : tie.After-constraints-at → tie.After-zero-all
+zeroed c = c .before .before .before
+
+abbrev expanded : tie.After-slice-known5 → tie.After-expand-names
+expanded c = c .before .before .before .before
+
+abbrev located : tie.After-expand-names-arg2 → tie.After-constraints-at
+located c = c .before .before
 
 mul-heads : tie.Need-mul-heads
 mul-heads c = search needs
@@ -18,9 +48,7 @@ slice-relend-prefix-zero-all : tie.Need-slice-relend-prefix-zero-all
 slice-relend-prefix-zero-all c = search needs
 
 slice-aggregate-zero-all : tie.Need-slice-aggregate-zero-all
-slice-aggregate-zero-all c =
-    let a = c .before .before .before .before .args in
-    omega (arith, length-take (2 * a .records) (a .pool .now), c .before .before .before .before .pre .2)
+slice-aggregate-zero-all c = omega (arith, heads-long (start c))
 
 zero-all-requires : tie.Need-zero-all-requires
 zero-all-requires c κs = search needs
@@ -30,13 +58,13 @@ constraints-at-requires c κs = search needs
 
 expand-names-requires : tie.Need-expand-names-requires
 expand-names-requires c κs =
-    let a = c .before .before .before .before .before .before .before .before .before .before .args in
-    let p = c .before .before .before .before .before .before .before .before .before .before .pre in
-    let h = p .0 .1 in
-    let z = c .before .before .before .before .before .zero-all in (
-      walk-starts (a .s .now) (a .records) (h .records-are) (z .last .0) (drop (2 * a .records) (a .pool .now)) (length (take (2 * a .records) (a .pool .now))) (z .ensures)
-          (omega (arith, length-take (2 * a .records) (a .pool .now), p .2)) (h .checked) (a .work .now) (p .1),
-      names-there (a .s .now) (a .records) (a .constraints) (p .0 .0) h (c .before .before .constraints-at .result) (c .before .before .constraints-at .ensures),
+    let l = located c in
+    let zero = zeroed l .zero-all in
+    let s = start (zeroed l .before) in
+    let a = s .args in (
+      walk-starts (words s) (a .records) (sheet-is s .records-are) (zero .last .0) (rest s) (length (heads s)) (zero .ensures) (heads-long s)
+          (sheet-is s .checked) (a .work .now) (s .pre .1),
+      names-there (words s) (a .records) (a .constraints) (s .pre .0 .0) (sheet-is s) (l .constraints-at .result) (l .constraints-at .ensures),
     )
 
 same-length : tie.Need-same-length
@@ -47,16 +75,16 @@ same-length-2 c = search needs
 
 returns : tie.Need-returns
 returns c =
-    let a = c .before .before .before .before .before .before .before .before .before .before .before .before .before .before .before .args in
-    let p = c .before .before .before .before .before .before .before .before .before .before .before .before .before .before .before .pre in
-    let h = p .0 .1 in
-    let z = c .before .before .before .before .before .before .before .before .before .before .zero-all in
-    let x = c .before .before .before .before .expand-names in
-    let at = c .before .before .before .before .before .before .before .constraints-at in
-    subst (λ (l : List ℕ). Expands (a .s .now) (x .last .1 .1 .1 .1 .0) (x .result) (order (recordsOf (a .s .now)) l))
-    (names-are (a .s .now) (a .records) (a .constraints) (p .0 .0) h (at .result) (at .ensures))
-    (walk-ends (a .s .now) (a .records) (h .records-are) (z .last .0) (drop (2 * a .records) (a .pool .now)) (length (take (2 * a .records) (a .pool .now))) (z .ensures)
-    (omega (arith, length-take (2 * a .records) (a .pool .now), p .2)) _ (x .last .1 .1 .1 .1 .0) (x .result) (x .ensures))
+    let expand = expanded c .expand-names in
+    let pool = expand .last .1 .1 .1 .1 .0 in
+    let l = located (expanded c .before) in
+    let zero = zeroed l .zero-all in
+    let s = start (zeroed l .before) in
+    let a = s .args in
+    subst (λ (names : List ℕ). Expands (words s) pool (expand .result) (order (recordsOf (words s)) names))
+    (names-are (words s) (a .records) (a .constraints) (s .pre .0 .0) (sheet-is s) (l .constraints-at .result) (l .constraints-at .ensures))
+    (walk-ends (words s) (a .records) (sheet-is s .records-are) (zero .last .0) (rest s) (length (heads s)) (zero .ensures) (heads-long s)
+    _ pool (expand .result) (expand .ensures))
 
 pub walk-constraints-spec : {M : Type 1} → statement M
 walk-constraints-spec =

@@ -1,10 +1,46 @@
-use mathlib.Core.Path.{ap, _∙_}
+-- The lists are made, then work and pool are zeroed, then the outputs behind their lists. Every slice keeps its length.
+use mathlib.Core.List.{List}
 use Prim.Native.Nat.{ℕ}
-use lib.ListN.{length, replicate}
-use Rattle.expansion.proofs.Replies.{constraint-done}
+use lib.ListN.{length}
+use Rattle.constraint_lists.proofs.Steps.{Kept}
+use Rattle.expansion.proofs.Replies.{zeroed-again, constraint-done}
 use borrow.Author.Needs.{needs}
 use Rattle.expansion.proofs.expand_constraints.Statement.{statement}
 use Rattle.expansion.proofs.expand_constraints.Tie as tie
+
+-- The lists are made.
+module _ (c : tie.After-expand-sheet) where
+  abbrev start : tie.Start
+  start = c .before .before .before .before .before .before .before .before .before .before .before .before
+
+  abbrev headers : List ℕ
+  headers = c .expand-sheet .last .1 .1 .1 .0
+
+  abbrev variables : List ℕ
+  variables = c .expand-sheet .last .1 .1 .1 .1 .0
+
+  abbrev terms : List ℕ
+  terms = c .expand-sheet .last .1 .1 .1 .1 .1 .0
+
+  long : Kept (length (start .args .headers .now)) (length (start .args .variables .now)) (length (start .args .terms .now)) headers variables terms
+  long = record {
+    headers-long = c .expand-sheet .kept .1 .1 .1 .0;
+    variables-long = c .expand-sheet .kept .1 .1 .1 .1 .0;
+    terms-long = c .expand-sheet .kept .1 .1 .1 .1 .1 .0;
+  }
+
+abbrev expanded : tie.After-lengths-of → tie.After-expand-sheet
+expanded c = c .before .before .before .before .before .before .before .before .before .before .before
+
+-- All is zeroed but the lists.
+abbrev work-zeroed : tie.After-zero-all-arg2 → tie.After-zero-all
+work-zeroed c = c .before .before .before
+
+abbrev pool-zeroed : tie.After-clear-behind-arg3 → tie.After-zero-all2
+pool-zeroed c = c .before .before .before .before .before
+
+abbrev cleared : tie.After-slice-known15 → tie.After-clear-behind
+cleared c = c .before .before .before .before .before .before
 
 expand-sheet-requires : tie.Need-expand-sheet-requires
 expand-sheet-requires c κs = search needs
@@ -38,15 +74,17 @@ same-length-5 c = search needs
 
 returns : tie.Need-returns
 returns c =
-    let a = c .before .before .before .before .before .before .before .before .before .before .before .before .before .before .before .before .before .before .before .before .before .before .before .before .before .before .before .before .before .before .before .before .before .before .before .before .before .before .before .before .before .args in
-    let x = c .before .before .before .before .before .before .before .before .before .before .before .before .before .before .before .before .before .before .before .before .before .before .before .before .before .before .before .before .before .expand-sheet in
-    let z = c .before .before .before .before .before .before .clear-behind in
-    constraint-done (a .s .now) (length (a .work .now)) (length (a .pool .now)) (length (a .headers .now)) (length (a .variables .now)) (length (a .terms .now))
-    (x .result) (x .last .1 .1 .1 .0) (x .last .1 .1 .1 .1 .0) (x .last .1 .1 .1 .1 .1 .0) (x .ensures .0) (x .ensures .1)
-    (c .before .before .before .before .before .before .before .before .before .before .before .before .before .before .before .before .before .before .lengths-of .result) (c .before .before .before .before .before .before .before .before .before .before .before .before .before .before .before .before .before .before .lengths-of .ensures) (x .kept .1 .1 .1 .0) (x .kept .1 .1 .1 .1 .0) (x .kept .1 .1 .1 .1 .1 .0)
-    (c .before .before .before .before .before .before .before .before .before .before .before .before .before .before .before .before .zero-all .last .0) (c .before .before .before .before .before .before .before .before .before .before .before .before .zero-all2 .last .0) (z .last .0) (z .last .1 .0) (z .last .1 .1 .0)
-    (c .before .before .before .before .before .before .before .before .before .before .before .before .before .before .before .before .zero-all .ensures ∙ ap (λ (k : ℕ). replicate k 0) (x .kept .1 .0)) (c .before .before .before .before .before .before .before .before .before .before .before .before .zero-all2 .ensures ∙ ap (λ (k : ℕ). replicate k 0) (x .kept .1 .1 .0))
-    (z .ensures .0) (z .ensures .1) (z .ensures .2)
+    let clear = cleared c .clear-behind in
+    let p = pool-zeroed (cleared c .before) in
+    let w = work-zeroed (p .before) in
+    let lengths = w .before .before in
+    let e = expanded lengths in
+    let expand = e .expand-sheet in
+    let a = start e .args in
+    constraint-done (a .s .now) (length (a .work .now)) (length (a .pool .now)) (expand .result) (long e) (expand .ensures .0) (expand .ensures .1)
+    (lengths .lengths-of .result) (lengths .lengths-of .ensures) (w .zero-all .last .0) (p .zero-all2 .last .0)
+    (zeroed-again (w .zero-all .ensures) (expand .kept .1 .0)) (zeroed-again (p .zero-all2 .ensures) (expand .kept .1 .1 .0))
+    (clear .last .0) (clear .last .1 .0) (clear .last .1 .1 .0) (clear .ensures)
 
 pub expand-constraints-spec : {M : Type 1} → statement M
 expand-constraints-spec =

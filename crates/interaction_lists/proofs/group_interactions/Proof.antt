@@ -10,8 +10,8 @@ use Rattle.semantics.specs.Group.{countRoots, fieldRoots, interactionTerm}
 use Rattle.grouping.specs.Families.{groupsOf}
 use Rattle.interaction_lists.proofs.Walked.{interactions-there}
 use Rattle.interaction_lists.proofs.Messages.{longest-is}
-use Rattle.constraint_lists.proofs.Steps.{short-few}
-use Rattle.interaction_lists.proofs.Steps.{Kept, unchanged, counts-refused, fields-refused, all-written}
+use Rattle.constraint_lists.proofs.Steps.{Kept, unchanged, short-few}
+use Rattle.interaction_lists.proofs.Steps.{counts-refused, fields-refused, all-written}
 use borrow.Author.Needs.{needs}
 use Rattle.interaction_lists.proofs.group_interactions.Statement.{statement}
 use Rattle.interaction_lists.proofs.group_interactions.Tie as tie
