@@ -1,6 +1,8 @@
-use Prim.Native.Nat.{_-_}
+-- Sixteen headers at a time, or as many as are left. Kept: the headers so far have their offsets, and the totals over them are known.
+use Prim.Native.Nat.{ℕ, _+_, _*_, _-_, _≤_, _<_}
 use native.Mathlib.Omega.{arith}
 use borrow.Author.Needs.{needs}
+use lib.ListN.{length}
 use Rattle.header_offsets.proofs.Chunks.{Filled, filled-none, filled-long, vars-room, terms-room, vars-fit, terms-fit, filled-next, filled-all}
 use Rattle.header_offsets.proofs.words.fill_words.Statement.{statement}
 use Rattle.header_offsets.proofs.words.fill_words.Tie as tie
@@ -10,6 +12,41 @@ Inv-loop words₀ n vars₀ terms₀ i₀ words vars terms i = Filled words₀ n
 
 abbrev μ-loop : tie.MeasureT-loop
 μ-loop words₀ n vars₀ terms₀ i₀ words vars terms i = n - i
+
+-- It is known how many headers a turn takes: there is one, and they are inside.
+module _ (c : tie.After-at-most-sixteen Inv-loop μ-loop) where
+  abbrev turn : tie.At-loop Inv-loop μ-loop
+  turn = c .before .before
+
+  abbrev entry : tie.Start Inv-loop μ-loop
+  entry = turn .before .before
+
+  abbrev count : ℕ
+  count = c .at-most-sixteen .result
+
+  goes-on : (0 < count) × (turn .loop .i + count ≤ entry .args .n)
+  goes-on =
+      let left = c .before .loop-test .taken in
+      let k = c .at-most-sixteen .ensures in
+      (omega arith, omega arith)
+
+  inside : (count ≤ 16) × (4 * turn .loop .i + 4 * count ≤ length (turn .loop .words))
+  inside =
+      let k = c .at-most-sixteen .ensures in
+      let n = goes-on .1 in
+      let long = filled-long (turn .loop .inv) (entry .pre .0) in
+      let room = entry .pre .0 in
+      (omega arith, omega arith)
+
+-- The headers are taken out, filled, and put back.
+abbrev counted : tie.After-take-headers Inv-loop μ-loop → tie.After-at-most-sixteen Inv-loop μ-loop
+counted c = c .before .before
+
+abbrev filled : tie.After-put-headers Inv-loop μ-loop → tie.After-fill-sixteen Inv-loop μ-loop
+filled c = c .before .before
+
+abbrev put : tie.After-struct-known Inv-loop μ-loop → tie.After-put-headers Inv-loop μ-loop
+put c = c .before .before .before .before
 
 loop-holds : tie.Need-loop-holds Inv-loop μ-loop
 loop-holds c = filled-none (c .before .args .words .now) (c .before .args .n)
@@ -24,85 +61,63 @@ mul-take-headers : tie.Need-mul-take-headers Inv-loop μ-loop
 mul-take-headers c = search needs
 
 take-headers-requires : tie.Need-take-headers-requires Inv-loop μ-loop
-take-headers-requires c κs =
-    let p = c .before .before .before .before .before .pre in
-    let b = c .before .before .before .loop in
-    let g = b .inv in
-    let t = c .before .before .loop-test .taken in
-    let k = c .before .at-most-sixteen in
-    let e = filled-long g (p .0) in
-    (omega arith, omega arith)
+take-headers-requires c κs = inside (c .before)
 
 fill-sixteen-requires : tie.Need-fill-sixteen-requires Inv-loop μ-loop
 fill-sixteen-requires c κs =
-    let p = c .before .before .before .before .before .before .pre in
-    let g = c .before .before .before .before .loop .inv in
-    let k = c .before .before .at-most-sixteen .ensures in
+    let n = counted c in
+    let g = turn n .loop .inv in
+    let k = n .at-most-sixteen .ensures in
     let e = c .take-headers .ensures in
-    (vars-room g k e (p .1), terms-room g k e (p .2))
+    (vars-room g k e (entry n .pre .1), terms-room g k e (entry n .pre .2))
 
 mul-put-headers : tie.Need-mul-put-headers Inv-loop μ-loop
 mul-put-headers c = search needs
 
 put-headers-requires : tie.Need-put-headers-requires Inv-loop μ-loop
-put-headers-requires c κs =
-    let p = c .before .before .before .before .before .before .before .before .pre in
-    let b = c .before .before .before .before .before .before .loop in
-    let g = b .inv in
-    let t = c .before .before .before .before .before .loop-test .taken in
-    let k = c .before .before .before .before .at-most-sixteen in
-    let e = filled-long g (p .0) in
-    (omega arith, omega arith)
+put-headers-requires c κs = let taken = c .before .before in inside (counted taken)
 
 array-copy-out-last : tie.Need-array-copy-out-last Inv-loop μ-loop
 array-copy-out-last c = search needs
 
 add-vars : tie.Need-add-vars Inv-loop μ-loop
 add-vars c =
-    let p = c .before .before .before .before .before .before .before .before .before .before .before .before .before .pre in
-    let g = c .before .before .before .before .before .before .before .before .before .before .before .loop .inv in
-    let k = c .before .before .before .before .before .before .before .before .before .at-most-sixteen .ensures in
-    let e = c .before .before .before .before .before .before .before .take-headers .ensures in
-    let f = c .before .before .before .before .before .before .fill-sixteen .ensures in
-    record { fits = vars-fit g k e f (p .1) }
+    let f = filled (put c) in
+    let n = counted (f .before) in
+    record {
+      fits =
+          vars-fit (turn n .loop .inv) (n .at-most-sixteen .ensures) (f .before .take-headers .ensures) (f .fill-sixteen .ensures) (entry n .pre .1);
+    }
 
 add-terms : tie.Need-add-terms Inv-loop μ-loop
 add-terms c =
-    let p = c .before .before .before .before .before .before .before .before .before .before .before .before .before .before .pre in
-    let g = c .before .before .before .before .before .before .before .before .before .before .before .before .loop .inv in
-    let k = c .before .before .before .before .before .before .before .before .before .before .at-most-sixteen .ensures in
-    let e = c .before .before .before .before .before .before .before .before .take-headers .ensures in
-    let f = c .before .before .before .before .before .before .before .fill-sixteen .ensures in
-    record { fits = terms-fit g k e f (p .2) }
+    let f = filled (put (c .before)) in
+    let n = counted (f .before) in
+    record {
+      fits =
+          terms-fit (turn n .loop .inv) (n .at-most-sixteen .ensures) (f .before .take-headers .ensures) (f .fill-sixteen .ensures) (entry n .pre .2);
+    }
 
 add-i : tie.Need-add-i Inv-loop μ-loop
 add-i c =
-    let p = c .before .before .before .before .before .before .before .before .before .before .before .before .before .before .pre in
-    let b = c .before .before .before .before .before .before .before .before .before .before .before .before .loop in
-    let g = b .inv in
-    let t = c .before .before .before .before .before .before .before .before .before .before .before .loop-test .taken in
-    let k = c .before .before .before .before .before .before .before .before .before .before .at-most-sixteen in
+    let n = counted (filled (put (c .before)) .before) in
+    let within = goes-on n .1 in
+    let room = entry n .pre .0 in
     search needs
 
 loop-less : tie.Need-loop-less Inv-loop μ-loop
-loop-less c =
-    let p = c .before .before .before .before .before .before .before .before .before .before .before .before .before .before .pre in
-    let b = c .before .before .before .before .before .before .before .before .before .before .before .before .loop in
-    let g = b .inv in
-    let t = c .before .before .before .before .before .before .before .before .before .before .before .loop-test .taken in
-    let k = c .before .before .before .before .before .before .before .before .before .before .at-most-sixteen in
-    omega arith
+loop-less c = let n = counted (filled (put (c .before)) .before) in omega (arith, goes-on n .0, goes-on n .1)
 
 loop-again : tie.Need-loop-again Inv-loop μ-loop
 loop-again c =
-    let g = c .before .before .before .before .before .before .before .before .before .before .before .before .loop .inv in
-    let k = c .before .before .before .before .before .before .before .before .before .before .at-most-sixteen .ensures in
-    let e = c .before .before .before .before .before .before .before .before .take-headers .ensures in
-    let f = c .before .before .before .before .before .before .before .fill-sixteen .ensures in
-    filled-next g k e f (c .before .before .before .before .before .put-headers .ensures)
+    let p = put (c .before) in
+    let f = filled p in
+    let n = counted (f .before) in
+    filled-next (turn n .loop .inv) (n .at-most-sixteen .ensures) (f .before .take-headers .ensures) (f .fill-sixteen .ensures)
+    (p .put-headers .ensures)
 
 same-length : tie.Need-same-length Inv-loop μ-loop
-same-length c = filled-long (c .before .loop .inv) (c .before .before .before .pre .0)
+same-length c = let l = c .before in filled-long (l .loop .inv) (l .before .before .pre .0)
 
 returns : tie.Need-returns Inv-loop μ-loop
 returns c = filled-all (c .before .loop .inv) (c .loop-test .left)

@@ -1,7 +1,11 @@
+-- The four words are read one by one.
 use borrow.Author.Needs.{needs}
 use Rattle.header_offsets.proofs.HeaderWords.{header-read}
 use Rattle.header_offsets.proofs.words.header_at.Statement.{statement}
 use Rattle.header_offsets.proofs.words.header_at.Tie as tie
+
+abbrev start : tie.After-shared-slice-known4 → tie.Start
+start c = c .before .before .before .before
 
 mul-t3 : tie.Need-mul-t3
 mul-t3 c = search needs
@@ -37,7 +41,7 @@ shared-slice-read-t17 : tie.Need-shared-slice-read-t17
 shared-slice-read-t17 c = search needs
 
 returns : tie.Need-returns
-returns c = let a = c .before .before .before .before .args in header-read (a .words .now) (a .at)
+returns c = header-read (start c .args .words .now) (start c .args .at)
 
 pub header-at-spec : {M : Type 1} → statement M
 header-at-spec =

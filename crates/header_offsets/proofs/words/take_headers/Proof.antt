@@ -1,3 +1,4 @@
+-- Header by header. Kept: the headers so far are those that the words from `at` on hold, and the others are empty.
 use mathlib.Core.Path.{_≡_, sym, ap, _∙_}
 use mathlib.Core.List.{List, _++_}
 use Prim.Native.Nat.{ℕ, _*_, _-_, _≤_}
@@ -17,6 +18,13 @@ Inv-loop words at k headers₀ j₀ headers j = (j ≤ k) × Taken (drop at word
 abbrev μ-loop : tie.MeasureT-loop
 μ-loop words at k headers₀ j₀ headers j = k - j
 
+abbrev start : tie.At-loop Inv-loop μ-loop → tie.Start Inv-loop μ-loop
+start c = c .before .before
+
+-- A header is read.
+abbrev turn : tie.After-header-at Inv-loop μ-loop → tie.At-loop Inv-loop μ-loop
+turn c = c .before .before
+
 loop-holds : tie.Need-loop-holds Inv-loop μ-loop
 loop-holds c = (omega arith, taken-none (drop (c .before .args .at) (c .before .args .words .now)))
 
@@ -34,9 +42,9 @@ mul-headers c = search needs
 
 array-set-from-headers : tie.Need-array-set-from-headers Inv-loop μ-loop
 array-set-from-headers c =
-    let a = c .before .before .before .before .args in
-    let b = c .before .before .loop in
-    let p = c .before .before .before .before .pre in
+    let a = start (turn c) .args in
+    let p = start (turn c) .pre in
+    let b = turn c .loop in
     let l = taken-length (drop (a .at) (a .words .now)) (b .j) (b .headers) (b .inv .1) (omega arith) in
     search needs
 
@@ -48,9 +56,9 @@ loop-less c = search needs
 
 loop-again : tie.Need-loop-again Inv-loop μ-loop
 loop-again c =
-    let a = c .before .before .before .before .args in
-    let b = c .before .before .loop in
-    let p = c .before .before .before .before .pre in
+    let a = start (turn c) .args in
+    let p = start (turn c) .pre in
+    let b = turn c .loop in
     let t = c .before .loop-test .taken in
     let ws : List ℕ = drop (a .at) (a .words .now) in
     let e = c .header-at .ensures ∙ ap headerIn (sym (drop-drop (4 * b .j) (a .at) (a .words .now))) in
@@ -58,7 +66,7 @@ loop-again c =
 
 returns : tie.Need-returns Inv-loop μ-loop
 returns c =
-    let a = c .before .before .before .args in
+    let a = start (c .before) .args in
     let b = c .before .loop in
     let e : b .j ≡ a .k = let h = b .inv .0 in let t = c .loop-test .left in omega arith in
     b .inv .1 ∙ ap (λ (j : ℕ). headersIn j (drop (a .at) (a .words .now)) ++ replicate (16 - j) noHeader) e
