@@ -7,6 +7,7 @@ use native.Mathlib.Nat.{add-zero, sub-zero}
 use native.Mathlib.Numerals.{add-one}
 use lib.ListN.{length, getD, take, drop, replicate, set, take-append-drop}
 use lib.Seq.{drop-drop, drop-at, getD-drop, length-take-le}
+use Rattle.slices.proofs.Puts.{put-front, stores-put}
 use Rattle.slices.proofs.Lists.{flat-append}
 use Rattle.semantics.specs.Answer.{good}
 use Rattle.semantics.specs.Sheet.{Sheet, encode, lengthOf}
@@ -15,7 +16,6 @@ use Rattle.semantics.specs.Block.{wordBytes, wordsOf, checkWord, firstWords, bl
 use Rattle.semantics.proofs.Blocks.{Words, words-back, first-length, first-add, written-length}
 use Rattle.sheet.specs.declared.Head.{Head}
 use Rattle.sheet.proofs.Answers.{headOf, words-found}
-use Rattle.slices.proofs.Puts.{put-front, stores-put}
 
 -- Four bytes, one behind the other.
 pub word-put : (w : ℕ) (o bs : List ℕ) (at : ℕ) → at + 4 ≤ length o → bs ≡ wordBytes w

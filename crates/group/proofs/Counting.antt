@@ -8,9 +8,10 @@ use native.Mathlib.Numerals.{add-one}
 use native.Mathlib.Omega.{arith}
 use lib.ListN.{length, getD, take, drop, set, length-drop, length-set}
 use lib.Seq.{drop-set-lt, getD-set-other, getD-set-same, drop-drop, length-take-le, getD-drop}
+use Rattle.slices.proofs.Rows.{rows-length, rows-at, word-at, rows-set}
+use Rattle.slices.specs.Rows.{rows}
 use Rattle.slices.proofs.Lists.{map-set}
 use Rattle.semantics.specs.Monomial.{beforeVars}
-use Rattle.semantics.specs.Group.{rows}
 use Rattle.semantics.specs.Call.{zeros}
 use Rattle.semantics.specs.Lists.{All}
 use Rattle.semantics.proofs.Sorting.{all-within}
@@ -23,7 +24,7 @@ use Rattle.monomial.specs.Words.{readMonomial}
 use Rattle.monomial.specs.Orders.{chosen, orderOf}
 use Rattle.group.specs.Grouped.{Tally, tally, Ascends, total, none, tallyRow, tallied, RowInside, Rows, Spot, Between, Counted}
 use Rattle.group.proofs.Tallies.{once, again, tally-nil, tally-less, tally-more, tally-same, tally-ascends}
-use Rattle.group.proofs.Headers.{rows-length, rows-at, word-at, rows-set, tallied-length, tallied-at, vars-at, count-at, total-at}
+use Rattle.group.proofs.Headers.{tallied-length, tallied-at, vars-at, count-at, total-at}
 
 -- What an order says.
 abbrev pub Told : (v w : List ℕ) → Order → Type 0
@@ -126,12 +127,6 @@ tally-missing v (g ∷ gs) (suc k) s =
     ∙ ap (λ (l : List Tally). g ∷ l)
     (tally-missing v gs k (omega (arith, s .0), (λ i h. s .1 (suc i) (omega arith)), (λ i h l. s .2 (suc i) (omega arith) (omega arith))))
 
-pub map-insert : {X Y : Type 0} (f : X → Y) (l : List X) (k : ℕ) (x : X) → map f (take k l ++ (x ∷ drop k l)) ≡ take k (map f l) ++ (f x ∷ drop k (map f l))
-map-insert f [] zero x = refl
-map-insert f [] (suc k) x = refl
-map-insert f (y ∷ l) zero x = refl
-map-insert f (y ∷ l) (suc k) x = ap (λ t. f y ∷ t) (map-insert f l k x)
-
 pub all-set : {X : Type 0} (Q : X → Type 0) (l : List X) (k : ℕ) (x : X) → All Q l → Q x → All Q (set l k x)
 all-set Q [] k x a q = tt
 all-set Q (y ∷ l) zero x a q = (q, a .1)
@@ -146,7 +141,7 @@ all-insert Q (y ∷ l) (suc k) x a q = (a .0, all-insert Q l k x (a .1) q)
 pub row-long : (n k : ℕ) (H : List ℕ) → k < n → 4 * n ≤ length H → length (getD (rows 4 n H) k []) ≡ 4
 row-long n k H h l =
     let d : length (drop (4 * k) H) ≡ length H - 4 * k = length-drop (4 * k) H in
-    ap length (rows-at n k H h) ∙ length-take-le 4 (drop (4 * k) H) (omega arith)
+    ap length (rows-at 4 n k H h) ∙ length-take-le 4 (drop (4 * k) H) (omega arith)
 
 -- What a row says when its cursor or its count is changed.
 pub tallyRow-cursor : (P row : List ℕ) (x : ℕ) → tallyRow P (set row 1 x) ≡ tallyRow P row
@@ -185,18 +180,18 @@ module _ (n k : ℕ) (H P v : List ℕ) (r : Rows n H P) where
       let x : ℕ = getD H (4 * k + 3) 0 + 1 in
       let R : List (List ℕ) = rows 4 n H in
       let row : List ℕ = getD R k [] in
-      let e = rows-set n k 3 x H h (omega arith) in
+      let e = rows-set 4 n k 3 x H h (omega arith) in
       let l = row-long n k H h (r .room) in
       let m = r .room in
       let j : 4 * k + 3 < 4 * n = omega arith in
-      let w : x ≡ suc (tallyRow P row .count) = add-one (getD H (4 * k + 3) 0) ∙ ap suc (sym (word-at n k 3 H h (omega arith)) ∙ sym (row-count P row)) in
+      let w : x ≡ suc (tallyRow P row .count) = add-one (getD H (4 * k + 3) 0) ∙ ap suc (sym (word-at 4 n k 3 H h (omega arith)) ∙ sym (row-count P row)) in
       let t : tallyRow P (set row 3 x) ≡ again (getD (tallied n H P) k none) =
       tallyRow-count P row x (omega arith) ∙ ap (λ (y : ℕ). record { vars = tallyRow P row .vars; count = y }) w
       ∙ ap again (sym (tallied-at n k H P h)) in
       let q : tallied n (set H (4 * k + 3) x) P ≡ tally v (tallied n H P) =
       ap (map (tallyRow P)) e ∙ map-set (tallyRow P) R k (set row 3 x) ∙ ap (set (map (tallyRow P) R) k) t
       ∙ sym (tally-there v (tallied n H P) k (r .ascends) (s .0) (s .1)) in
-      let g = all-within (RowInside P) R k [] (r .inside) (subst (λ (i : ℕ). k < i) (sym (rows-length n H)) h) in
+      let g = all-within (RowInside P) R k [] (r .inside) (subst (λ (i : ℕ). k < i) (sym (rows-length 4 n H)) h) in
       let a : getD (set row 3 x) 0 0 ≡ getD row 0 0 = getD-set-other row 3 0 x 0 (λ z. absurd (omega arith)) in
       let b : getD (set row 3 x) 2 0 ≡ getD row 2 0 = getD-set-other row 3 2 x 0 (λ z. absurd (omega arith)) in
       let d = length-set H (4 * k + 3) x in (

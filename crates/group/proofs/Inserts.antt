@@ -3,12 +3,13 @@ use mathlib.Core.Path.{_≡_, refl, sym, _∙_, ap, subst}
 use mathlib.Core.Bool.{true}
 use mathlib.Core.List.{List, [], _∷_, _++_, map, append-assoc}
 use Prim.Native.Nat.{ℕ, suc, _+_, _*_, _-_, _≤_, _<_}
-use native.Mathlib.Numerals.{add-one}
 use native.Mathlib.Omega.{arith}
 use lib.ListN.{length, getD, take, drop, length-append, length-drop, take-append-drop}
 use lib.Seq.{sets, sets-eq, drop-drop, drop-at, take-append-le, drop-append-le, take-take, length-take-le, take-add}
+use Rattle.slices.proofs.Rows.{rows-front, rows-insert}
+use Rattle.slices.proofs.Lists.{map-insert}
+use Rattle.slices.specs.Rows.{rows}
 use Rattle.semantics.specs.Monomial.{beforeVars}
-use Rattle.semantics.specs.Group.{rows}
 use Rattle.semantics.specs.Call.{zeros}
 use Rattle.semantics.specs.Lists.{All}
 use Rattle.semantics.proofs.Calls.{drop-zeros}
@@ -17,8 +18,8 @@ use Rattle.group.specs.declared.Tallied.the-variants.{Headers}
 use Rattle.group.specs.Grouped.{Tally, tally, tallyAll, tallyRow, tallied, Ascends, RowInside, Rows, Spot, Counted}
 use Rattle.group.specs.Waiting.{Inside, varsAt, Batch, batched}
 use Rattle.group.proofs.Tallies.{once, tally-ascends}
-use Rattle.group.proofs.Headers.{rows-front, rows-insert, tallied-length}
-use Rattle.group.proofs.Counting.{tally-missing, map-insert, all-insert, tally-once, read-vars}
+use Rattle.group.proofs.Headers.{tallied-length}
+use Rattle.group.proofs.Counting.{tally-missing, all-insert, tally-once, read-vars}
 use Rattle.group.proofs.Waits.{waitingFrom, waiting-end, spot-from, tally-from, length-waiting, missing-le-missing, batched-is}
 
 -- A row put in.
@@ -41,7 +42,7 @@ module _ (m k : ℕ) (W P v : List ℕ) (r : Rows m W P) (s : Spot v (tallied m 
       ap (λ (x : List ℕ). M ++ x) (ap (λ (x : ℕ). drop x W) (sym y) ∙ sym (drop-drop (4 * m - 4 * k) (4 * k) W)) ∙ take-append-drop (4 * m - 4 * k) (drop (4 * k) W) in
       let u : W′ ≡ take (4 * k) W ++ (row ++ (M ++ Z)) = w ∙ ap (λ (x : List ℕ). take (4 * k) W ++ (row ++ x)) (sym mz) in
       let a : rows 4 (m + 1) W′ ≡ take k R ++ (row ∷ drop k R) =
-      ap (λ (j : ℕ). rows 4 j W′) (add-one m) ∙ ap (rows 4 (suc m)) u ∙ rows-insert m k W row Z h o refl in
+      ap (rows 4 (m + 1)) u ∙ rows-insert 4 m k W row Z h o refl in
       let q : tallied (m + 1) W′ P ≡ tally v (tallied m W P) =
       ap (map (tallyRow P)) a ∙ map-insert (tallyRow P) R k row
       ∙ ap (λ (g : Tally). take k (map (tallyRow P) R) ++ (g ∷ drop k (map (tallyRow P) R))) (tally-once P at c ∙ ap once (sym e))
@@ -135,7 +136,7 @@ module _ {n b : ℕ} {H₀ P pl fr : List ℕ} (t : Batch n b H₀ P pl fr) wher
       let z : n + (b - b) ≡ n = omega arith in
       let Z : List ℕ = drop (4 * n + 4 * b) H₀ in
       let C : List ℕ = closed H₀ n b in
-      let a : rows 4 n C ≡ rows 4 n H₀ = rows-front n H₀ Z o in
+      let a : rows 4 n C ≡ rows 4 n H₀ = rows-front 4 n H₀ Z o in
       let q : tallied n C P ≡ tallied n H₀ P = ap (map (tallyRow P)) a in
       let lt : length (take (4 * n) H₀) ≡ 4 * n = length-take-le (4 * n) H₀ o in
       let lz : length Z ≡ length H₀ - (4 * n + 4 * b) = length-drop (4 * n + 4 * b) H₀ in

@@ -9,9 +9,11 @@ use lib.Dec.{eqb}
 use lib.ListN.{length, getD, drop, set, length-append, length-set}
 use lib.Seq.{sets, length-sets, drop-set-lt, getD-set-other, getD-set-same}
 use borrow.Author.Tests.{eq-eqb, ne-eqb}
+use Rattle.slices.proofs.Rows.{rows-length, word-at, rows-set}
+use Rattle.slices.specs.Rows.{rows}
 use Rattle.slices.proofs.Lists.{map-set, flat-length}
 use Rattle.semantics.specs.Monomial.{Monomial}
-use Rattle.semantics.specs.Group.{Item, itemsOf, constraintTerm, interactionTerm, rows}
+use Rattle.semantics.specs.Group.{Item, itemsOf, constraintTerm, interactionTerm}
 use Rattle.semantics.specs.Call.{zeros, padded}
 use Rattle.semantics.specs.Lists.{All}
 use Rattle.semantics.proofs.Basics.{cond-true, cond-false}
@@ -26,7 +28,7 @@ use Rattle.group.specs.Grouped.{Tally, Ascends, countOf, total, none, ta
 use Rattle.group.specs.Grouped.{Standing, termOf, widthOf, itemAt, itemsAt, Placing, ToPlace, Places}
 use Rattle.group.proofs.Gathering.{less-is, more-is}
 use Rattle.group.proofs.Places.{select-append, select-same, Fit, room-fit, spot, cursor-at, cursor-step, place-step}
-use Rattle.group.proofs.Headers.{rows-length, word-at, rows-set, tallied-length}
+use Rattle.group.proofs.Headers.{tallied-length}
 use Rattle.group.proofs.RowTotals.{words, column-words}
 use Rattle.group.proofs.Counting.{all-set, row-long, tallyRow-cursor}
 use Rattle.group.proofs.PoolLists.{left-suc, standing-next}
@@ -52,10 +54,10 @@ module _ (T T′ : List ℕ) (at i f c : ℕ) where
 -- The cursor of row k changed.
 module _ (n k x : ℕ) (H P : List ℕ) (r : Rows n H P) (h : k < n) where
   set-rows : rows 4 n (set H (4 * k + 1) x) ≡ set (rows 4 n H) k (set (getD (rows 4 n H) k []) 1 x)
-  set-rows = rows-set n k 1 x H h (omega arith)
+  set-rows = rows-set 4 n k 1 x H h (omega arith)
 
   in-rows : k < length (rows 4 n H)
-  in-rows = subst (λ (m : ℕ). k < m) (sym (rows-length n H)) h
+  in-rows = subst (λ (m : ℕ). k < m) (sym (rows-length 4 n H)) h
 
   same-row : {Y : Type 0} (f : List ℕ → Y) → f (set (getD (rows 4 n H) k []) 1 x) ≡ f (getD (rows 4 n H) k [])
       → map f (rows 4 n (set H (4 * k + 1) x)) ≡ map f (rows 4 n H)
@@ -155,8 +157,8 @@ module _ (b : Bool) (gs : List Tally) (n : ℕ) (H P T : List ℕ) (done : List 
   cursor-word : getD (column 1 n H) k 0 ≡ getD H (4 * k + 1) 0
   cursor-word =
       ap (λ (l : List ℕ). getD l k 0) (column-words 1 n H)
-      ∙ getD-map (λ (row : List ℕ). getD row 1 0) (rows 4 n H) k [] 0 (subst (λ (i : ℕ). k < i) (sym (rows-length n H)) row-lt)
-      ∙ word-at n k 1 H row-lt (omega arith)
+      ∙ getD-map (λ (row : List ℕ). getD row 1 0) (rows 4 n H) k [] 0 (subst (λ (i : ℕ). k < i) (sym (rows-length 4 n H)) row-lt)
+      ∙ word-at 4 n k 1 H row-lt (omega arith)
 
   cursor-spot : getD H (4 * k + 1) 0 ≡ spot gs k done
   cursor-spot =

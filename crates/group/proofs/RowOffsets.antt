@@ -5,7 +5,7 @@ use Prim.Native.Nat.{ℕ, zero, suc, _+_, _*_, _≤_, _<_}
 use native.Mathlib.Omega.{arith}
 use lib.ListN.{length, getD, drop}
 use lib.Seq.{getD-take}
-use Rattle.semantics.specs.Group.{rows}
+use Rattle.slices.specs.Rows.{rows}
 use Rattle.header_offsets.specs.declared.MonomialHeader.{MonomialHeader}
 use Rattle.header_offsets.specs.Headers.{numVars, numTerms, total, withOffsets, headerIn, headersIn, wordsOf, filledWords}
 use Rattle.header_offsets.proofs.Chunks.{filled-rest}

@@ -6,9 +6,9 @@ use native.Mathlib.Numerals.{add-one}
 use native.Mathlib.Omega.{arith}
 use lib.ListN.{length, getD, take, drop, set, length-set, drop-of-length-le}
 use lib.Seq.{drop-cons, take-suc-set, drop-set-lt, take-all}
-use Rattle.semantics.specs.Group.{rows}
+use Rattle.slices.proofs.Rows.{rows-length, word-at, rows-set}
+use Rattle.slices.specs.Rows.{rows}
 use Rattle.group.specs.Grouped.{column, sum, totalled}
-use Rattle.group.proofs.Headers.{rows-length, word-at, rows-set}
 
 abbrev pub words : ℕ → List (List ℕ) → List ℕ
 words j rs = map (λ (row : List ℕ). getD row j 0) rs
@@ -24,17 +24,17 @@ sum-cons x xs = refl
 -- The rows from row i on.
 rows-from : (n i : ℕ) (H : List ℕ) → i < n → drop i (rows 4 n H) ≡ getD (rows 4 n H) i [] ∷ drop (i + 1) (rows 4 n H)
 rows-from n i H h =
-    drop-cons (rows 4 n H) i [] (subst (λ (m : ℕ). i < m) (sym (rows-length n H)) h)
+    drop-cons (rows 4 n H) i [] (subst (λ (m : ℕ). i < m) (sym (rows-length 4 n H)) h)
     ∙ ap (λ (k : ℕ). getD (rows 4 n H) i [] ∷ drop k (rows 4 n H)) (sym (add-one i))
 
 rows-end : (n i : ℕ) (H : List ℕ) → n ≤ i → drop i (rows 4 n H) ≡ []
-rows-end n i H h = drop-of-length-le (rows 4 n H) {i = i} (subst (λ (m : ℕ). m ≤ i) (sym (rows-length n H)) h)
+rows-end n i H h = drop-of-length-le (rows 4 n H) {i = i} (subst (λ (m : ℕ). m ≤ i) (sym (rows-length 4 n H)) h)
 
 sum-from : (j n i : ℕ) (H : List ℕ) → i < n → j < 4 → sum (words j (drop i (rows 4 n H))) ≡ getD H (4 * i + j) 0 + sum (words j (drop (i + 1) (rows 4 n H)))
 sum-from j n i H h l =
     ap (λ (r : List (List ℕ)). sum (words j r)) (rows-from n i H h)
     ∙ sum-cons (getD (getD (rows 4 n H) i []) j 0) (words j (drop (i + 1) (rows 4 n H)))
-    ∙ ap (λ (x : ℕ). x + sum (words j (drop (i + 1) (rows 4 n H)))) (word-at n i j H h l)
+    ∙ ap (λ (x : ℕ). x + sum (words j (drop (i + 1) (rows 4 n H)))) (word-at 4 n i j H h l)
 
 -- While a column is summed.
 abbrev pub Summing : (j n : ℕ) (H : List ℕ) (total i : ℕ) → Type 0
@@ -78,9 +78,9 @@ module _ (H₀ : List ℕ) (n to from : ℕ) (H : List ℕ) (total i : ℕ) (g :
       let R : List (List ℕ) = rows 4 n H in
       let row : List ℕ = getD R i [] in
       let H′ : List ℕ = set H (4 * i + to) total in
-      let e : rows 4 n H′ ≡ set R i (set row to total) = rows-set n i to total H h (omega arith) in
-      let w = word-at n i from H h f in
-      let q : i < length R = subst (λ (m : ℕ). i < m) (sym (rows-length n H)) h in
+      let e : rows 4 n H′ ≡ set R i (set row to total) = rows-set 4 n i to total H h (omega arith) in
+      let w = word-at 4 n i from H h f in
+      let q : i < length R = subst (λ (m : ℕ). i < m) (sym (rows-length 4 n H)) h in
       let d : drop (i + 1) (rows 4 n H′) ≡ drop (i + 1) R = ap (drop (i + 1)) e ∙ drop-set-lt (i + 1) R i (set row to total) (omega arith) in
       let t : take (i + 1) (rows 4 n H′) ≡ take i R ++ (set row to total ∷ []) =
       ap (take (i + 1)) e ∙ ap (λ (k : ℕ). take k (set R i (set row to total))) (add-one i) ∙ take-suc-set R i (set row to total) q in
@@ -104,7 +104,7 @@ module _ (H₀ : List ℕ) (n to from : ℕ) (H : List ℕ) (total i : ℕ) (g :
   unfolding totalled
   running-done h =
       let R : List (List ℕ) = rows 4 n H in
-      let a : take i R ≡ R = take-all i R (subst (λ (m : ℕ). m ≤ i) (sym (rows-length n H)) h) in (
+      let a : take i R ≡ R = take-all i R (subst (λ (m : ℕ). m ≤ i) (sym (rows-length 4 n H)) h) in (
         sym (append-nil R) ∙ ap (λ (x : List (List ℕ)). x ++ []) (sym a)
             ∙ ap (λ (x : List (List ℕ)). take i R ++ totalled to from total x) (sym (rows-end n i H h)) ∙ g .whole,
         g .rest,

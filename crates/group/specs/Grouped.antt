@@ -5,8 +5,9 @@ use mathlib.Core.List.{List, [], _∷_, _++_, map, flatMap}
 use Prim.Native.Nat.{ℕ, zero, suc, _+_, _*_, _-_, _≤_, _<_}
 use lib.Dec.{eqb}
 use lib.ListN.{length, getD, take, drop, set}
+use Rattle.slices.specs.Rows.{rows}
 use Rattle.semantics.specs.Monomial.{BeforeVars, Monomial, beforeVars}
-use Rattle.semantics.specs.Group.{Item, itemsOf, constraintTerm, interactionTerm, rows}
+use Rattle.semantics.specs.Group.{Item, itemsOf, constraintTerm, interactionTerm}
 use Rattle.semantics.specs.Call.{zeros, padded}
 use Rattle.semantics.specs.Lists.{AscendBy, All}
 use Rattle.monomial.specs.Words.{listIn, Stored}

@@ -3,7 +3,7 @@ use header_offsets::words;
 ghost use mathlib.Core.Path.{_≡_};
 ghost use Prim.Native.Nat.{_+_, _*_, _≤_, _<_};
 ghost use lib.ListN.{length, drop};
-ghost use Rattle.semantics.specs.Group.{rows};
+ghost use Rattle.slices.specs.Rows.{rows};
 ghost use Rattle.group.specs.Grouped.{column, sum, totalled};
 
 // The total of one word over the n rows.

@@ -7,8 +7,10 @@ use native.Mathlib.Omega.{arith}
 use lib.Dec.{eqb}
 use lib.ListN.{length, getD, take, drop, set, replicate, length-append, length-drop, length-replicate, take-append-drop}
 use lib.Seq.{getD-set-other, getD-set-same, length-take-le, take-add, take-append-seam}
+use Rattle.slices.proofs.Rows.{rows-length}
+use Rattle.slices.specs.Rows.{rows}
 use Rattle.semantics.specs.Monomial.{Monomial}
-use Rattle.semantics.specs.Group.{Root, Item, itemsOf, rows}
+use Rattle.semantics.specs.Group.{Root, Item, itemsOf}
 use Rattle.semantics.specs.Call.{zeros, padded}
 use Rattle.semantics.specs.Lists.{All}
 use Rattle.semantics.proofs.Calls.{zeros-add, zeros-long, padded-is}
@@ -16,7 +18,7 @@ use Rattle.group.specs.Grouped.{Tally, tallyAll, Ascends, total, tallyRow, tall
 use Rattle.group.specs.Grouped.{itemsAt, termOf, widthOf, Placing, varsIn, headersOf, Vacant, InPool, varsNamed}
 use Rattle.group.proofs.Tallies.{total-all, length-all}
 use Rattle.group.proofs.Places.{placed-none}
-use Rattle.group.proofs.Headers.{rows-length, tallied-length}
+use Rattle.group.proofs.Headers.{tallied-length}
 use Rattle.group.proofs.RowTotals.{words, column-words}
 use Rattle.group.proofs.Counting.{tallyRow-cursor, row-count}
 use Rattle.grouping.proofs.NamedLists.{vars-length}
@@ -125,7 +127,7 @@ module _ (n : ℕ) (H P : List ℕ) (r : Rows n H P) where
   pub vars-few : sum (column 2 n H) ≤ 14 * n
   vars-few =
       let e = ap sum (column-words 2 n H) in
-      let l = rows-length n H in
+      let l = rows-length 4 n H in
       omega (arith, sum-few P (rows 4 n H) (r .inside))
 
 -- The offsets filled in.

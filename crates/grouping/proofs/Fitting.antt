@@ -9,11 +9,12 @@ use lib.Dec.{leb}
 use lib.ListN.{length, take, drop, length-append, length-map}
 use lib.Seq.{take-append-seam}
 use borrow.Author.Tests.{le-leb, lt-leb}
+use Rattle.slices.specs.Rows.{rows}
 use Rattle.slices.proofs.Lists.{flat-length}
 use Rattle.semantics.specs.Arithmetic.{prime}
 use Rattle.semantics.specs.Monomial.{Monomial, listAt}
 use Rattle.semantics.specs.Check.{readSheet}
-use Rattle.semantics.specs.Group.{Root, Item, itemsOf, items, Group, groups, headers, variables, terms, layout, rows}
+use Rattle.semantics.specs.Group.{Root, Item, itemsOf, items, Group, groups, headers, variables, terms, layout}
 use Rattle.semantics.specs.Call.{zeros, padded, firstShort}
 use Rattle.semantics.specs.Lists.{All}
 use Rattle.semantics.proofs.Basics.{cond-true, cond-false}

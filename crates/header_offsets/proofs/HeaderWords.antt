@@ -1,13 +1,15 @@
 -- Headers and their words: taken out one by one, and put back.
 use mathlib.Core.Path.{_≡_, refl, sym, ap, _∙_}
-use mathlib.Core.List.{List, [], _∷_, _++_, append-assoc}
+use mathlib.Core.List.{List, [], _∷_, _++_, map, append-assoc, map-append}
 use Prim.Native.Nat.{ℕ, zero, suc, _+_, _*_, _-_, _≤_, _<_}
 use native.Mathlib.Numerals.{add-one}
 use native.Mathlib.Omega.{arith}
-use lib.ListN.{length, getD, set, take, drop, replicate, length-append, length-replicate}
-use lib.Seq.{take-suc, drop-drop, getD-drop, length-take-le, set-at}
+use lib.ListN.{length, getD, set, take, drop, replicate, length-append, length-map, length-replicate}
+use lib.Seq.{take-suc, getD-drop, getD-take, length-take-le, set-at}
 use Rattle.slices.specs.Putting.{put}
+use Rattle.slices.specs.Rows.{rows}
 use Rattle.slices.proofs.Puts.{put-none, put-behind, stores-put}
+use Rattle.slices.proofs.Rows.{rows-length, rows-split}
 use Rattle.header_offsets.specs.declared.MonomialHeader.{MonomialHeader}
 use Rattle.header_offsets.specs.Headers.{noHeader, headerIn, headersIn, wordsOf}
 
@@ -28,19 +30,28 @@ pub header-stored : (ws : List ℕ) (at : ℕ) (h : MonomialHeader) → at + 4 �
 unfolding wordsOf
 header-stored ws at h l = stores-put ws at (h .«var_offset») (h .«term_offset» ∷ h .«num_vars» ∷ h .«num_terms» ∷ []) l
 
+-- Headers are rows of four words.
+in-row : (ws : List ℕ) → headerIn (take 4 ws) ≡ headerIn ws
+unfolding headerIn
+in-row ws = λ i. record {
+  «var_offset» = getD-take 4 ws 0 0 (omega arith) i;
+  «term_offset» = getD-take 4 ws 1 0 (omega arith) i;
+  «num_vars» = getD-take 4 ws 2 0 (omega arith) i;
+  «num_terms» = getD-take 4 ws 3 0 (omega arith) i;
+}
+
+pub in-rows : (n : ℕ) (ws : List ℕ) → headersIn n ws ≡ map headerIn (rows 4 n ws)
+unfolding headersIn rows
+in-rows zero ws = refl
+in-rows (suc n) ws = λ i. sym (in-row ws) i ∷ in-rows n (drop 4 ws) i
+
 pub in-length : (n : ℕ) (ws : List ℕ) → length (headersIn n ws) ≡ n
-unfolding headersIn
-in-length zero ws = refl
-in-length (suc n) ws = ap suc (in-length n (drop 4 ws))
+in-length n ws = ap length (in-rows n ws) ∙ length-map (rows 4 n ws) headerIn ∙ rows-length 4 n ws
 
 pub in-append : (i k : ℕ) (ws : List ℕ) → headersIn (i + k) ws ≡ headersIn i ws ++ headersIn k (drop (4 * i) ws)
-unfolding headersIn
-in-append zero k ws = let z : 0 + k ≡ k = omega arith in ap (λ (j : ℕ). headersIn j ws) z
-in-append (suc i) k ws =
-    let z : suc i + k ≡ suc (i + k) = omega arith in
-    let f : 4 + 4 * i ≡ 4 * suc i = omega arith in
-    ap (λ (j : ℕ). headersIn j ws) z ∙ ap (λ (r : List MonomialHeader). headerIn ws ∷ r) (in-append i k (drop 4 ws))
-    ∙ ap (λ (r : List ℕ). headerIn ws ∷ (headersIn i (drop 4 ws) ++ headersIn k r)) (drop-drop (4 * i) 4 ws ∙ ap (λ (j : ℕ). drop j ws) f)
+in-append i k ws =
+    in-rows (i + k) ws ∙ ap (map headerIn) (rows-split 4 i k ws) ∙ map-append headerIn (rows 4 i ws) (rows 4 k (drop (4 * i) ws))
+    ∙ λ j. sym (in-rows i ws) j ++ sym (in-rows k (drop (4 * i) ws)) j
 
 pub words-length : (hs : List MonomialHeader) → length (wordsOf hs) ≡ 4 * length hs
 unfolding wordsOf

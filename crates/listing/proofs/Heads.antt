@@ -7,7 +7,8 @@ use native.Mathlib.Nat.{mul-le-mul}
 use lib.ListN.{length, getD, take, drop}
 use mir.Syntax.{w64}
 use mir.Val.{Fits}
-use Rattle.semantics.specs.Group.{listedAt, listed, rows}
+use Rattle.slices.specs.Rows.{rows}
+use Rattle.semantics.specs.Group.{listedAt, listed}
 use Rattle.semantics.specs.Sheetlist.{headerLines}
 use Rattle.listing.specs.declared.headers.Family.{Family}
 use Rattle.listing.specs.declared.headers.Family.the-variants.{Constraints, Numerators, Denominators}

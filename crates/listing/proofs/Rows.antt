@@ -7,7 +7,7 @@ use native.Mathlib.Nat.{mul-suc, mul-zero, mul-le-mul-left}
 use native.Mathlib.Numerals.{add-one}
 use lib.ListN.{length, getD, take, drop}
 use lib.Seq.{drop-drop, drop-cons}
-use Rattle.semantics.specs.Group.{rows}
+use Rattle.slices.specs.Rows.{rows}
 use Rattle.semantics.specs.Sheetlist.{line, hexDigits}
 use Rattle.listing.specs.Putting.{Room, Puts}
 use Rattle.listing.specs.Families.{widthOf, lineOf, spaced, headerLine}

@@ -1,20 +1,24 @@
 -- A monomial summed into a list that ascends, and into the words of the work list.
 use mathlib.Core.Path.{_≡_, refl, sym, ap, subst, _∙_}
 use mathlib.Core.Bool.{true, false}
-use mathlib.Core.List.{List, [], _∷_, _++_}
+use mathlib.Core.List.{List, [], _∷_, _++_, map, map-append}
 use Prim.Native.Nat.{ℕ, zero, suc, _+_, _*_, _-_, _≤_, _<_}
+use native.Mathlib.Numerals.{add-one}
 use native.Mathlib.Omega.{arith}
 use lib.Dec.{eqb}
-use lib.ListN.{length, getD, take, drop, set, length-drop, length-set}
-use lib.Seq.{take-take, take-append-le, drop-at, getD-take, getD-drop, length-take-le}
+use lib.ListN.{length, getD, take, drop, set, length-drop}
+use lib.Seq.{take-take, take-append-le, drop-at, getD-take, getD-drop, length-take-le, set-split}
 use borrow.Author.Tests.{eq-eqb, ne-eqb}
+use Rattle.slices.specs.Rows.{rows}
+use Rattle.slices.proofs.Lists.{map-set, map-take, map-drop, map-insert}
+use Rattle.slices.proofs.Rows.{rows-at, rows-set, rows-insert, rows-remove}
 use Rattle.semantics.specs.Arithmetic.{addM}
 use Rattle.semantics.specs.Monomial.{Asc, Monomial, beforeVars, keep, plus, insertMonomial}
 use Rattle.semantics.proofs.Basics.{cond-true, cond-false}
 use Rattle.semantics.proofs.Order.{beforeVars-irrefl, beforeVars-asym}
 use Rattle.monomial.specs.Words.{readMonomial, held}
 use Rattle.monomial.specs.Places.{one, varsAt, FirstBefore, RestAfter}
-use Rattle.monomial.proofs.Rows.{take-rows, drop-rows, row-at, row-changed, row-put, row-out, row-set}
+use Rattle.monomial.proofs.Rows.{held-length, held-at}
 use Rattle.monomial.proofs.Searches.{ascending}
 
 module _ (p : ℕ) (m : Monomial) where
@@ -75,16 +79,6 @@ read-coef (x ∷ []) v h = absurd (omega arith)
 read-coef (x ∷ y ∷ t) v h = refl
 
 module _ (ws : List ℕ) (k count : ℕ) (l : 16 * count ≤ length ws) where
-  front : k ≤ count → take k (held count ws) ≡ held k ws
-  unfolding held
-  front h =
-      let c : count ≡ k + (count - k) = omega arith in
-      ap (λ (n : ℕ). take k (held n ws)) c ∙ take-rows 16 readMonomial k (count - k) ws (omega arith)
-
-  back : (i j : ℕ) → count ≡ i + j → drop i (held count ws) ≡ held j (drop (16 * i) ws)
-  unfolding held
-  back i j c = ap (λ (n : ℕ). drop i (held n ws)) c ∙ drop-rows 16 readMonomial i j ws (omega arith)
-
   -- A monomial put in front of slot k.
   pub held-put : k ≤ count → (n c : ℕ) (vs us ts : List ℕ) → 16 * count + 16 ≤ length ws → length vs ≡ 14
       → us ≡ take (16 * k + 16) ws ++ (take (16 * count - 16 * k) (drop (16 * k) ws) ++ drop (16 * count + 16) ws)
@@ -92,53 +86,43 @@ module _ (ws : List ℕ) (k count : ℕ) (l : 16 * count ≤ length ws) where
       → held (count + 1) ts ≡ take k (held count ws) ++ (record { vars = take n vs; coef = c } ∷ drop k (held count ws))
   unfolding held readMonomial
   held-put h n c vs us ts r e p q =
-      let j : ℕ = count - k in
-      let d : List ℕ = drop (16 * k) ws in
       let rest : List ℕ = drop (16 * count + 16) ws in
-      let m : 16 * count - 16 * k ≡ 16 * j = omega arith in
-      let i : count + 1 ≡ k + (1 + j) = omega arith in
+      let behind : List ℕ = take (16 * count - 16 * k) (drop (16 * k) ws) ++ rest in
       let z : length (take (16 * k + 16) ws) ≡ 16 * k + 16 = length-take-le (16 * k + 16) ws (omega arith) in
       let f : take (16 * k) us ≡ take (16 * k) ws =
       ap (take (16 * k)) p ∙ take-append-le (16 * k) (take (16 * k + 16) ws) _ (omega arith) ∙ take-take (16 * k) (16 * k + 16) ws (omega arith) in
-      let b : drop (16 * k + 16) us ≡ take (16 * j) d ++ rest =
-      ap (drop (16 * k + 16)) p ∙ drop-at (take (16 * k + 16) ws) _ (16 * k + 16) z ∙ ap (λ (y : ℕ). take y d ++ rest) m in
-      (λ t. held (i t) ((q ∙ λ s. f s ++ ((n ∷ c ∷ vs) ++ b s)) t))
-      ∙ row-put 16 readMonomial k j ws (n ∷ c ∷ vs) rest (omega arith) (omega arith)
-      ∙ (λ t. sym (front h) t ++ (record { vars = take n vs; coef = c } ∷ sym (back k j (omega arith)) t))
+      let b : drop (16 * k + 16) us ≡ behind = ap (drop (16 * k + 16)) p ∙ drop-at (take (16 * k + 16) ws) _ (16 * k + 16) z in
+      ap (held (count + 1)) (q ∙ λ s. f s ++ ((n ∷ c ∷ vs) ++ b s))
+      ∙ ap (map readMonomial) (rows-insert 16 count k ws (n ∷ c ∷ vs) rest h l (omega arith))
+      ∙ map-insert readMonomial (rows 16 count ws) k (n ∷ c ∷ vs)
 
   -- Slot k taken out.
   pub held-out : k < count → (us : List ℕ) → us ≡ take (16 * k) ws ++ (take (16 * count - (16 * k + 16)) (drop (16 * k + 16) ws) ++ drop (16 * count - 16) ws)
       → held (count - 1) us ≡ take k (held count ws) ++ drop (k + 1) (held count ws)
   unfolding held
   held-out h us p =
-      let j : ℕ = count - 1 - k in
-      let m : 16 * count - (16 * k + 16) ≡ 16 * j = omega arith in
-      let y : 16 * k + 16 ≡ 16 * (k + 1) = omega arith in
-      let i : count - 1 ≡ k + j = omega arith in
-      (λ t. held (i t) ((p ∙ λ s. take (16 * k) ws ++ (take (m s) (drop (y s) ws) ++ drop (16 * count - 16) ws)) t))
-      ∙ row-out 16 readMonomial k j ws (drop (16 * count - 16) ws) (omega arith)
-      ∙ (λ t. sym (front (omega arith)) t ++ sym (back (k + 1) j (omega arith)) t)
+      let R : List (List ℕ) = rows 16 count ws in
+      ap (held (count - 1)) p ∙ ap (map readMonomial) (rows-remove 16 count k ws (drop (16 * count - 16) ws) h l)
+      ∙ map-append readMonomial (take k R) (drop (k + 1) R) ∙ (λ t. map-take readMonomial k R t ++ map-drop readMonomial (k + 1) R t)
 
   -- The coefficient of slot k, and another in its place.
   pub coef-at : k < count → getD (held count ws) k one .coef ≡ getD ws (16 * k + 1) 0
   unfolding held readMonomial
   coef-at h =
-      ap (λ (m : Monomial). m .coef) (row-at 16 readMonomial k count ws one h l)
+      ap (λ (m : Monomial). m .coef) (held-at count k ws one h)
       ∙ getD-take 16 (drop (16 * k) ws) 1 0 (omega arith) ∙ getD-drop (16 * k) ws 1 0
 
   pub held-sum : k < count → (v : ℕ) → held count (set ws (16 * k + 1) v) ≡ take k (held count ws) ++ (record { vars = varsAt (held count ws) k; coef = v } ∷ drop (k + 1) (held count ws))
   unfolding held
   held-sum h v =
-      let j : ℕ = count - 1 - k in
-      let i : count ≡ k + (1 + j) = omega arith in
-      let y : 16 * k + 16 ≡ 16 * (k + 1) = omega arith in
-      let row : List ℕ = take 16 (drop (16 * k) ws) in
-      let z : length row ≡ 16 = length-take-le 16 (drop (16 * k) ws) (omega (arith, length-drop (16 * k) ws)) in
+      let R : List (List ℕ) = rows 16 count ws in
+      let row : List ℕ = getD R k [] in
+      let z : 2 ≤ length row = omega (arith, ap length (rows-at 16 count k ws h), length-take-le 16 (drop (16 * k) ws) (omega (arith, length-drop (16 * k) ws))) in
       let x : readMonomial (set row 1 v) ≡ record { vars = varsAt (held count ws) k; coef = v } =
-      read-coef row v (omega arith) ∙ (λ t. record { vars = sym (row-at 16 readMonomial k count ws one h l) t .vars; coef = v }) in
-      (λ t. held (i t) ((row-set ws (16 * k) 16 1 v (omega arith) (omega arith) ∙ λ s. take (16 * k) ws ++ (set row 1 v ++ drop (y s) ws)) t))
-      ∙ row-changed 16 readMonomial k j ws (set row 1 v) (omega arith) (length-set row 1 v ∙ z)
-      ∙ (λ t. sym (front (omega arith)) t ++ (x t ∷ sym (back (k + 1) j (omega arith)) t))
+      read-coef row v z ∙ (λ t. record { vars = (ap readMonomial (rows-at 16 count k ws h) ∙ sym (held-at count k ws one h)) t .vars; coef = v }) in
+      ap (map readMonomial) (rows-set 16 count k 1 v ws h (omega arith)) ∙ map-set readMonomial R k (set row 1 v)
+      ∙ set-split (held count ws) k (readMonomial (set row 1 v)) (omega (arith, held-length count ws))
+      ∙ (λ t. take k (held count ws) ++ (x t ∷ drop (sym (add-one k) t) (held count ws)))
 
   -- A sum, kept unless it is 0.
   module _ (p : ℕ) (m : Monomial) (h : k < count) (v : ℕ) (e : v ≡ addM p (m .coef) (getD ws (16 * k + 1) 0)) where

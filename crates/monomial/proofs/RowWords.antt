@@ -1,11 +1,11 @@
 -- Words copied, and the rows of the work list written one after another.
 use mathlib.Core.Path.{_≡_, refl, sym, _∙_, ap}
 use mathlib.Core.List.{List, [], _∷_, _++_, append-assoc, append-nil}
-use Prim.Native.Nat.{ℕ, suc, _+_, _*_, _-_, _≤_, _<_, min}
+use Prim.Native.Nat.{ℕ, _+_, _*_, _-_, _≤_, _<_, min}
 use native.Mathlib.Numerals.{add-one}
 use native.Mathlib.Omega.{arith}
 use lib.ListN.{length, getD, take, drop, set, length-set, length-take, length-drop}
-use lib.Seq.{take-at, drop-at, drop-drop, take-add, getD-drop, getD-take, drop-set-lt, take-suc-set, drop-append-add, paste, paste-zero, paste-suc}
+use lib.Seq.{take-at, drop-at, drop-drop, take-add, getD-drop, getD-take, drop-append-add, paste, paste-zero, paste-suc}
 use Rattle.slices.proofs.Lists.{take-min, getD-front}
 use Rattle.semantics.specs.Monomial.{Monomial}
 use Rattle.semantics.specs.Expand.{listSize}
@@ -40,26 +40,6 @@ module _ (list : List ℕ) (from n : ℕ) (out₀ : List ℕ) (at : ℕ) where
   copying-done out i g h =
       let e : i ≡ n = omega (arith, g .i-le) in
       g .out-is ∙ ap (paste out₀ at (drop from list)) e ∙ append-assoc (take at out₀) (take n (drop from list)) (drop (at + n) out₀)
-
--- Two words set one after the other.
-two-set : (out : List ℕ) (at v w : ℕ) → at + 1 < length out → take (at + 2) (set (set out at v) (at + 1) w) ≡ take at out ++ (v ∷ w ∷ [])
-two-set out at v w h =
-    let a : at + 2 ≡ suc (at + 1) = omega arith in
-    let l : at + 1 < length (set out at v) = omega (arith, length-set out at v) in
-    let k : at < length out = omega arith in
-    ap (λ (n : ℕ). take n (set (set out at v) (at + 1) w)) a ∙ take-suc-set (set out at v) (at + 1) w l
-    ∙ ap (λ (n : ℕ). take n (set out at v) ++ (w ∷ [])) (add-one at)
-    ∙ ap (λ (x : List ℕ). x ++ (w ∷ [])) (take-suc-set out at v k) ∙ append-assoc (take at out) (v ∷ []) (w ∷ [])
-
-pub head-copied : (out out₁ vs : List ℕ) (at v w n : ℕ) → at + 1 < length out
-    → out₁ ≡ take (at + 2) (set (set out at v) (at + 1) w) ++ (vs ++ drop (at + 2 + n) (set (set out at v) (at + 1) w))
-    → out₁ ≡ take at out ++ ((v ∷ w ∷ vs) ++ drop (at + 2 + n) out)
-head-copied out out₁ vs at v w n h e =
-    let d : drop (at + 2 + n) (set (set out at v) (at + 1) w) ≡ drop (at + 2 + n) out =
-    drop-set-lt (at + 2 + n) (set out at v) (at + 1) w (omega arith) ∙ drop-set-lt (at + 2 + n) out at v (omega arith) in
-    e ∙ ap (λ (x : List ℕ). x ++ (vs ++ drop (at + 2 + n) (set (set out at v) (at + 1) w))) (two-set out at v w h)
-    ∙ ap (λ (x : List ℕ). (take at out ++ (v ∷ w ∷ [])) ++ (vs ++ x)) d
-    ∙ append-assoc (take at out) (v ∷ w ∷ []) (vs ++ drop (at + 2 + n) out)
 
 -- The words of a row's monomial.
 row-vars : (work : List ℕ) (k s : ℕ) → 16 * k + 16 ≤ length work → s ≡ min (getD work (16 * k) 0) 14 → rowOf work k .vars ≡ take s (drop (16 * k + 2) work)

@@ -16,7 +16,7 @@ use Rattle.monomial.specs.declared.vars.Order.{Order}
 use Rattle.monomial.specs.declared.vars.Order.the-variants.{Before, Same, After}
 use Rattle.monomial.specs.Orders.{orderOf}
 use Rattle.monomial.specs.Places.{one, varsAt, FirstBefore, RestAfter}
-use Rattle.monomial.proofs.Rows.{row-at, held-length}
+use Rattle.monomial.proofs.Rows.{held-at, held-length}
 use Rattle.monomial.proofs.Orderings.{from-before, from-after, from-same}
 
 above-at : (v : List ℕ) (ms : List Monomial) → Above v ms → (j : ℕ) → j < length ms → beforeVars v (varsAt ms j) ≡ true
@@ -53,20 +53,20 @@ drop-two n l = let m : 2 + n ≡ suc (suc n) = omega arith in ap (λ (k : ℕ). 
     go (x ∷ []) = sym (take-all n [] (omega arith))
     go (x ∷ y ∷ t) = refl
 
-pub slot-vars : (ws : List ℕ) (k n : ℕ) → k < n → 16 * n ≤ length ws → varsAt (held n ws) k ≡ take (min (getD ws (16 * k) 0) 14) (drop (16 * k + 2) ws)
+pub slot-vars : (ws : List ℕ) (k n : ℕ) → k < n → varsAt (held n ws) k ≡ take (min (getD ws (16 * k) 0) 14) (drop (16 * k + 2) ws)
 unfolding held readMonomial
-slot-vars ws k n h l =
+slot-vars ws k n h =
     let row : List ℕ = take 16 (drop (16 * k) ws) in
     let z : 16 * k + 0 ≡ 16 * k = omega arith in
     let c : getD row 0 0 ≡ getD ws (16 * k) 0 = getD-take 16 (drop (16 * k) ws) 0 0 (omega arith) ∙ getD-drop (16 * k) ws 0 0 ∙ ap (λ (i : ℕ). getD ws i 0) z in
     let d : drop 2 row ≡ take 14 (drop (16 * k + 2) ws) = drop-two 14 (drop (16 * k) ws) ∙ ap (take 14) (drop-drop 2 (16 * k) ws) in
-    ap (λ (m : Monomial). m .vars) (row-at 16 readMonomial k n ws one h l) ∙ (λ t. take (c t) (d t)) ∙ take-min (getD ws (16 * k) 0) 14 (drop (16 * k + 2) ws)
+    ap (λ (m : Monomial). m .vars) (held-at n k ws one h) ∙ (λ t. take (c t) (d t)) ∙ take-min (getD ws (16 * k) 0) 14 (drop (16 * k + 2) ws)
 
 -- What a comparison with slot k says.
-module _ (x : Monomial) (ws : List ℕ) (k n : ℕ) (h : k < n) (l : 16 * n ≤ length ws) (c : ℕ) (e : c ≡ min (getD ws (16 * k) 0) 14) (o : Order)
+module _ (x : Monomial) (ws : List ℕ) (k n : ℕ) (h : k < n) (c : ℕ) (e : c ≡ min (getD ws (16 * k) 0) 14) (o : Order)
     (q : o ≡ orderOf (x .vars) (take c (drop (16 * k + 2) ws))) where
   slot-is : varsAt (held n ws) k ≡ take c (drop (16 * k + 2) ws)
-  slot-is = slot-vars ws k n h l ∙ ap (λ (j : ℕ). take j (drop (16 * k + 2) ws)) (sym e)
+  slot-is = slot-vars ws k n h ∙ ap (λ (j : ℕ). take j (drop (16 * k + 2) ws)) (sym e)
 
   pub found-same : o ≡ Same → varsAt (held n ws) k ≡ x .vars
   found-same s = slot-is ∙ sym (from-same (x .vars) (take c (drop (16 * k + 2) ws)) (sym q ∙ s))

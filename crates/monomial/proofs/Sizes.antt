@@ -1,15 +1,16 @@
 -- The longest of a list; the rows of the work list, their sizes and their words.
 use mathlib.Core.Path.{_≡_, refl, sym, _∙_, ap}
 use mathlib.Core.List.{List, [], _∷_, _++_}
-use Prim.Native.Nat.{ℕ, zero, suc, _+_, _*_, _-_, _≤_, _<_, min, max}
+use Prim.Native.Nat.{ℕ, suc, _+_, _*_, _-_, _≤_, _<_, min, max}
 use native.Mathlib.Omega.{arith}
 use lib.ListN.{length, getD, take, drop, length-take, length-drop}
-use lib.Seq.{drop-drop, getD-take}
+use lib.Seq.{getD-take}
+use Rattle.slices.specs.Rows.{rows}
 use Rattle.slices.proofs.Lists.{getD-front}
 use Rattle.semantics.specs.Monomial.{Monomial}
 use Rattle.semantics.specs.Expand.{listSize}
-use Rattle.semantics.specs.Group.{rows}
 use Rattle.monomial.specs.Words.{readMonomial, listIn, longestOf, held, ListFits}
+use Rattle.monomial.proofs.Rows.{held-split}
 use Rattle.monomial.proofs.ListLaws.{size-nil, size-cons, size-append, varsIn, left-cons, left-rest, left-all, none-left}
 
 pub longest-cons : (m : Monomial) (ms : List Monomial) → longestOf (m ∷ ms) ≡ max (length (m .vars)) (longestOf ms)
@@ -61,17 +62,6 @@ held-zero ws = refl
 pub held-suc : (n : ℕ) (ws : List ℕ) → held (suc n) ws ≡ readMonomial (take 16 ws) ∷ held n (drop 16 ws)
 unfolding held rows
 held-suc n ws = refl
-
-pub held-split : (k j : ℕ) (ws : List ℕ) → held (k + j) ws ≡ held k ws ++ held j (drop (16 * k) ws)
-held-split zero j ws =
-    let z : 0 + j ≡ j = omega arith in
-    ap (λ (k : ℕ). held k ws) z ∙ rw (held-zero ws)
-held-split (suc k) j ws =
-    let s : suc k + j ≡ suc (k + j) = omega arith in
-    let d : 16 + 16 * k ≡ 16 * suc k = omega arith in
-    ap (λ (k : ℕ). held k ws) s ∙ held-suc (k + j) ws
-    ∙ ap (λ (l : List Monomial). readMonomial (take 16 ws) ∷ l) (held-split k j (drop 16 ws) ∙ ap (λ (l : List ℕ). held k (drop 16 ws) ++ held j l) (drop-drop (16 * k) 16 ws ∙ ap (λ (k : ℕ). drop k ws) d))
-    ∙ ap (λ (l : List Monomial). l ++ held j (drop (16 * suc k) ws)) (sym (held-suc k ws))
 
 pub held-more : (k : ℕ) (ws : List ℕ) → held (k + 1) ws ≡ held k ws ++ (rowOf ws k ∷ [])
 unfolding rowOf

@@ -4,11 +4,11 @@ use mathlib.Core.Bool.{Bool, true, false}
 use mathlib.Core.List.{List, [], _∷_, map, flatMap}
 use Prim.Native.Nat.{ℕ, zero, suc, _+_, _*_, _≤_, _<_, max}
 use lib.ListN.{length, getD, take, drop}
+use Rattle.slices.specs.Rows.{rows}
 use Rattle.semantics.specs.Arithmetic.{prime}
 use Rattle.semantics.specs.Monomial as semantics
 use Rattle.semantics.specs.Monomial.{Asc, above, insertMonomial, negMonomial}
 use Rattle.semantics.specs.Expand.{listSize}
-use Rattle.semantics.specs.Group.{rows}
 use Rattle.semantics.specs.Lists.{All, Sorted}
 use Rattle.packed_var.specs.declared.PackedVar.{PackedVar}
 use Rattle.monomial.specs.declared.Monomial.{Monomial}

@@ -3,6 +3,7 @@ use mathlib.Core.Path.{_≡_, refl}
 use mathlib.Core.List.{List, [], _∷_, _++_, flatMap}
 use Prim.Native.Nat.{ℕ, zero, suc, _+_, _-_}
 use lib.ListN.{length, replicate}
+use Rattle.slices.specs.Rows.{rows}
 use Rattle.semantics.specs.Answer.{andThen}
 use Rattle.semantics.specs.Arithmetic.{prime, addM, subM, mulM, negM, signedOf}
 use Rattle.semantics.specs.Sheet.{Record, Sheet, recordOf, recordWords, interactionWords, headWords, encode, lengthOf, place, table, row, fits, recordTests, names, interactionTests, headTests}
@@ -14,7 +15,7 @@ use Rattle.semantics.specs.Walk.{children, childrenAt, member, foldLeft,
 use Rattle.semantics.specs.Graph.{ifConstants, isConst, ifNeg, addRule, subRule, negRule, mulRule, equalRecords, find, intern, setNum, nodeFor, pick, takeIn, addRecord, build, graphRoots, built, insertOnce, sortedOnce, renamed, graphOf, rotation, maxRotation}
 use Rattle.semantics.specs.Monomial.{before, beforeVars, insertSorted, sort, above, negMonomial, mulMonomial, products, keep, plus, insertMonomial, combine, working, finished, recordList, lists, listAt}
 use Rattle.semantics.specs.Expand.{longer, workFault, listSize, recordFault, expandRecord, expandAll}
-use Rattle.semantics.specs.Group.{labelled, constraintRoots, countRoots, fieldRoots, itemsOf, items, key, later, push, split, groups, constraintTerm, interactionTerm, headers, variables, terms, layout, rows, listedAt, listed}
+use Rattle.semantics.specs.Group.{labelled, constraintRoots, countRoots, fieldRoots, itemsOf, items, key, later, push, split, groups, constraintTerm, interactionTerm, headers, variables, terms, layout, listedAt, listed}
 use Rattle.semantics.specs.Call.{Outcome, acceptedWith, refusedWith, zeros, padded, paddedAll, outcome, handedBack, needs, result, packCall, readerCall, onSheet, writerCall, builderCall, maxRotationCall, firstShort, fitted, family, expansion, constraintOutputs, constraintCall, interactionOutputs, maxFieldsLen, interactionCall}
 use Rattle.semantics.specs.Sheetlist.{digits, decimal, hexDigit, hexDigits, integer, signed, line, tLine, uLine, wLine, headerLines, step, interactionLines, constraintLines, graphLines, sheetLines, sheetlist}
 

@@ -6,13 +6,14 @@ use Prim.Native.Nat.{ℕ, suc, _+_, _*_, _/_, _≤_}
 use native.Mathlib.Omega.{arith}
 use lib.Dec.{eqb}
 use lib.ListN.{length, length-append, length-map}
+use Rattle.slices.specs.Rows.{rows}
 use Rattle.slices.proofs.Lists.{flat-length}
 use Rattle.semantics.specs.Answer.{good}
 use Rattle.semantics.specs.Sheet.{Interaction, Sheet, Inside, Each, GoodInteraction}
 use Rattle.semantics.specs.Walk.{Mem, Below, order}
 use Rattle.semantics.specs.Monomial.{Above, Asc, Monomial, sort, listAt}
 use Rattle.semantics.specs.Expand.{expandAll}
-use Rattle.semantics.specs.Group.{Root, constraintRoots, countRoots, fieldRoots, Item, itemsOf, items, later, Group, push, split, groups, headers, layout, rows}
+use Rattle.semantics.specs.Group.{Root, constraintRoots, countRoots, fieldRoots, Item, itemsOf, items, later, Group, push, split, groups, headers, layout}
 use Rattle.semantics.specs.Call.{Outcome, handedBack, family, constraintOutputs, constraintCall, interactionOutputs, maxFieldsLen, interactionCall}
 use Rattle.semantics.specs.Refusals.{SmallHeaders, headersOf, HeaderSizes}
 use Rattle.semantics.specs.Lists.{All}

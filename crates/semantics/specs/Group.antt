@@ -1,9 +1,10 @@
 -- Grouping the monomials of roots by their variables, and the lists as words (01: "Zero coefficients are dropped before grouping ..").
 use mathlib.Core.Bool.{Bool, cond}
 use mathlib.Core.List.{List, [], _∷_, _++_, map, flatMap}
-use Prim.Native.Nat.{ℕ, zero, suc, _+_, _*_, _/_}
+use Prim.Native.Nat.{ℕ, suc, _+_, _*_, _/_}
 use lib.Dec.{eqb}
 use lib.ListN.{length, getD, take, drop}
+use Rattle.slices.specs.Rows.{rows}
 use Rattle.semantics.specs.Sheet.{Interaction, Sheet}
 use Rattle.semantics.specs.Monomial.{Monomial, before, beforeVars, sort}
 
@@ -97,10 +98,6 @@ unfoldable pub layout : (Item → List ℕ) → List Group → List (List ℕ)
 layout term gs = headers 0 0 gs ∷ variables gs ∷ terms term gs ∷ []
 
 -- The same read back from the words: rows of a width; each header's variables and its terms.
-unfoldable pub rows : (width n : ℕ) → List ℕ → List (List ℕ)
-rows width zero ws = []
-rows width (suc n) ws = take width ws ∷ rows width n (drop width ws)
-
 pub record Listed : Type 0 where
   pub vars : List ℕ
   pub terms : List (List ℕ)

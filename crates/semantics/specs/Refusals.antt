@@ -4,9 +4,9 @@ use mathlib.Core.Bool.{true}
 use mathlib.Core.List.{List, [], _∷_, _++_}
 use Prim.Native.Nat.{ℕ, _/_, _≤_}
 use lib.ListN.{length, getD}
+use Rattle.slices.specs.Rows.{rows}
 use Rattle.semantics.specs.Sheet.{Record}
 use Rattle.semantics.specs.Walk.{member}
-use Rattle.semantics.specs.Group.{rows}
 use Rattle.semantics.specs.Call.{Outcome, Accepted, handedBack}
 use Rattle.semantics.specs.Call.{blockCheckCall, readerCall, writerCall, checkCall, builderCall, maxRotationCall, numConstraintsCall, conversionCall, packCall, variableCall, unpackCall, constraintCall, interactionCall}
 

@@ -1,12 +1,12 @@
 -- Laws of lists that the kit does not have.
 use mathlib.Core.Path.{_≡_, refl, sym, ap, _∙_}
-use mathlib.Core.List.{List, [], _∷_, _++_, map, flatMap, append-assoc}
+use mathlib.Core.List.{List, [], _∷_, _++_, map, flatMap, append-assoc, map-append}
 use Prim.Native.Nat.{ℕ, zero, suc, _+_, _*_, _≤_, _<_, min}
 use native.Mathlib.Nat.{mul-suc, mul-zero}
 use native.Mathlib.Numerals.{add-one}
 use native.Mathlib.Omega.{arith}
 use lib.ListN.{length, getD, take, drop, set, length-set, length-append}
-use lib.Seq.{take-nil, take-suc, take-set-le, getD-drop, getD-set-same}
+use lib.Seq.{take-nil, take-suc, take-set-le, getD-drop, getD-set-same, sets, sets-eq, take-at, drop-at, drop-drop, length-take-le}
 
 pub flat-append : {X Y : Type 0} (f : X → List Y) (us vs : List X) → flatMap f (us ++ vs) ≡ flatMap f us ++ flatMap f vs
 unfolding flatMap
@@ -34,6 +34,19 @@ map-set f [] i x = refl
 map-set f (y ∷ l) zero x = refl
 map-set {Y = Y} f (y ∷ l) (suc i) x = ap (λ (t : List Y). f y ∷ t) (map-set f l i x)
 
+pub map-take : {X Y : Type 0} (f : X → Y) (n : ℕ) (l : List X) → map f (take n l) ≡ take n (map f l)
+map-take f zero l = refl
+map-take f (suc n) [] = refl
+map-take {Y = Y} f (suc n) (x ∷ l) = ap (λ (t : List Y). f x ∷ t) (map-take f n l)
+
+pub map-drop : {X Y : Type 0} (f : X → Y) (n : ℕ) (l : List X) → map f (drop n l) ≡ drop n (map f l)
+map-drop f zero l = refl
+map-drop f (suc n) [] = refl
+map-drop f (suc n) (x ∷ l) = map-drop f n l
+
+pub map-insert : {X Y : Type 0} (f : X → Y) (l : List X) (k : ℕ) (x : X) → map f (take k l ++ (x ∷ drop k l)) ≡ take k (map f l) ++ (f x ∷ drop k (map f l))
+map-insert f l k x = map-append f (take k l) (x ∷ drop k l) ∙ λ t. map-take f k l t ++ (f x ∷ map-drop f k l t)
+
 pub take-min : (n m : ℕ) (l : List ℕ) → take n (take m l) ≡ take (min n m) l
 take-min zero m l = let z : 0 ≡ min 0 m = omega arith in ap (λ (k : ℕ). take k l) z
 take-min (suc n) zero l = let z : 0 ≡ min (suc n) 0 = omega arith in ap (λ (k : ℕ). take k l) z
@@ -53,3 +66,17 @@ alike-more s d i h k e q = rw add-one (take-suc s i 0 h ∙ (λ t. e t ++ (q t �
 pub filled-more : (s d : List ℕ) (i v : ℕ) → i < length s → i < length d → take i s ≡ take i d → v ≡ getD d i 0 → take (i + 1) (set s i v) ≡ take (i + 1) d
 filled-more s d i v h k e q =
     alike-more (set s i v) d i (omega (arith, length-set s i v)) k (take-set-le i s i v (omega arith) ∙ e) (getD-set-same s i v 0 h ∙ q)
+
+-- What stands as far as the elements that were set, and what stands behind them.
+module _ (l : List ℕ) (at : ℕ) (vs : List ℕ) (h : at + length vs ≤ length l) where
+  front-length : length (take at l ++ vs) ≡ at + length vs
+  front-length = length-append (take at l) vs ∙ omega (arith, length-take-le at l (omega arith))
+
+  pub sets-front : take (at + length vs) (sets l at vs) ≡ take at l ++ vs
+  sets-front = ap (take (at + length vs)) (sets-eq vs l at h) ∙ take-at (take at l ++ vs) (drop (at + length vs) l) (at + length vs) front-length
+
+  pub sets-behind : (n : ℕ) → drop (at + length vs + n) (sets l at vs) ≡ drop (at + length vs + n) l
+  sets-behind n =
+      sym (drop-drop n (at + length vs) (sets l at vs))
+      ∙ ap (drop n) (ap (drop (at + length vs)) (sets-eq vs l at h) ∙ drop-at (take at l ++ vs) (drop (at + length vs) l) (at + length vs) front-length)
+      ∙ drop-drop n (at + length vs) l

@@ -7,8 +7,8 @@ use native.Mathlib.Omega.{arith}
 use lib.ListN.{length}
 use Rattle.semantics.specs.Check.{readSheet}
 use Rattle.semantics.specs.Walk.{order}
-use Rattle.records.specs.Access.{recordsOf}
-use Rattle.records.proofs.Reading.{counts-small, counts, fields}
+use Rattle.records.specs.Access.{counts, fields, recordsOf}
+use Rattle.records.proofs.Reading.{counts-small}
 use Rattle.expand.specs.declared.Expanded.{Expanded}
 use Rattle.expand.specs.Walking.{Holds, Expands}
 use Rattle.interaction_lists.proofs.Walked.{counts-grouping, fields-grouping}

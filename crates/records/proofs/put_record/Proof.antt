@@ -6,9 +6,9 @@ use native.Mathlib.Omega.{arith}
 use borrow.Author.Needs.{needs}
 use lib.ListN.{length-set}
 use lib.Seq.{sets}
+use Rattle.slices.proofs.Puts.{stores-run}
 use Rattle.semantics.specs.Sheet.{recordWords}
 use Rattle.records.specs.Access.{fiveWords}
-use Rattle.slices.proofs.Puts.{stores-run}
 use Rattle.records.proofs.put_record.Statement.{statement}
 use Rattle.records.proofs.put_record.Tie as tie
 

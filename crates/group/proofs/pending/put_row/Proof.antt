@@ -1,8 +1,8 @@
 use mathlib.Core.List.{[], _∷_}
 use native.Mathlib.Omega.{arith}
 use lib.ListN.{length-set}
-use Rattle.slices.proofs.Puts.{stores-run}
 use borrow.Author.Needs.{needs}
+use Rattle.slices.proofs.Puts.{stores-run}
 use Rattle.group.proofs.pending.put_row.Statement.{statement}
 use Rattle.group.proofs.pending.put_row.Tie as tie
 

@@ -2,8 +2,8 @@ use mathlib.Core.List.{[], _∷_}
 use Prim.Native.Nat.{_*_}
 use native.Mathlib.Omega.{arith}
 use lib.ListN.{length-set}
-use Rattle.slices.proofs.Puts.{stores-run}
 use borrow.Author.Needs.{needs}
+use Rattle.slices.proofs.Puts.{stores-run}
 use Rattle.group.proofs.place.put_interaction_term.Statement.{statement}
 use Rattle.group.proofs.place.put_interaction_term.Tie as tie
 

@@ -5,8 +5,9 @@ use Prim.Native.Nat.{ℕ, _+_, _*_}
 use native.Mathlib.Omega.{arith}
 use lib.ListN.{take, drop}
 use borrow.Author.Needs.{needs}
-use Rattle.semantics.specs.Group.{rows, listedAt}
-use Rattle.listing.specs.Families.{widthOf, lineOf, headerLine, headerText}
+use Rattle.semantics.specs.Group.{listedAt}
+use Rattle.slices.specs.Rows.{rows}
+use Rattle.listing.specs.Families.{headerText, widthOf, lineOf, headerLine}
 use Rattle.listing.proofs.Writing.{room-front, room-next, puts-next}
 use Rattle.listing.proofs.Heads.{first-fits, HeaderRead, header-joins, header-vars, header-terms}
 use Rattle.listing.proofs.headers.put_header.Statement.{statement}

@@ -3,9 +3,9 @@ use Prim.Native.Nat.{_+_}
 use native.Mathlib.Omega.{arith}
 use borrow.Author.Needs.{needs}
 use lib.ListN.{getD, take, drop, set, length-set}
-use Rattle.monomial.proofs.RowWords.{head-copied}
 use Rattle.monomial.proofs.list_steps.write_row.Statement.{statement}
 use Rattle.monomial.proofs.list_steps.write_row.Tie as tie
+use Rattle.monomial.proofs.Rows.{head-copied}
 
 cast-out : tie.Need-cast-out
 cast-out c = search needs

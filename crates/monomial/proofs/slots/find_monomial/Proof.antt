@@ -1,10 +1,10 @@
 -- The search halves the slots that are left. The loop's invariant: those below `low` stand before the variables, those from `high` on behind them.
 use mathlib.Core.Path.{ap, subst, _∙_}
 use mathlib.Core.List.{List}
-use Prim.Native.Nat.{ℕ, _+_, _*_, _-_, _/_, _≤_, _<_}
+use Prim.Native.Nat.{ℕ, _+_, _-_, _/_, _≤_, _<_}
 use native.Mathlib.Omega.{arith}
 use borrow.Author.Needs.{needs}
-use lib.ListN.{length, take}
+use lib.ListN.{take}
 use Rattle.semantics.specs.Monomial.{Monomial}
 use Rattle.monomial.specs.Words.{held}
 use Rattle.monomial.specs.Places.{FirstBefore, RestAfter}
@@ -37,12 +37,8 @@ abbrev middle : tie.At-loop Inv-loop μ-loop → ℕ
 middle c = (c .loop .low + c .loop .high) / 2
 
 -- The slot in the middle is one of those that are searched.
-module _ (c : tie.After-order-at Inv-loop μ-loop) where
-  inside : middle (turn c) < start (turn c) .args .count
-  inside = let h = turn c .loop .inv in let t = c .before .before .before .loop-test .taken in omega arith
-
-  room : 16 * start (turn c) .args .count ≤ length (start (turn c) .args .work .now)
-  room = start (turn c) .pre .1
+inside : (c : tie.After-order-at Inv-loop μ-loop) → middle (turn c) < start (turn c) .args .count
+inside c = let h = turn c .loop .inv in let t = c .before .before .before .loop-test .taken in omega arith
 
 numbers-requires : tie.Need-numbers-requires Inv-loop μ-loop
 numbers-requires c κs = search needs
@@ -81,7 +77,7 @@ returns c =
     let s = o .before .slot-count in
     let l = held-length (a .count) (a .work .now) in (
       omega (arith, inside o),
-      found-same (sought (numbers-of b) (a .m .count)) (a .work .now) (middle b) (a .count) (inside o) (room o) (s .result) (s .ensures)
+      found-same (sought (numbers-of b) (a .m .count)) (a .work .now) (middle b) (a .count) (inside o) (s .result) (s .ensures)
           (o .order-at .result) (o .order-at .ensures) (c .enum-told .given .1)
           ∙ ap (take (a .m .count)) (b .before .numbers .ensures),
     )
@@ -104,7 +100,7 @@ loop-again c =
     let h = b .loop .inv in (
       omega arith,
       omega arith,
-      found-after (sought (numbers-of b) (a .m .count)) (a .work .now) (middle b) (a .count) (inside o) (room o) (s .result) (s .ensures)
+      found-after (sought (numbers-of b) (a .m .count)) (a .work .now) (middle b) (a .count) (inside o) (s .result) (s .ensures)
           (o .order-at .result) (o .order-at .ensures) (start b .pre .3) (c .enum-told2 .given .1),
       h .3,
     )
@@ -125,7 +121,7 @@ loop-again-2 c =
       omega arith,
       omega arith,
       h .2,
-      found-before (sought (numbers-of b) (a .m .count)) (a .work .now) (middle b) (a .count) (inside o) (room o) (s .result) (s .ensures)
+      found-before (sought (numbers-of b) (a .m .count)) (a .work .now) (middle b) (a .count) (inside o) (s .result) (s .ensures)
           (o .order-at .result) (o .order-at .ensures) (start b .pre .3) (c .enum-told3 .given .1),
     )
 
