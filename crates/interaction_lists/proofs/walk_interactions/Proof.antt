@@ -179,9 +179,9 @@ returns-2 c =
     let s = origin e in
     let used = t .before .counted .given .0 .0 in
     let fields-visited =
-        subst (λ (r : List ℕ). Visiting (words s) r (λ (d : List ℕ). Holds (words s) d (counts-pool e) used) (Expands (words s) pool (expand .result)))
-        (fields-there (words s) (sheet-is s .checked) (at l) (s .args .interactions) (l .interactions-at .ensures) (sheet-is s .interactions-are))
-        (expand .ensures) in
+    subst (λ (r : List ℕ). Visiting (words s) r (λ (d : List ℕ). Holds (words s) d (counts-pool e) used) (Expands (words s) pool (expand .result)))
+    (fields-there (words s) (sheet-is s .checked) (at l) (s .args .interactions) (l .interactions-at .ensures) (sheet-is s .interactions-are))
+    (expand .ensures) in
     ends l _ pool (expand .result)
     (both-walked (words s) (sheet-is s .checked) (s .args .work .now) (front l ++ rest s) (heads s) (walking l)
     (counted-roots s) (listed-roots s) (counts-below (words s) (sheet-is s .checked)) (counts-work e) (counts-pool e) (e .expand-counts .result)

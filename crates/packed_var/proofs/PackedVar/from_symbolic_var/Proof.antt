@@ -11,14 +11,23 @@ use Rattle.packed_var.proofs.Laws.{variable-faults, column-wrong, entry
 use Rattle.packed_var.proofs.PackedVar.from_symbolic_var.Statement.{statement}
 use Rattle.packed_var.proofs.PackedVar.from_symbolic_var.Tie as tie
 
-column-fits : (c : tie.After-struct-known2) → ltb 65535 (c .before .before .before .args .var .index) ≡ false
+abbrev start : tie.After-struct-known2 → tie.Start
+start c = c .before .before .before
+
+column-fits : (c : tie.After-struct-known2) → ltb 65535 (start c .args .var .index) ≡ false
 column-fits c = le-ltb _ _ (c .before .if1 .left)
+
+-- The part of a main column fits.
+abbrev main : tie.Else2 → tie.After-entry
+main c = c .before .before
 
 refused-requires : tie.Need-refused-requires
 refused-requires c κs = search needs
 
 returns : tie.Need-returns
-returns c = column-wrong _ (c .refused .result) (c .before .before .before .args .var .entry) (c .refused .ensures) (c .before .if1 .taken)
+returns c =
+    let large = c .before in
+    column-wrong _ (c .refused .result) (large .before .before .args .var .entry) (c .refused .ensures) (large .if1 .taken)
 
 cast-column : tie.Need-cast-column
 cast-column c = search needs
@@ -31,19 +40,21 @@ refused-requires-2 c κs = search needs
 
 returns-2 : tie.Need-returns-2
 returns-2 c =
-    let main = c .before .before .before in
-    entry-packs _ (c .refused2 .result) (main .entry .given .1)
-    (ap packedAnswer (c .refused2 .ensures) ∙ variable-faults _ _ _ _ (column-fits (main .before .before)) refl (lt-ltb _ _ (c .before .if2 .taken)) refl)
+    let large = c .before in
+    let m = large .before .before in
+    entry-packs _ (c .refused2 .result) (m .entry .given .1)
+    (ap packedAnswer (c .refused2 .ensures) ∙ variable-faults _ _ _ _ (column-fits (m .before .before)) refl (lt-ltb _ _ (large .if2 .taken)) refl)
 
 refused-requires-3 : tie.Need-refused-requires-3
 refused-requires-3 c κs = search needs
 
 returns-3 : tie.Need-returns-3
 returns-3 c =
-    let main = c .before .before .before .before in
-    entry-packs _ (c .refused3 .result) (main .entry .given .1)
+    let part = c .before .before in
+    let m = main part in
+    entry-packs _ (c .refused3 .result) (m .entry .given .1)
     (ap packedAnswer (c .refused3 .ensures)
-    ∙ variable-faults _ _ _ _ (column-fits (main .before .before)) refl (le-ltb _ _ (c .before .before .if2 .left)) (lt-ltb _ _ (c .before .if3 .taken)))
+    ∙ variable-faults _ _ _ _ (column-fits (m .before .before)) refl (le-ltb _ _ (part .if2 .left)) (lt-ltb _ _ (c .before .if3 .taken)))
 
 cast-new : tie.Need-cast-new
 cast-new c = search needs
@@ -62,10 +73,11 @@ refused-requires-4 c κs = search needs
 
 returns-4 : tie.Need-returns-4
 returns-4 c =
-    let preprocessed = c .before .before .before in
+    let large = c .before in
+    let preprocessed = large .before .before in
     entry-packs _ (c .refused4 .result) (preprocessed .entry2 .given .1)
     (ap packedAnswer (c .refused4 .ensures)
-    ∙ variable-faults _ _ _ _ (column-fits (preprocessed .before .before)) refl refl (lt-ltb _ _ (c .before .if4 .taken)))
+    ∙ variable-faults _ _ _ _ (column-fits (preprocessed .before .before)) refl refl (lt-ltb _ _ (large .if4 .taken)))
 
 cast-new-3 : tie.Need-cast-new-3
 cast-new-3 c = search needs
@@ -87,16 +99,18 @@ refused-requires-5 c κs = search needs
 
 returns-5 : tie.Need-returns-5
 returns-5 c =
-    let main = c .before .before .before .before in
-    entry-packs _ (Var (c .new .result)) (main .entry .given .1)
+    let part = c .before .before in
+    let m = main part in
+    entry-packs _ (Var (c .new .result)) (m .entry .given .1)
     (ap good (c .new .ensures)
-    ∙ variable-faults _ _ _ _ (column-fits (main .before .before)) refl (le-ltb _ _ (c .before .before .if2 .left)) (le-ltb _ _ (c .before .if3 .left)))
+    ∙ variable-faults _ _ _ _ (column-fits (m .before .before)) refl (le-ltb _ _ (part .if2 .left)) (le-ltb _ _ (c .before .if3 .left)))
 
 returns-6 : tie.Need-returns-6
 returns-6 c =
-    let preprocessed = c .before .before .before in
+    let offset = c .before in
+    let preprocessed = offset .before .before in
     entry-packs _ (Var (c .new2 .result)) (preprocessed .entry2 .given .1)
-    (ap good (c .new2 .ensures) ∙ variable-faults _ _ _ _ (column-fits (preprocessed .before .before)) refl refl (le-ltb _ _ (c .before .if4 .left)))
+    (ap good (c .new2 .ensures) ∙ variable-faults _ _ _ _ (column-fits (preprocessed .before .before)) refl refl (le-ltb _ _ (offset .if4 .left)))
 
 returns-7 : tie.Need-returns-7
 returns-7 c =

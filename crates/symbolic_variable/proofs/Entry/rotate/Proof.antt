@@ -50,15 +50,17 @@ enum-told-4 c = search needs
 
 returns-3 : tie.Need-returns-3
 returns-3 c =
-    let summed = c .before .before .before in
+    let told = c .before in
+    let summed = told .before .before in
     let known = summed .before .before in
-    turned Preprocessed (λ o k. refl) _ (known .self .given .1) (summed .plus .ensures) (c .before .sum .given .1)
+    turned Preprocessed (λ o k. refl) _ (known .self .given .1) (summed .plus .ensures) (told .sum .given .1)
 
 returns-4 : tie.Need-returns-4
 returns-4 c =
-    let summed = c .before .before .before in
+    let told = c .before in
+    let summed = told .before .before in
     let known = summed .before .before in
-    turned (Main (known .self2 .given .0 .0)) (λ o k. refl) _ (known .self2 .given .1) (summed .plus2 .ensures) (c .before .sum2 .given .1)
+    turned (Main (known .self2 .given .0 .0)) (λ o k. refl) _ (known .self2 .given .1) (summed .plus2 .ensures) (told .sum2 .given .1)
 
 returns-5 : tie.Need-returns-5
 returns-5 c = stays _ (c .enum-told3 .given .1) refl

@@ -22,15 +22,17 @@ refusal-of-requires c κs = search needs
 
 returns : tie.Need-returns
 returns c =
-    let rotated = c .before .before .before in
+    let told = c .before in
+    let rotated = told .before .before in
     let self = rotated .before .args .self in
-    ap (λ (r : Refusal). rotatedVariableOutcome (Refused r)) (c .refusal-of .ensures ∙ ap refusalOf (c .before .enum-told .given .1))
-    ∙ variable-turned self _ (rotated .rotate .ensures) (c .before .enum-told .given .1)
+    ap (λ (r : Refusal). rotatedVariableOutcome (Refused r)) (c .refusal-of .ensures ∙ ap refusalOf (told .enum-told .given .1))
+    ∙ variable-turned self _ (rotated .rotate .ensures) (told .enum-told .given .1)
 
 returns-2 : tie.Need-returns-2
 returns-2 c =
-    let rotated = c .before .before .before in
-    variable-turned (rotated .before .args .self) _ (rotated .rotate .ensures) (c .before .rotated .given .1)
+    let told = c .before in
+    let rotated = told .before .before in
+    variable-turned (rotated .before .args .self) _ (rotated .rotate .ensures) (told .rotated .given .1)
 
 pub rotate-spec : {M : Type 1} → statement M
 rotate-spec =
