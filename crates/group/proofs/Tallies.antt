@@ -134,7 +134,11 @@ tally-ascends v [] k = rw (tally-nil v) (tt, tt)
 tally-ascends v (g ∷ gs) k = go (side v (g .vars)) (tally-ascends v gs (k .1))
   where
     go : Side v (g .vars) → Ascends (tally v gs) → Ascends (tally v (g ∷ gs))
-    go (inl e) ih = rw (tally-less v g gs e) ((e, all-imply (λ (x : Tally). beforeVars (g .vars) (x .vars) ≡ true) (λ (x : Tally). beforeVars v (x .vars) ≡ true) (λ x. beforeVars-trans v (g .vars) (x .vars) e) gs (k .0)), k)
+    go (inl e) ih =
+        rw (tally-less v g gs e) (
+          (e, all-imply (λ (x : Tally). beforeVars (g .vars) (x .vars) ≡ true) (λ (x : Tally). beforeVars v (x .vars) ≡ true) (λ x. beforeVars-trans v (g .vars) (x .vars) e) gs (k .0)),
+          k,
+        )
     go (inr (inl e)) ih = rw (tally-more v g gs e) (above-tally (g .vars) v gs e (k .0), ih)
     go (inr (inr e)) ih = rw (tally-same v g gs e) k
 

@@ -33,7 +33,8 @@ use Rattle.grouping.specs.declared.families.Family.the-variants.{Constra
 use Rattle.grouping.specs.declared.Lengths.{Lengths}
 use Rattle.grouping.specs.declared.Grouped.{Grouped}
 use Rattle.grouping.specs.declared.Grouped.the-variants.{Written, Short}
-use Rattle.group.specs.Grouped.{Tally, tallyAll, total, tallied, Rows, Counted, select, countOf, placed, Room, column, sum, listOf, InPool, varsNamed, termOf, widthOf, Placing, Places, varsIn, headersOf}
+use Rattle.group.specs.Grouped.{Tally, tallyAll, total, tallied, Rows, Counted, select, countOf, placed, Room, column, sum, listOf, InPool, varsNamed, termOf}
+use Rattle.group.specs.Grouped.{widthOf, Placing, Places, varsIn, headersOf}
 use Rattle.grouping.specs.Families.{rootsOf, nodesOf, ToTally, ToPlaceRoots, Grouping, groupsOf, Measured, Front, Laid}
 use Rattle.group.proofs.Gathering.{gathered}
 use Rattle.group.proofs.Tallies.{counted, counted-gathered, gathered-whole, count-all}

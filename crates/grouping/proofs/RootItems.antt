@@ -16,7 +16,8 @@ use Rattle.semantics.specs.Group.{Root, labelled, constraintRoots, countRoots, 
 use Rattle.semantics.specs.Lists.{All}
 use Rattle.records.specs.declared.Interaction as places
 use Rattle.records.specs.Access.{recordsOf, constraintsAt, interactionsAt, part, countAt, fieldsAt, countWords, fieldWords, RootsInside, AllRootsInside}
-use Rattle.records.proofs.Reading.{count-word, message-is, next-stands, first-stands, counts-small, constraints-are, constraints-inside, interactions-stand, interactions-inside, counts-are, fields-are}
+use Rattle.records.proofs.Reading.{count-word, message-is, next-stands, first-stands, counts-small, constraints-are, constraints-inside, interactions-stand}
+use Rattle.records.proofs.Reading.{interactions-inside, counts-are, fields-are}
 use Rattle.records.proofs.Steps.{inside}
 use Rattle.semantics.proofs.Demands as demands
 use Rattle.group.specs.Grouped.{Room, listOf, InPool, itemsAt, Placing, ToPlace, Places, varsNamed}

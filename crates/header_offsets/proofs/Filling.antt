@@ -60,7 +60,10 @@ module _ (hs : List MonomialHeader) (v t : ℕ) where
         let front : List MonomialHeader = take (g .i) (g .ys) in
         let rest : List MonomialHeader = withOffsets (g .vars + numVars (here g)) (g .terms + numTerms (here g)) (drop (suc (g .i)) (g .ys)) in
         let e : front ++ (filled g ∷ rest) ≡ withOffsets v t hs = rw (drop-cons (g .ys) (g .i) noHeader within) at (g .whole) in
-        rw drop-next (ap (λ (k : ℕ). take k (next-list g) ++ rest) (add-one (g .i)) ∙ ap (λ (k : List MonomialHeader). k ++ rest) (take-suc-set (g .ys) (g .i) (filled g) within) ∙ append-assoc front (filled g ∷ []) rest ∙ e)
+        rw drop-next
+        (ap (λ (k : ℕ). take k (next-list g) ++ rest) (add-one (g .i))
+        ∙ ap (λ (k : List MonomialHeader). k ++ rest) (take-suc-set (g .ys) (g .i) (filled g) within) ∙ append-assoc front (filled g ∷ []) rest
+        ∙ e)
 
     pub vars-left : g .vars + numVars (here g) + total numVars (drop (g .i + 1) (next-list g)) ≤ 4294967295
     vars-left = rw drop-next (let f = g .vars-fit in omega (arith, total-from numVars (g .ys) (g .i) within))

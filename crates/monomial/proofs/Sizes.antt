@@ -76,7 +76,14 @@ pub row-count : (work : List ℕ) (k : ℕ) → 16 * k + 16 ≤ length work → 
 unfolding rowOf readMonomial
 row-count work k h =
     let a : getD (take 16 (drop (16 * k) work)) 0 0 ≡ getD work (16 * k) 0 = getD-take 16 (drop (16 * k) work) 0 0 (omega arith) ∙ getD-front work (16 * k) in
-    omega (arith, length-take (getD (take 16 (drop (16 * k) work)) 0 0) (drop 2 (take 16 (drop (16 * k) work))), length-drop 2 (take 16 (drop (16 * k) work)), length-take 16 (drop (16 * k) work), length-drop (16 * k) work, a)
+    omega (
+      arith,
+      length-take (getD (take 16 (drop (16 * k) work)) 0 0) (drop 2 (take 16 (drop (16 * k) work))),
+      length-drop 2 (take 16 (drop (16 * k) work)),
+      length-take 16 (drop (16 * k) work),
+      length-drop (16 * k) work,
+      a,
+    )
 
 -- The size of the first k rows.
 pub record Sized (work : List ℕ) (count total k : ℕ) : Type 0 where

@@ -15,7 +15,8 @@ use Rattle.semantics.proofs.Encoding.{head-limits, check-sound, sheet-back}
 use Rattle.semantics.proofs.Access.{spare, words-are, words-count, count-words, constraint-word, interactions-from}
 use Rattle.semantics.proofs.Members.{mem-getD}
 use Rattle.semantics.proofs.GraphSheets.{named-below, interaction-facts}
-use Rattle.records.specs.Access.{rootsOf, roots, counts, fields, recordsOf, constraintsAt, interactionsAt, part, messageLength, eachWords, countAt, fieldsAt, rootWords, countWords, fieldWords, NamesInside, AllRootsInside}
+use Rattle.records.specs.Access.{rootsOf, roots, counts, fields, recordsOf, constraintsAt, interactionsAt, part, messageLength, eachWords, countAt}
+use Rattle.records.specs.Access.{fieldsAt, rootWords, countWords, fieldWords, NamesInside, AllRootsInside}
 use Rattle.records.proofs.Steps.{inside}
 
 -- The sheet that was found is the one that the words read as.

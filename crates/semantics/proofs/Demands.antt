@@ -15,15 +15,19 @@ use Rattle.semantics.specs.Graph.{graphOf, graphRoots}
 use Rattle.semantics.specs.Monomial.{Monomial, listAt}
 use Rattle.semantics.specs.Expand.{expandAll}
 use Rattle.semantics.specs.Group.{Root, labelled, constraintRoots, countRoots, fieldRoots, Item, constraintTerm, interactionTerm, listed, layout}
-use Rattle.semantics.specs.Call.{Outcome, Result, Accepted, handedBack, needs, result, onSheet, builderCall, fitted, family, expansion, constraintOutputs, constraintCall, interactionOutputs, maxFieldsLen, interactionCall}
+use Rattle.semantics.specs.Call.{Outcome, Result, Accepted, handedBack, needs, result, onSheet, builderCall, fitted, family, expansion, constraintOutputs}
+use Rattle.semantics.specs.Call.{constraintCall, interactionOutputs, maxFieldsLen, interactionCall}
 use Rattle.semantics.specs.Refusals.{ofSheet, ofExpansion}
-use Rattle.semantics.specs.Demand.{Assignment, productOf, sumOf, ofConstraint, ofCount, ofField, second, first, Ascending, NonZero, noInteraction, constraintAt, interactionAt, fieldAt, listsFrom, GraphRule, ConstraintRule, InteractionRule, GraphConstraintRule, GraphInteractionRule, Demand}
+use Rattle.semantics.specs.Demand.{Assignment, productOf, sumOf, ofConstraint, ofCount, ofField, second, first, Ascending, NonZero, noInteraction}
+use Rattle.semantics.specs.Demand.{constraintAt, interactionAt, fieldAt, listsFrom, GraphRule, ConstraintRule, InteractionRule, GraphConstraintRule}
+use Rattle.semantics.specs.Demand.{GraphInteractionRule, Demand}
 use Rattle.semantics.specs.Lists.{All}
 use Rattle.semantics.proofs.Members.{mem-left, mem-right, mem-here, mem-getD, cons-below, append-below, flat-mem, flat-below, not-in}
 use Rattle.semantics.proofs.Orders.{order-closed, order-roots, order-below, order-reached, order-all, order-distinct}
 use Rattle.semantics.proofs.Records.{LowRecord, each-low}
 use Rattle.semantics.proofs.Encoding.{check-inside, check-encode, good-injective}
-use Rattle.semantics.proofs.GraphSheets.{named-below, interaction-facts, graph-roots, graph-inside, graph-shorter, graph-nodes, constraint-place, same-interactions, same-fields, constraint-kept, count-kept, field-kept}
+use Rattle.semantics.proofs.GraphSheets.{named-below, interaction-facts, graph-roots, graph-inside, graph-shorter, graph-nodes, constraint-place}
+use Rattle.semantics.proofs.GraphSheets.{same-interactions, same-fields, constraint-kept, count-kept, field-kept}
 use Rattle.semantics.proofs.Monomials.{val}
 use Rattle.semantics.proofs.Combining.{Small}
 use Rattle.semantics.proofs.Expansions.{walk-fine, lists-keep}

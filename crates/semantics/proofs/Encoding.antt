@@ -10,8 +10,10 @@ use lib.ListN.{length, getD, take, drop, replicate, length-append, length-map, l
 use lib.Seq.{take-append-seam, drop-append-seam, drop-at, drop-drop}
 use borrow.Author.Tests.{eqb-true, leb-true}
 use Rattle.semantics.specs.Answer.{Answer, good, refused}
-use Rattle.semantics.specs.Sheet.{Record, Interaction, Sheet, Inside, Each, GoodRecord, GoodInteraction, recordWords, interactionWords, headWords, encode, lengthOf, place, table, row, fits, recordTests, interactionTests, headTests, names, passes}
-use Rattle.semantics.specs.Check.{Scan, reading, stopped, scanWords, scanPart, scanParts, scanSpare, scanSheet, readRecord, readRecords, readInteraction, readInteractions, readSheet, judged, check}
+use Rattle.semantics.specs.Sheet.{Record, Interaction, Sheet, Inside, Each, GoodRecord, GoodInteraction, recordWords, interactionWords, headWords, encode}
+use Rattle.semantics.specs.Sheet.{lengthOf, place, table, row, fits, recordTests, interactionTests, headTests, names, passes}
+use Rattle.semantics.specs.Check.{Scan, reading, stopped, scanWords, scanPart, scanParts, scanSpare, scanSheet, readRecord, readRecords, readInteraction}
+use Rattle.semantics.specs.Check.{readInteractions, readSheet, judged, check}
 use Rattle.semantics.proofs.Basics.{and-true, true-and, cond-true, tests}
 use Rattle.semantics.proofs.Lists.{each-at, one-by-one}
 use Rattle.semantics.proofs.Places.{records-end, records-limit}

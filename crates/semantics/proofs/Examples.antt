@@ -12,12 +12,18 @@ use Rattle.semantics.specs.Block.{wordBytes, wordAt, wordsOf, total, che
 use Rattle.semantics.specs.Packing.{packed, packFault, leafTests, packRecord, pack}
 use Rattle.semantics.specs.Value.{leafOf, nodeOf, recordAt, fill}
 use Rattle.semantics.specs.Walk.{children, childrenAt, member, foldLeft, visit, order}
-use Rattle.semantics.specs.Graph.{ifConstants, isConst, ifNeg, addRule, subRule, negRule, mulRule, equalRecords, find, intern, setNum, nodeFor, pick, takeIn, addRecord, build, graphRoots, built, insertOnce, sortedOnce, renamed, graphOf, rotation, maxRotation}
-use Rattle.semantics.specs.Monomial.{before, beforeVars, insertSorted, sort, above, negMonomial, mulMonomial, products, keep, plus, insertMonomial, combine, working, finished, recordList, lists, listAt}
+use Rattle.semantics.specs.Graph.{ifConstants, isConst, ifNeg, addRule, subRule, negRule, mulRule, equalRecords, find, intern, setNum, nodeFor, pick}
+use Rattle.semantics.specs.Graph.{takeIn, addRecord, build, graphRoots, built, insertOnce, sortedOnce, renamed, graphOf, rotation, maxRotation}
+use Rattle.semantics.specs.Monomial.{before, beforeVars, insertSorted, sort, above, negMonomial, mulMonomial, products, keep, plus, insertMonomial}
+use Rattle.semantics.specs.Monomial.{combine, working, finished, recordList, lists, listAt}
 use Rattle.semantics.specs.Expand.{longer, workFault, listSize, recordFault, expandRecord, expandAll}
-use Rattle.semantics.specs.Group.{labelled, constraintRoots, countRoots, fieldRoots, itemsOf, items, key, later, push, split, groups, constraintTerm, interactionTerm, headers, variables, terms, layout, listedAt, listed}
-use Rattle.semantics.specs.Call.{Outcome, acceptedWith, refusedWith, zeros, padded, paddedAll, outcome, handedBack, needs, result, packCall, readerCall, onSheet, writerCall, builderCall, maxRotationCall, firstShort, fitted, family, expansion, constraintOutputs, constraintCall, interactionOutputs, maxFieldsLen, interactionCall}
-use Rattle.semantics.specs.Sheetlist.{digits, decimal, hexDigit, hexDigits, integer, signed, line, tLine, uLine, wLine, headerLines, step, interactionLines, constraintLines, graphLines, sheetLines, sheetlist}
+use Rattle.semantics.specs.Group.{labelled, constraintRoots, countRoots, fieldRoots, itemsOf, items, key, later, push, split, groups, constraintTerm}
+use Rattle.semantics.specs.Group.{interactionTerm, headers, variables, terms, layout, listedAt, listed}
+use Rattle.semantics.specs.Call.{Outcome, acceptedWith, refusedWith, zeros, padded, paddedAll, outcome, handedBack, needs, result, packCall, readerCall}
+use Rattle.semantics.specs.Call.{onSheet, writerCall, builderCall, maxRotationCall, firstShort, fitted, family, expansion, constraintOutputs}
+use Rattle.semantics.specs.Call.{constraintCall, interactionOutputs, maxFieldsLen, interactionCall}
+use Rattle.semantics.specs.Sheetlist.{digits, decimal, hexDigit, hexDigits, integer, signed, line, tLine, uLine, wLine, headerLines, step}
+use Rattle.semantics.specs.Sheetlist.{interactionLines, constraintLines, graphLines, sheetLines, sheetlist}
 
 -- v and w: main, part 0, offset 0, columns 0 and 1.
 abbrev v : Record
@@ -43,7 +49,11 @@ sheetOf rs cs = record { records = rs; constraints = cs; interactions = [] }
 
 -- The builder, lent what it asks for and three words more each.
 builds : List Record → List ℕ → Outcome
-unfolding sheetOf builderCall outcome onSheet needs result andThen zeros padded paddedAll check judged scanSheet scanWords scanPart scanParts scanSpare recordTests interactionTests headTests names fits row table place readSheet readRecords readRecord readInteractions readInteraction encode headWords recordWords interactionWords lengthOf flatMap graphOf built build addRecord takeIn pick nodeFor setNum intern find equalRecords addRule subRule negRule mulRule ifConstants isConst ifNeg graphRoots insertOnce sortedOnce renamed order visit foldLeft member children childrenAt recordAt nodeOf leafOf addM subM mulM negM
+unfolding sheetOf builderCall outcome onSheet needs result andThen zeros padded paddedAll check judged scanSheet scanWords scanPart scanParts
+    scanSpare recordTests interactionTests headTests names fits row table place readSheet readRecords readRecord readInteractions readInteraction
+    encode headWords recordWords interactionWords lengthOf flatMap graphOf built build addRecord takeIn pick nodeFor setNum intern find equalRecords
+    addRule subRule negRule mulRule ifConstants isConst ifNeg graphRoots insertOnce sortedOnce renamed order visit foldLeft member children childrenAt
+    recordAt nodeOf leafOf addM subM mulM negM
 builds rs cs = builderCall prime (encode (sheetOf rs cs)) (length rs + 3) (lengthOf (sheetOf rs cs) + 3)
 
 -- Nodes and constraints as the words of the sheet that has them.
@@ -60,7 +70,10 @@ graph scratch ws behind = record {
 
 -- The constraint call on some words, lent a pool of 60 words and outputs of 8.
 expands : List ℕ → Outcome
-unfolding builds constraintCall expansion expandAll expandRecord recordFault workFault longer listSize packFault fitted firstShort constraintOutputs family layout groups split push sort insertSorted later key items itemsOf labelled constraintRoots constraintTerm headers variables terms listAt lists fill recordList finished working combine insertMonomial keep plus products mulMonomial negMonomial above before beforeVars packed
+unfolding builds constraintCall expansion expandAll expandRecord recordFault workFault longer listSize packFault fitted firstShort
+    constraintOutputs family layout groups split push sort insertSorted later key items itemsOf labelled constraintRoots constraintTerm headers
+    variables terms listAt lists fill recordList finished working combine insertMonomial keep plus products mulMonomial negMonomial above before
+    beforeVars packed
 expands ws = constraintCall prime ws 4096 60 8 8 8
 
 -- Number 0 and the three counts; work and pool are zero; headers, variables and terms, with zeros behind them.
@@ -127,7 +140,10 @@ listingSheet = record {
 
 -- What `sheetlist` prints for it, from the block that the writer makes.
 listing : List ℕ
-unfolding listingSheet expands handedBack writerCall writeBlocks blockBytes firstWords blocksFor wordBytes wordAt wordsOf total checkWord sheetlist readerCall badLength readBlocks blockGood sheetLines graphLines constraintLines interactionLines step headerLines tLine uLine wLine line signed integer signedOf decimal digits hexDigits hexDigit maxRotationCall maxRotation rotation interactionCall interactionOutputs maxFieldsLen countRoots fieldRoots interactionTerm listed listedAt rows
+unfolding listingSheet expands handedBack writerCall writeBlocks blockBytes firstWords blocksFor wordBytes wordAt wordsOf total checkWord
+    sheetlist readerCall badLength readBlocks blockGood sheetLines graphLines constraintLines interactionLines step headerLines tLine uLine wLine line
+    signed integer signedOf decimal digits hexDigits hexDigit maxRotationCall maxRotation rotation interactionCall interactionOutputs maxFieldsLen
+    countRoots fieldRoots interactionTerm listed listedAt rows
 listing = sheetlist prime (handedBack 0 (writerCall prime (encode listingSheet) 512) 0)
 
 -- The text in 01, line by line.

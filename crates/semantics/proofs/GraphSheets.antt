@@ -15,7 +15,8 @@ use Rattle.semantics.specs.Walk.{Mem, Below, order}
 use Rattle.semantics.specs.Graph.{graphRoots, built, insertOnce, sortedOnce, renamed, graphOf}
 use Rattle.semantics.specs.Demand.{Assignment, noInteraction, constraintAt, interactionAt, fieldAt}
 use Rattle.semantics.proofs.Basics.{by-test, and-true, true-and}
-use Rattle.semantics.proofs.Members.{mem-here, mem-there, mem-cases, not-in, mem-left, mem-right, mem-either, mem-getD, cons-below, append-below, flat-mem, flat-below, place-of, mem-map, map-below}
+use Rattle.semantics.proofs.Members.{mem-here, mem-there, mem-cases, not-in, mem-left, mem-right, mem-either, mem-getD, cons-below, append-below}
+use Rattle.semantics.proofs.Members.{flat-mem, flat-below, place-of, mem-map, map-below}
 use Rattle.semantics.proofs.Lists.{getD-map}
 use Rattle.semantics.proofs.Places.{place-most}
 use Rattle.semantics.proofs.Encoding.{sheet-length, head-limits}

@@ -17,10 +17,8 @@ use Rattle.semantics.specs.Sheet.{Interaction, Sheet}
 use Rattle.semantics.specs.Value.{Leaf}
 use Rattle.semantics.specs.Monomial.{BeforeVars, Monomial, before, beforeVars, sort}
 use Rattle.semantics.specs.Group.{Root, labelled, constraintRoots, countRoots, fieldRoots, Item, itemsOf, items, key, later}
-use Rattle.semantics.specs.Group.{Group, push, split, groups, constraintTerm, interactionTerm}
-use Rattle.semantics.specs.Group.{headers, variables, terms, Listed, listedAt, listed}
-use Rattle.semantics.specs.Demand.{productOf, sumTerms, sumOf, ofConstraint, ofCount, ofField, first, second}
-use Rattle.semantics.specs.Demand.{Ascending, NonZero, noInteraction, constraintAt, interactionAt, fieldAt}
+use Rattle.semantics.specs.Group.{Group, push, split, groups, constraintTerm, interactionTerm, headers, variables, terms, Listed, listedAt, listed}
+use Rattle.semantics.specs.Demand.{productOf, sumTerms, sumOf, ofConstraint, ofCount, ofField, first, second, Ascending, NonZero, noInteraction, constraintAt, interactionAt, fieldAt}
 use Rattle.semantics.proofs.Basics.{by-test, not-both}
 use Rattle.semantics.proofs.Arithmetic.{addM-lt, mulM-lt, addM-zero, zero-addM, zero-mulM, addM-assoc, sums}
 use Rattle.semantics.proofs.Order.{lex-inv, lex-head, lex-tail, lex-irrefl, lex-trans, lex-total, beforeVars-trans, beforeVars-total}

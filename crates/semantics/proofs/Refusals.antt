@@ -17,7 +17,8 @@ use Rattle.semantics.specs.Expand.{expandAll}
 use Rattle.semantics.specs.Graph.{graphOf, maxRotation}
 use Rattle.semantics.specs.Group.{Root}
 use Rattle.semantics.specs.Call.{Result, outcome, needs, result, onSheet, fitted, expansion}
-use Rattle.semantics.specs.Call.{blockCheckCall, readerCall, writerCall, checkCall, builderCall, maxRotationCall, numConstraintsCall, conversionCall, packCall, variableCall, unpackCall, constraintCall, interactionCall}
+use Rattle.semantics.specs.Call.{blockCheckCall, readerCall, writerCall, checkCall, builderCall, maxRotationCall, numConstraintsCall, conversionCall}
+use Rattle.semantics.specs.Call.{packCall, variableCall, unpackCall, constraintCall, interactionCall}
 use Rattle.semantics.specs.Refusals.{Sends, ofSheet, ofExpansion, Refusals}
 use Rattle.semantics.specs.Lists.{All}
 use Rattle.semantics.proofs.Basics.{by-test}

@@ -51,7 +51,10 @@ enum-told : tie.Need-enum-told Inv-loop μ-loop
 enum-told c = search needs
 
 same-length : tie.Need-same-length Inv-loop μ-loop
-same-length c = c .before .before .before .before .insert-pending .kept .0 ∙ c .before .before .before .before .before .before .before .before .before .before .before .before .tally-run .kept .0 ∙ c .before .before .before .before .before .before .before .before .before .before .before .before .before .before .before .before .before .loop .inv .long
+same-length c =
+    c .before .before .before .before .insert-pending .kept .0
+    ∙ c .before .before .before .before .before .before .before .before .before .before .before .before .tally-run .kept .0 ∙
+    c .before .before .before .before .before .before .before .before .before .before .before .before .before .before .before .before .before .loop .inv .long
 
 returns : tie.Need-returns Inv-loop μ-loop
 returns c =
@@ -85,7 +88,12 @@ loop-less c =
     let u = c .before .before .before .before .before .before .before .before .before .before .before .before .before .before .tally-run in
     let v = c .before .before .before .before .before .before .insert-pending in
     let gs = batched (b .rows) (u .result .pending) (u .last .0) P (u .last .1 .1 .1 .1 .1 .0) in
-    let r = u .ensures .some (omega (arith, c .before .before .before .before .before .before .before .before .before .before .before .before .before .before .before .before .before .before .loop-test .taken)) in
+    let r = u .ensures .some
+    (omega (
+      arith,
+      c .before .before .before .before .before .before .before .before .before .before .before .before .before .before .before .before .before .before .loop-test .taken,
+    ))
+    in
     let s = u .ensures .upto in
     search needs
 

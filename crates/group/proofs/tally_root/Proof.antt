@@ -56,7 +56,10 @@ returns c =
     let u = c .before .before .tally-list in
     let gs = tallied (a .n) (a .headers .now) P in
     subst (λ (i : ℕ). Counted (u .last .0) P (tallyAll (nonZero (listIn P i (getD P (2 * a .node + 1) 0))) gs) (u .result)) (c .before .before .before .before .before .before .wide .ensures)
-    (subst (λ (i : ℕ). Counted (u .last .0) P (tallyAll (nonZero (listIn P (c .before .before .before .before .before .before .wide .result) i)) gs) (u .result)) (c .before .before .before .before .wide2 .ensures) (u .ensures))
+    (subst
+    (λ (i : ℕ). Counted (u .last .0) P (tallyAll (nonZero (listIn P (c .before .before .before .before .before .before .wide .result) i)) gs)
+    (u .result))
+    (c .before .before .before .before .wide2 .ensures) (u .ensures))
 
 pub tally-root-spec : {M : Type 1} → statement M
 tally-root-spec =

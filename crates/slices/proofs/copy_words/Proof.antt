@@ -20,7 +20,9 @@ same-length : tie.Need-same-length Inv-loop μ-loop
 same-length c = search needs
 
 returns : tie.Need-returns Inv-loop μ-loop
-returns c = copy-full (c .before .before .before .args .list .now) (c .before .before .loop .out) (c .before .before .before .args .out .now) (c .before .before .loop .i) (c .if1 .taken) (c .before .before .loop .inv)
+returns c =
+    copy-full (c .before .before .before .args .list .now) (c .before .before .loop .out) (c .before .before .before .args .out .now)
+    (c .before .before .loop .i) (c .if1 .taken) (c .before .before .loop .inv)
 
 mul-out : tie.Need-mul-out Inv-loop μ-loop
 mul-out c = search needs
@@ -41,7 +43,10 @@ loop-less : tie.Need-loop-less Inv-loop μ-loop
 loop-less c = search needs
 
 loop-again : tie.Need-loop-again Inv-loop μ-loop
-loop-again c = copy-more (c .before .before .before .before .args .list .now) (c .before .before .before .loop .out) (c .before .before .before .before .args .out .now) (c .before .before .before .loop .i) (omega arith) (omega arith) (c .before .before .before .loop .inv)
+loop-again c =
+    copy-more (c .before .before .before .before .args .list .now) (c .before .before .before .loop .out)
+    (c .before .before .before .before .args .out .now) (c .before .before .before .loop .i) (omega arith) (omega arith)
+    (c .before .before .before .loop .inv)
 
 same-length-2 : tie.Need-same-length-2 Inv-loop μ-loop
 same-length-2 c = search needs

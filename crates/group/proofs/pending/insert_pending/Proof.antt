@@ -110,7 +110,12 @@ loop-again : tie.Need-loop-again Inv-loop μ-loop
 loop-again c =
     let v = c .before .before .before .before .before .before .before .before .before .before .before .before .loop in
     let a = c .before .before .before .before .before .before .before .before .before .before .before .before .before .before .before .before .before .before .args in
-    insert-step (c .before .before .before .before .before .before .before .before .before .before .before .before .before .before .before .before .before .before .pre) (v .inv) (v .j - 1) (omega (arith, c .before .before .before .before .before .before .before .before .before .before .before .loop-test .taken)) (c .before .before .before .before .before .before .before .shift-up .last .0) (c .before .before .put-row .last .0) (c .before .before .put-row .kept .0 ∙ c .before .before .before .before .before .before .before .shift-up .kept .0)
+    insert-step
+    (c .before .before .before .before .before .before .before .before .before .before .before .before .before .before .before .before .before .before .pre)
+    (v .inv) (v .j - 1)
+    (omega (arith, c .before .before .before .before .before .before .before .before .before .before .before .loop-test .taken))
+    (c .before .before .before .before .before .before .before .shift-up .last .0) (c .before .before .put-row .last .0)
+    (c .before .before .put-row .kept .0 ∙ c .before .before .before .before .before .before .before .shift-up .kept .0)
     (c .before .before .before .before .before .before .before .shift-up .ensures) (c .before .before .put-row .ensures)
 
 add-t11 : tie.Need-add-t11 Inv-loop μ-loop

@@ -72,8 +72,12 @@ returns-3 : tie.Need-returns-3
 returns-3 c =
     let a = c .before .before .before .before .before .before .before .before .before .before .before .before .args in
     let l = c .before .before .before .before .before .before .before .before .if2 .left in
-    let o = c .before .before .order-at in
-    (omega arith, follows-last (a .pool .now) (a .places .now) (a .b) (a .at) (o .result) (c .before .before .before .before .before .wide .result) (c .before .before .before .wide2 .result) (o .ensures) (c .before .before .before .before .before .wide .ensures) (c .before .before .before .wide2 .ensures) (c .enum-told .given .1))
+    let o = c .before .before .order-at in (
+      omega arith,
+      follows-last (a .pool .now) (a .places .now) (a .b) (a .at) (o .result) (c .before .before .before .before .before .wide .result)
+          (c .before .before .before .wide2 .result) (o .ensures) (c .before .before .before .before .before .wide .ensures)
+          (c .before .before .before .wide2 .ensures) (c .enum-told .given .1),
+    )
 
 returns-4 : tie.Need-returns-4
 returns-4 c = search needs

@@ -71,8 +71,12 @@ mul-places : tie.Need-mul-places
 mul-places c = search needs
 
 -- It waits behind those that do.
-follows : (c : tie.Then1) → let a = c .before .before .before .before .before .before .before .before .before .before .before .before .args in MayFollow (a .b) (a .places .now) (a .pool .now) (a .at) true
-follows c = let a = c .before .before .before .before .before .before .before .before .before .before .before .before .args in subst (MayFollow (a .b) (a .places .now) (a .pool .now) (a .at)) (c .if1 .taken) (c .before .may-follow .ensures)
+follows : (c : tie.Then1)
+    → let a = c .before .before .before .before .before .before .before .before .before .before .before .before .args in MayFollow (a .b) (a .places .now)
+    (a .pool .now) (a .at) true
+follows c =
+    let a = c .before .before .before .before .before .before .before .before .before .before .before .before .args in subst
+    (MayFollow (a .b) (a .places .now) (a .pool .now) (a .at)) (c .if1 .taken) (c .before .may-follow .ensures)
 
 slice-write-places : tie.Need-slice-write-places
 slice-write-places c = omega (arith, follows c .0)
@@ -104,7 +108,8 @@ returns c =
     let p = c .before .before .before .before .before .before .before .before .before .before .before .before .before .pre in
     let v : List ℕ = varsAt (a .pool .now) (a .at) in
     let k = c .before .before .before .before .before .found2 .given .0 .0 in
-    let s = subst (Spot v (tallied (a .n) (a .headers .now) (a .pool .now))) (c .before .before .before .before .before .found2 .given .1) (c .before .before .before .before .before .before .before .find-near .ensures) in
+    let s = subst (Spot v (tallied (a .n) (a .headers .now) (a .pool .now))) (c .before .before .before .before .before .found2 .given .1)
+    (c .before .before .before .before .before .before .before .find-near .ensures) in
     let x = batch-wait (a .n) (a .b) (a .headers .now) (a .pool .now) (a .places .now) (a .fronts .now) v (p .0) (a .at) k refl (p .1) s (follows (c .before)) in
     (omega arith, x .0, x .1)
 
@@ -114,7 +119,9 @@ same-length-4 c = search needs
 returns-2 : tie.Need-returns-2
 returns-2 c =
     let a = c .before .before .before .before .before .before .before .before .before .before .args in
-    let x = batch-count (a .n) (a .b) (a .headers .now) (a .pool .now) (a .places .now) (a .fronts .now) (varsAt (a .pool .now) (a .at)) (c .before .before .before .before .before .before .before .before .before .before .pre .0) (c .before .before .found .given .0 .0) (there (c .before)) in
+    let x = batch-count (a .n) (a .b) (a .headers .now) (a .pool .now) (a .places .now) (a .fronts .now) (varsAt (a .pool .now) (a .at))
+    (c .before .before .before .before .before .before .before .before .before .before .pre .0) (c .before .before .found .given .0 .0)
+    (there (c .before)) in
     (omega arith, x .0, x .1)
 
 same-length-5 : tie.Need-same-length-5

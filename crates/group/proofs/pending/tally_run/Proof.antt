@@ -26,7 +26,9 @@ loop-holds c =
     run-start (a .n) (a .pool .now) (a .at) (a .count) (a .headers .now) (a .places .now) (a .fronts .now) (p .0) (p .1) (p .3) (p .4)
 
 tally-kept-requires : tie.Need-tally-kept-requires Inv-loop μ-loop
-tally-kept-requires c κs = run-asks (c .before .before .before .before .loop .inv) (c .before .before .before .loop-test .taken) (c .before .before .before .before .before .before .before .before .before .pre .2)
+tally-kept-requires c κs =
+    run-asks (c .before .before .before .before .loop .inv) (c .before .before .before .loop-test .taken)
+    (c .before .before .before .before .before .before .before .before .before .pre .2)
 
 enum-known-next : tie.Need-enum-known-next Inv-loop μ-loop
 enum-known-next c = search needs
@@ -35,13 +37,19 @@ enum-told : tie.Need-enum-told Inv-loop μ-loop
 enum-told c = search needs
 
 same-length : tie.Need-same-length Inv-loop μ-loop
-same-length c = c .before .before .before .before .before .before .before .before .tally-kept .kept .0 ∙ c .before .before .before .before .before .before .before .before .before .before .before .before .before .loop .inv .long
+same-length c =
+    c .before .before .before .before .before .before .before .before .tally-kept .kept .0
+    ∙ c .before .before .before .before .before .before .before .before .before .before .before .before .before .loop .inv .long
 
 same-length-2 : tie.Need-same-length-2 Inv-loop μ-loop
-same-length-2 c = c .before .before .before .before .before .before .before .before .tally-kept .kept .1 .1 .1 .1 .1 .0 ∙ c .before .before .before .before .before .before .before .before .before .before .before .before .before .loop .inv .long-places
+same-length-2 c =
+    c .before .before .before .before .before .before .before .before .tally-kept .kept .1 .1 .1 .1 .1 .0
+    ∙ c .before .before .before .before .before .before .before .before .before .before .before .before .before .loop .inv .long-places
 
 same-length-3 : tie.Need-same-length-3 Inv-loop μ-loop
-same-length-3 c = c .before .before .before .before .before .before .before .before .tally-kept .kept .1 .1 .1 .1 .1 .1 .0 ∙ c .before .before .before .before .before .before .before .before .before .before .before .before .before .loop .inv .long-fronts
+same-length-3 c =
+    c .before .before .before .before .before .before .before .before .tally-kept .kept .1 .1 .1 .1 .1 .1 .0
+    ∙ c .before .before .before .before .before .before .before .before .before .before .before .before .before .loop .inv .long-fronts
 
 returns : tie.Need-returns Inv-loop μ-loop
 returns c =
@@ -55,22 +63,40 @@ returns c =
     (subst (Nexts (a .n) (b .b) vs gs (u .last .0) P (u .last .1 .1 .1 .1 .1 .0) (u .last .1 .1 .1 .1 .1 .1 .0)) (c .enum-told .given .1) (u .ensures))
 
 add-place : tie.Need-add-place Inv-loop μ-loop
-add-place c = let x = run-asks (c .before .before .before .before .before .before .before .before .before .before .before .before .before .before .loop .inv) (c .before .before .before .before .before .before .before .before .before .before .before .before .before .loop-test .taken) (c .before .before .before .before .before .before .before .before .before .before .before .before .before .before .before .before .before .before .before .pre .2) in
+add-place c =
+    let x = run-asks (c .before .before .before .before .before .before .before .before .before .before .before .before .before .before .loop .inv)
+    (c .before .before .before .before .before .before .before .before .before .before .before .before .before .loop-test .taken)
+    (c .before .before .before .before .before .before .before .before .before .before .before .before .before .before .before .before .before .before .before .pre .2)
+    in
     omega (arith, x .1 .2)
 
 mul-wide : tie.Need-mul-wide Inv-loop μ-loop
-mul-wide c = let x = run-asks (c .before .before .before .before .before .before .before .before .before .before .before .before .before .before .loop .inv) (c .before .before .before .before .before .before .before .before .before .before .before .before .before .loop-test .taken) (c .before .before .before .before .before .before .before .before .before .before .before .before .before .before .before .before .before .before .before .pre .2) in
+mul-wide c =
+    let x = run-asks (c .before .before .before .before .before .before .before .before .before .before .before .before .before .before .loop .inv)
+    (c .before .before .before .before .before .before .before .before .before .before .before .before .before .loop-test .taken)
+    (c .before .before .before .before .before .before .before .before .before .before .before .before .before .before .before .before .before .before .before .pre .2)
+    in
     omega (arith, x .1 .1)
 
 shared-slice-read-wide : tie.Need-shared-slice-read-wide Inv-loop μ-loop
-shared-slice-read-wide c = let x = run-asks (c .before .before .before .before .before .before .before .before .before .before .before .before .before .before .before .loop .inv) (c .before .before .before .before .before .before .before .before .before .before .before .before .before .before .loop-test .taken) (c .before .before .before .before .before .before .before .before .before .before .before .before .before .before .before .before .before .before .before .before .pre .2) in
+shared-slice-read-wide c =
+    let x = run-asks
+    (c .before .before .before .before .before .before .before .before .before .before .before .before .before .before .before .loop .inv)
+    (c .before .before .before .before .before .before .before .before .before .before .before .before .before .before .loop-test .taken)
+    (c .before .before .before .before .before .before .before .before .before .before .before .before .before .before .before .before .before .before .before .before .pre .2)
+    in
     omega (arith, x .1 .1)
 
 wide-requires : tie.Need-wide-requires Inv-loop μ-loop
 wide-requires c κs = search needs
 
 add-place-2 : tie.Need-add-place-2 Inv-loop μ-loop
-add-place-2 c = let x = run-asks (c .before .before .before .before .before .before .before .before .before .before .before .before .before .before .before .before .loop .inv) (c .before .before .before .before .before .before .before .before .before .before .before .before .before .before .before .loop-test .taken) (c .before .before .before .before .before .before .before .before .before .before .before .before .before .before .before .before .before .before .before .before .before .pre .2) in
+add-place-2 c =
+    let x = run-asks
+    (c .before .before .before .before .before .before .before .before .before .before .before .before .before .before .before .before .loop .inv)
+    (c .before .before .before .before .before .before .before .before .before .before .before .before .before .before .before .loop-test .taken)
+    (c .before .before .before .before .before .before .before .before .before .before .before .before .before .before .before .before .before .before .before .before .before .pre .2)
+    in
     let w = c .wide .ensures in
     omega (arith, x .1 .0, x .1 .2)
 
@@ -89,8 +115,14 @@ loop-again c =
     let vs = nonZero (readMonomial (drop (b .place) P) ∷ []) in
     let gs = batched (a .n) (b .b) (b .headers) P (b .places) in
     let n = c .before .before .before .next .given in
-    subst (λ (x : ℕ). Running (a .n) P (a .at) (a .count) (a .headers .now) (a .places .now) (a .fronts .now) (u .last .0) (u .last .1 .1 .1 .1 .1 .0) (u .last .1 .1 .1 .1 .1 .1 .0) (b .place + 2 + x) (n .0 .0) (b .i + 1)) (sym (c .wide .ensures))
-    (run-step (b .inv) (c .before .before .before .before .before .before .before .before .before .before .before .before .before .before .before .loop-test .taken) (u .last .0) (u .last .1 .1 .1 .1 .1 .0) (u .last .1 .1 .1 .1 .1 .1 .0) (n .0 .0) (n .0 .1 .0) (u .kept .0) (u .kept .1 .1 .1 .1 .1 .0) (u .kept .1 .1 .1 .1 .1 .1 .0)
+    subst
+    (λ (x : ℕ). Running (a .n) P (a .at) (a .count) (a .headers .now) (a .places .now) (a .fronts .now) (u .last .0) (u .last .1 .1 .1 .1 .1 .0)
+    (u .last .1 .1 .1 .1 .1 .1 .0) (b .place + 2 + x) (n .0 .0) (b .i + 1))
+    (sym (c .wide .ensures))
+    (run-step (b .inv)
+    (c .before .before .before .before .before .before .before .before .before .before .before .before .before .before .before .loop-test .taken)
+    (u .last .0) (u .last .1 .1 .1 .1 .1 .0) (u .last .1 .1 .1 .1 .1 .1 .0) (n .0 .0) (n .0 .1 .0) (u .kept .0) (u .kept .1 .1 .1 .1 .1 .0)
+    (u .kept .1 .1 .1 .1 .1 .1 .0)
     (subst (Nexts (a .n) (b .b) vs gs (u .last .0) P (u .last .1 .1 .1 .1 .1 .0) (u .last .1 .1 .1 .1 .1 .1 .0)) (n .1) (u .ensures)))
 
 same-length-4 : tie.Need-same-length-4 Inv-loop μ-loop

@@ -89,8 +89,12 @@ loop-again c =
     let t = c .before .before .before .before .before .before .before .before .before .loop-test .taken in
     let s = standing-next (a .count) (b .i) (b .place) P t (b .inv .standing) in
     let k = c .before .before .before .before .before .before .place-kept in
-    subst (λ (x : ℕ). Listing (a .interaction) (a .n) P (a .index) (a .field) (a .at) (a .count) (a .headers .now) (a .terms .now) (k .last .0) (k .last .1 .1 .1 .1 .1 .1 .1 .0) (b .place + 2 + x) (b .i + 1)) (sym (c .wide .ensures))
-    (listing-step (a .interaction) (a .n) P (a .index) (a .field) (a .at) (a .count) (a .headers .now) (a .terms .now) (b .headers) (b .terms) (b .place) (b .i) (b .inv) t (k .last .0) (k .last .1 .1 .1 .1 .1 .1 .1 .0) (k .kept .0) (k .kept .1 .1 .1 .1 .1 .1 .1 .0) (k .ensures))
+    subst
+    (λ (x : ℕ). Listing (a .interaction) (a .n) P (a .index) (a .field) (a .at) (a .count) (a .headers .now) (a .terms .now) (k .last .0)
+    (k .last .1 .1 .1 .1 .1 .1 .1 .0) (b .place + 2 + x) (b .i + 1))
+    (sym (c .wide .ensures))
+    (listing-step (a .interaction) (a .n) P (a .index) (a .field) (a .at) (a .count) (a .headers .now) (a .terms .now) (b .headers) (b .terms)
+    (b .place) (b .i) (b .inv) t (k .last .0) (k .last .1 .1 .1 .1 .1 .1 .1 .0) (k .kept .0) (k .kept .1 .1 .1 .1 .1 .1 .1 .0) (k .ensures))
 
 same-length : tie.Need-same-length Inv-loop μ-loop
 same-length c = c .before .loop .inv .going .long

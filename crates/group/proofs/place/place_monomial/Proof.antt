@@ -52,7 +52,9 @@ there c =
     let a = c .before .before .before .before .before .before .before .before .before .args in
     subst (Spot (varsAt (a .pool .now) (a .at)) (tallied (a .n) (a .headers .now) (a .pool .now))) (c .before .found .given .1) (c .before .before .before .find-near .ensures)
 
-row : (c : tie.After-known-told) → let a = c .before .before .before .before .before .before .before .before .before .args in (c .before .found .given .0 .0 < a .n) × (4 * a .n ≤ length (a .headers .now))
+row : (c : tie.After-known-told)
+    → let a = c .before .before .before .before .before .before .before .before .before .args in (c .before .found .given .0 .0 < a .n)
+    × (4 * a .n ≤ length (a .headers .now))
 row c =
     let a = c .before .before .before .before .before .before .before .before .before .args in
     let r = c .before .before .before .before .before .before .before .before .before .pre .0 .placing .rows-are in
@@ -78,7 +80,8 @@ put-term-requires c κs =
     let a = c .before .before .before .before .before .before .before .before .before .before .before .before .args in
     let g = c .before .before .before .before .before .before .before .before .before .before .before .before .pre .0 in
     let t = itemAt (a .index) (a .field) (readMonomial (drop (a .at) (a .pool .now))) in
-    let q = term-fits (a .interaction) (g .gs) (a .n) (a .headers .now) (a .pool .now) (a .terms .now) (g .done) t (t .vars) (c .before .before .before .before .found .given .0 .0) (g .placing) (g .room) refl (there (c .before .before .before)) in
+    let q = term-fits (a .interaction) (g .gs) (a .n) (a .headers .now) (a .pool .now) (a .terms .now) (g .done) t (t .vars)
+    (c .before .before .before .before .found .given .0 .0) (g .placing) (g .room) refl (there (c .before .before .before)) in
     subst (λ (i : ℕ). widthOf (a .interaction) * i + widthOf (a .interaction) ≤ length (a .terms .now)) (sym (c .wide .ensures)) q
 
 add-headers : tie.Need-add-headers
@@ -86,7 +89,9 @@ add-headers c =
     let a = c .before .before .before .before .before .before .before .before .before .before .before .before .before .before .before .args in
     let g = c .before .before .before .before .before .before .before .before .before .before .before .before .before .before .before .pre .0 in
     let t = itemAt (a .index) (a .field) (readMonomial (drop (a .at) (a .pool .now))) in
-    let q = cursor-small (a .interaction) (g .gs) (a .n) (a .headers .now) (a .pool .now) (a .terms .now) (g .done) t (t .vars) (c .before .before .before .before .before .before .before .found .given .0 .0) (g .placing) (g .room) refl (there (c .before .before .before .before .before .before)) in
+    let q = cursor-small (a .interaction) (g .gs) (a .n) (a .headers .now) (a .pool .now) (a .terms .now) (g .done) t (t .vars)
+    (c .before .before .before .before .before .before .before .found .given .0 .0) (g .placing) (g .room) refl
+    (there (c .before .before .before .before .before .before)) in
     let z = g .placing .small in
     search needs
 
@@ -115,7 +120,8 @@ returns-2 c =
     let k = c .before .before .before .before .before .before .before .found .given .0 .0 in
     let u = c .before .before .put-term in
     let f = u .ensures t refl refl (read-coef P (a .at)) ∙ ap (λ (i : ℕ). sets T (widthOf (a .interaction) * i) (termOf (a .interaction) t)) (c .before .before .before .wide .ensures) in
-    λ gs done x y. place-one (a .interaction) gs (a .n) H P T done t (t .vars) k x y refl (there (c .before .before .before .before .before .before)) (set H (4 * k + 1) (getD H (4 * k + 1) 0 + 1)) (u .last .0) f refl
+    λ gs done x y. place-one (a .interaction) gs (a .n) H P T done t (t .vars) k x y refl
+    (there (c .before .before .before .before .before .before)) (set H (4 * k + 1) (getD H (4 * k + 1) 0 + 1)) (u .last .0) f refl
 
 pub place-monomial-spec : {M : Type 1} → statement M
 place-monomial-spec =

@@ -17,7 +17,10 @@ abbrev μ-loop : tie.MeasureT-loop
 μ-loop headers n pool variables₀ at₀ i₀ variables at i = n - i
 
 loop-holds : tie.Need-loop-holds Inv-loop μ-loop
-loop-holds c = written-none (tallied (c .before .before .before .args .n) (c .before .before .before .args .headers .now) (c .before .before .before .args .pool .now)) (c .before .before .before .args .variables .now)
+loop-holds c =
+    written-none
+    (tallied (c .before .before .before .args .n) (c .before .before .before .args .headers .now) (c .before .before .before .args .pool .now))
+    (c .before .before .before .args .variables .now)
 
 write-row-requires : tie.Need-write-row-requires Inv-loop μ-loop
 write-row-requires c κs =

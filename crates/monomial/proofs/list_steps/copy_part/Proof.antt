@@ -30,12 +30,14 @@ shared-slice-read-out c = omega (arith, c .before .before .before .pre .0)
 
 add-out-2 : tie.Need-add-out-2 Inv-loop μ-loop
 add-out-2 c =
-    let h : c .before .before .before .args .at + c .before .before .loop .i < length (c .before .before .loop .out) = omega (arith, c .before .before .before .pre .1, c .before .before .loop .inv .length-is) in
+    let h : c .before .before .before .args .at + c .before .before .loop .i < length (c .before .before .loop .out) = omega
+    (arith, c .before .before .before .pre .1, c .before .before .loop .inv .length-is) in
     search needs
 
 mul-out-2 : tie.Need-mul-out-2 Inv-loop μ-loop
 mul-out-2 c =
-    let h : c .before .before .before .args .at + c .before .before .loop .i < length (c .before .before .loop .out) = omega (arith, c .before .before .before .pre .1, c .before .before .loop .inv .length-is) in
+    let h : c .before .before .before .args .at + c .before .before .loop .i < length (c .before .before .loop .out) = omega
+    (arith, c .before .before .before .pre .1, c .before .before .loop .inv .length-is) in
     search needs
 
 slice-write-out : tie.Need-slice-write-out Inv-loop μ-loop

@@ -80,8 +80,11 @@ returns c =
     let a = c .before .before .before .before .before .args in
     let b = c .before .before .loop in
     let n = c .before .before .before .vars-in .result in
-    let q : b .i ≡ n = omega arith in
-    (read-in (a .words .now) (nums (b .vars)) (a .at) n (c .before .before .before .vars-in .ensures) (ap (λ (i : ℕ). take i (nums (b .vars))) (sym q) ∙ b .inv .4 ∙ ap (λ (i : ℕ). take i (drop (a .at + 2) (a .words .now))) q), c .before .before .before .vars-in .ensures)
+    let q : b .i ≡ n = omega arith in (
+      read-in (a .words .now) (nums (b .vars)) (a .at) n (c .before .before .before .vars-in .ensures)
+          (ap (λ (i : ℕ). take i (nums (b .vars))) (sym q) ∙ b .inv .4 ∙ ap (λ (i : ℕ). take i (drop (a .at + 2) (a .words .now))) q),
+      c .before .before .before .vars-in .ensures,
+    )
 
 pub monomial-in-spec : {M : Type 1} → statement M
 monomial-in-spec =

@@ -51,7 +51,9 @@ same-length c =
 returns : tie.Need-returns
 returns c =
     let a = c .before .before .before .before .before .before .before .args in
-    head-copied (a .out .now) (c .before .before .copy-part .last .1 .1 .1 .0) (take (a .n) (drop (a .from + 2) (a .work .now))) (a .at) (a .n) (getD (a .work .now) (a .from + 1) 0) (a .n) (omega (arith, c .before .before .before .before .before .before .before .pre .2)) (c .before .before .copy-part .ensures)
+    head-copied (a .out .now) (c .before .before .copy-part .last .1 .1 .1 .0) (take (a .n) (drop (a .from + 2) (a .work .now))) (a .at) (a .n)
+    (getD (a .work .now) (a .from + 1) 0) (a .n) (omega (arith, c .before .before .before .before .before .before .before .pre .2))
+    (c .before .before .copy-part .ensures)
 
 pub write-row-spec : {M : Type 1} → statement M
 write-row-spec =

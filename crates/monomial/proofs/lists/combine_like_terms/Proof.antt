@@ -42,8 +42,11 @@ returns c =
     let l : List semantics.Monomial = held (a .count) (a .work .now) in
     let s = subst (Stands (monomialOf (a .m)) l) (c .before .before .before .before .before .found .given .1) (c .before .before .before .before .before .before .before .find-monomial .ensures) in
     let k : ℕ = c .before .before .before .before .before .found .given .0 .0 in
-    let v = c .before .before .sum-at in
-    (v .ensures .0 ∙ sym (insert-at prime (monomialOf (a .m)) l k (c .before .before .before .before .before .before .before .before .before .before .pre .1 .ascends) (s .0) (s .1)), omega (arith, v .ensures .1))
+    let v = c .before .before .sum-at in (
+      v .ensures .0 ∙ sym
+          (insert-at prime (monomialOf (a .m)) l k (c .before .before .before .before .before .before .before .before .before .before .pre .1 .ascends) (s .0) (s .1)),
+      omega (arith, v .ensures .1),
+    )
 
 same-length-2 : tie.Need-same-length-2
 same-length-2 c = search needs

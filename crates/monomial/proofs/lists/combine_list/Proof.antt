@@ -50,7 +50,8 @@ add-from c =
     let a = c .before .before .before .before .before .before .before .before .before .before .args in
     let b = c .before .before .before .before .before .before .before .loop in
     let f = left-front (a .pool .now) (b .from) (a .n) (b .i) (omega arith) (b .inv .left) in
-    let h : b .from + 2 + c .before .before .before .before .before .monomial-in .result .count ≤ length (a .pool .now) = omega (arith, f .room, c .before .before .before .before .before .monomial-in .ensures .1) in
+    let h : b .from + 2 + c .before .before .before .before .before .monomial-in .result .count ≤ length (a .pool .now) = omega
+    (arith, f .room, c .before .before .before .before .before .monomial-in .ensures .1) in
     search needs
 
 add-from-2 : tie.Need-add-from-2 Inv-loop μ-loop
@@ -58,7 +59,8 @@ add-from-2 c =
     let a = c .before .before .before .before .before .before .before .before .before .before .args in
     let b = c .before .before .before .before .before .before .before .loop in
     let f = left-front (a .pool .now) (b .from) (a .n) (b .i) (omega arith) (b .inv .left) in
-    let h : b .from + 2 + c .before .before .before .before .before .monomial-in .result .count ≤ length (a .pool .now) = omega (arith, f .room, c .before .before .before .before .before .monomial-in .ensures .1) in
+    let h : b .from + 2 + c .before .before .before .before .before .monomial-in .result .count ≤ length (a .pool .now) = omega
+    (arith, f .room, c .before .before .before .before .before .monomial-in .ensures .1) in
     search needs
 
 add-i : tie.Need-add-i Inv-loop μ-loop

@@ -73,7 +73,14 @@ loop-again c =
     let k = short-first (a .pool .now) (b .from) (a .n) (b .i) (longestOf (listIn (a .pool .now) (a .left) (a .n))) (omega arith) (b .inv .short) in
     multiplying-more (a .pool .now) (a .left) (a .n) (a .right) (a .m) (a .work .now) (b .work) (p .last .0) (b .total) (p .result) (b .from) (b .i) (r .result .count) (monomialOf (r .result))
     (b .inv) (omega arith) (r .ensures .1) (p .kept .0) (r .ensures .0)
-    (omega (arith, r .ensures .1, k, c .before .before .before .before .before .before .before .before .before .pre .4, first-short (r .result .count) (nums (r .result .vars)))) (p .ensures .0) (p .ensures .1)
+    (omega (
+      arith,
+      r .ensures .1,
+      k,
+      c .before .before .before .before .before .before .before .before .before .pre .4,
+      first-short (r .result .count) (nums (r .result .vars)),
+    ))
+    (p .ensures .0) (p .ensures .1)
 
 same-length : tie.Need-same-length Inv-loop μ-loop
 same-length c = c .before .loop .inv .length-is

@@ -34,15 +34,23 @@ put-monomial-requires : tie.Need-put-monomial-requires Inv-loop μ-loop
 put-monomial-requires c κs =
     let a = c .before .before .before .before .before .before .before .args in
     let b = c .before .before .before .before .loop in
-    let f = left-front (a .pool .now) (b .from) (a .n) (b .k) (omega arith) (b .inv .left) in
-    (omega (arith, c .negative .ensures .1, c .before .before .monomial-in .ensures .1, f .short), omega (arith, c .before .before .before .before .before .before .before .pre .0, c .before .before .before .before .before .before .before .pre .1, b .inv .length-is))
+    let f = left-front (a .pool .now) (b .from) (a .n) (b .k) (omega arith) (b .inv .left) in (
+      omega (arith, c .negative .ensures .1, c .before .before .monomial-in .ensures .1, f .short),
+      omega (
+        arith,
+        c .before .before .before .before .before .before .before .pre .0,
+        c .before .before .before .before .before .before .before .pre .1,
+        b .inv .length-is,
+      ),
+    )
 
 add-from : tie.Need-add-from Inv-loop μ-loop
 add-from c =
     let a = c .before .before .before .before .before .before .before .before .before .before .args in
     let b = c .before .before .before .before .before .before .before .loop in
     let f = left-front (a .pool .now) (b .from) (a .n) (b .k) (omega arith) (b .inv .left) in
-    let h : b .from + 2 + c .before .before .before .before .before .monomial-in .result .count ≤ length (a .pool .now) = omega (arith, f .room, c .before .before .before .before .before .monomial-in .ensures .1) in
+    let h : b .from + 2 + c .before .before .before .before .before .monomial-in .result .count ≤ length (a .pool .now) = omega
+    (arith, f .room, c .before .before .before .before .before .monomial-in .ensures .1) in
     search needs
 
 add-from-2 : tie.Need-add-from-2 Inv-loop μ-loop
@@ -50,7 +58,8 @@ add-from-2 c =
     let a = c .before .before .before .before .before .before .before .before .before .before .args in
     let b = c .before .before .before .before .before .before .before .loop in
     let f = left-front (a .pool .now) (b .from) (a .n) (b .k) (omega arith) (b .inv .left) in
-    let h : b .from + 2 + c .before .before .before .before .before .monomial-in .result .count ≤ length (a .pool .now) = omega (arith, f .room, c .before .before .before .before .before .monomial-in .ensures .1) in
+    let h : b .from + 2 + c .before .before .before .before .before .monomial-in .result .count ≤ length (a .pool .now) = omega
+    (arith, f .room, c .before .before .before .before .before .monomial-in .ensures .1) in
     search needs
 
 add-k : tie.Need-add-k Inv-loop μ-loop
@@ -64,7 +73,8 @@ loop-again c =
     let a = c .before .before .before .before .before .before .before .before .before .before .args in
     let b = c .before .before .before .before .before .before .before .loop in
     let p = c .before .before .put-monomial in
-    negating-more (a .pool .now) (a .at) (a .n) (a .work .now) (b .work) (p .last .0) (b .from) (b .k) (c .before .before .before .before .before .monomial-in .result .count) (monomialOf (c .before .before .before .negative .result))
+    negating-more (a .pool .now) (a .at) (a .n) (a .work .now) (b .work) (p .last .0) (b .from) (b .k)
+    (c .before .before .before .before .before .monomial-in .result .count) (monomialOf (c .before .before .before .negative .result))
     (b .inv) (omega arith) (c .before .before .before .before .before .monomial-in .ensures .1) (p .kept .0)
     (c .before .before .before .negative .ensures .0 ∙ ap (negMonomial prime) (c .before .before .before .before .before .monomial-in .ensures .0)) (p .ensures)
 

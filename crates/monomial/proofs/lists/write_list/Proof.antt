@@ -24,21 +24,29 @@ write-row-requires : tie.Need-write-row-requires Inv-loop μ-loop
 write-row-requires c κs =
     let a = c .before .before .before .before .before .before .args in
     let b = c .before .before .before .loop in
-    let r = written-room (a .work .now) (a .count) (a .out .now) (c .before .before .before .before .before .before .pre .1) (c .before .before .before .before .before .before .pre .3) (b .out) (b .at) (b .k) (c .before .slot-count .result) (b .inv) (omega arith) (c .before .slot-count .ensures) in
+    let r = written-room (a .work .now) (a .count) (a .out .now) (c .before .before .before .before .before .before .pre .1)
+    (c .before .before .before .before .before .before .pre .3) (b .out) (b .at) (b .k) (c .before .slot-count .result) (b .inv) (omega arith)
+    (c .before .slot-count .ensures) in
     (omega (arith, c .before .slot-count .ensures), omega (arith, c .before .slot-count .ensures, c .before .before .before .before .before .before .pre .1), omega (arith, r, b .inv .length-is))
 
 add-at : tie.Need-add-at Inv-loop μ-loop
 add-at c =
     let a = c .before .before .before .before .before .before .before .before .before .args in
     let b = c .before .before .before .before .before .before .loop in
-    let r = written-room (a .work .now) (a .count) (a .out .now) (c .before .before .before .before .before .before .before .before .before .pre .1) (c .before .before .before .before .before .before .before .before .before .pre .3) (b .out) (b .at) (b .k) (c .before .before .before .before .slot-count .result) (b .inv) (omega arith) (c .before .before .before .before .slot-count .ensures) in
+    let r = written-room (a .work .now) (a .count) (a .out .now)
+    (c .before .before .before .before .before .before .before .before .before .pre .1)
+    (c .before .before .before .before .before .before .before .before .before .pre .3) (b .out) (b .at) (b .k)
+    (c .before .before .before .before .slot-count .result) (b .inv) (omega arith) (c .before .before .before .before .slot-count .ensures) in
     search needs
 
 add-at-2 : tie.Need-add-at-2 Inv-loop μ-loop
 add-at-2 c =
     let a = c .before .before .before .before .before .before .before .before .before .args in
     let b = c .before .before .before .before .before .before .loop in
-    let r = written-room (a .work .now) (a .count) (a .out .now) (c .before .before .before .before .before .before .before .before .before .pre .1) (c .before .before .before .before .before .before .before .before .before .pre .3) (b .out) (b .at) (b .k) (c .before .before .before .before .slot-count .result) (b .inv) (omega arith) (c .before .before .before .before .slot-count .ensures) in
+    let r = written-room (a .work .now) (a .count) (a .out .now)
+    (c .before .before .before .before .before .before .before .before .before .pre .1)
+    (c .before .before .before .before .before .before .before .before .before .pre .3) (b .out) (b .at) (b .k)
+    (c .before .before .before .before .slot-count .result) (b .inv) (omega arith) (c .before .before .before .before .slot-count .ensures) in
     search needs
 
 add-k : tie.Need-add-k Inv-loop μ-loop
@@ -51,7 +59,9 @@ loop-again : tie.Need-loop-again Inv-loop μ-loop
 loop-again c =
     let a = c .before .before .before .before .before .before .before .before .before .args in
     let b = c .before .before .before .before .before .before .loop in
-    written-more (a .work .now) (a .count) (a .out .now) (c .before .before .before .before .before .before .before .before .before .pre .1) (c .before .before .before .before .before .before .before .before .before .pre .3) (b .out) (b .at) (b .k) (c .before .before .before .before .slot-count .result) (b .inv) (omega arith) (c .before .before .before .before .slot-count .ensures)
+    written-more (a .work .now) (a .count) (a .out .now) (c .before .before .before .before .before .before .before .before .before .pre .1)
+    (c .before .before .before .before .before .before .before .before .before .pre .3) (b .out) (b .at) (b .k)
+    (c .before .before .before .before .slot-count .result) (b .inv) (omega arith) (c .before .before .before .before .slot-count .ensures)
     (c .before .before .write-row .last .1 .1 .1 .0) (c .before .before .write-row .kept .1 .1 .1 .0) (c .before .before .write-row .ensures)
 
 same-length : tie.Need-same-length Inv-loop μ-loop

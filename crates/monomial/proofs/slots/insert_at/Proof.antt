@@ -38,9 +38,12 @@ returns-2 : tie.Need-returns-2
 returns-2 c =
     let a = c .before .before .before .before .before .before .before .before .before .before .before .args in
     let l : List semantics.Monomial = held (a .count) (a .work .now) in
-    let e : length (nums (a .m .vars)) ≡ 14 = length-map (a .m .vars) num ∙ fourteen (a .m .vars) (c .before .before .before .before .before .before .before .before .before .before .before .good .1 .1 .1 .0 .1 .1 .0 .1 .0 .1) in (
-      held-put (a .work .now) (a .k) (a .count) (omega arith) (omega arith) (a .m .count) (a .m .coef) (nums (a .m .vars)) _ _ (omega arith) e (c .before .before .before .before .before .before .shift-up .ensures) (c .before .before .put-slot .ensures)
-          ∙ ap (λ (r : List semantics.Monomial). take (a .k) l ++ r) (sym (keep-other (monomialOf (a .m)) (drop (a .k) l) (c .before .before .before .before .before .before .before .before .if1 .left))),
+    let e : length (nums (a .m .vars)) ≡ 14 = length-map (a .m .vars) num ∙ fourteen (a .m .vars)
+    (c .before .before .before .before .before .before .before .before .before .before .before .good .1 .1 .1 .0 .1 .1 .0 .1 .0 .1) in (
+      held-put (a .work .now) (a .k) (a .count) (omega arith) (omega arith) (a .m .count) (a .m .coef) (nums (a .m .vars)) _ _ (omega arith) e
+          (c .before .before .before .before .before .before .shift-up .ensures) (c .before .before .put-slot .ensures)
+          ∙ ap (λ (r : List semantics.Monomial). take (a .k) l ++ r)
+          (sym (keep-other (monomialOf (a .m)) (drop (a .k) l) (c .before .before .before .before .before .before .before .before .if1 .left))),
       omega arith,
     )
 

@@ -61,8 +61,12 @@ slice-write-work-3 : tie.Need-slice-write-work-3 Inv-loop μ-loop
 slice-write-work-3 c =
     let b = c .before .before .loop in
     let h = b .inv in
-    let l = length-set (c .before .before .before .before .before .args .work .now) (16 * c .before .before .before .before .before .args .k) (c .before .before .before .before .before .args .m .count) in
-    let l2 = length-set (set (c .before .before .before .before .before .args .work .now) (16 * c .before .before .before .before .before .args .k) (c .before .before .before .before .before .args .m .count)) (16 * c .before .before .before .before .before .args .k + 1) (c .before .before .before .before .before .args .m .coef) in
+    let l = length-set (c .before .before .before .before .before .args .work .now) (16 * c .before .before .before .before .before .args .k)
+    (c .before .before .before .before .before .args .m .count) in
+    let l2 = length-set
+    (set (c .before .before .before .before .before .args .work .now) (16 * c .before .before .before .before .before .args .k)
+    (c .before .before .before .before .before .args .m .count))
+    (16 * c .before .before .before .before .before .args .k + 1) (c .before .before .before .before .before .args .m .coef) in
     omega arith
 
 add-i : tie.Need-add-i Inv-loop μ-loop
@@ -78,8 +82,13 @@ loop-again c =
     let h = b .inv in
     let l = length-set (a .work .now) (16 * a .k) (a .m .count) in
     let l2 = length-set (set (a .work .now) (16 * a .k) (a .m .count)) (16 * a .k + 1) (a .m .coef) in
-    let lv = length-map (a .m .vars) num in
-    (omega arith, h .1, length-set (b .work) _ _ ∙ h .2, stored _ (nums (a .m .vars)) (b .work) (16 * a .k + 2) (b .i) _ (h .3) (sym (List·getD-map num (a .m .vars) (b .i) (record { 0 = 0 }))) (omega arith) (omega arith))
+    let lv = length-map (a .m .vars) num in (
+      omega arith,
+      h .1,
+      length-set (b .work) _ _ ∙ h .2,
+      stored _ (nums (a .m .vars)) (b .work) (16 * a .k + 2) (b .i) _ (h .3) (sym (List·getD-map num (a .m .vars) (b .i) (record { 0 = 0 })))
+          (omega arith) (omega arith),
+    )
 
 same-length : tie.Need-same-length Inv-loop μ-loop
 same-length c =

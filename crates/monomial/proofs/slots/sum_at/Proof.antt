@@ -39,8 +39,11 @@ same-length c = search needs
 returns : tie.Need-returns
 returns c =
     let a = c .before .before .before .before .before .before .before .before .args in
-    let v = c .before .before .before .before .before .add in
-    (sum-out (a .work .now) (a .k) (a .count) (omega arith) prime (monomialOf (a .m)) (omega arith) (v .result) (v .ensures) (c .before .before .before .before .if1 .taken) _ (c .before .before .shift-down .ensures), omega arith)
+    let v = c .before .before .before .before .before .add in (
+      sum-out (a .work .now) (a .k) (a .count) (omega arith) prime (monomialOf (a .m)) (omega arith) (v .result) (v .ensures)
+          (c .before .before .before .before .if1 .taken) _ (c .before .before .shift-down .ensures),
+      omega arith,
+    )
 
 mul-work : tie.Need-mul-work
 mul-work c = search needs
