@@ -26,8 +26,8 @@ abbrev pub countOf : Written → ℕ
 countOf (written.Words n) = n
 countOf (written.Refused r) = 0
 
-abbrev pub finished : Written → (out : List ℕ) → Outcome
-finished r out = writtenOutcome r (padded (take (countOf r) out) (length out))
+abbrev pub restZeroed : Written → (out : List ℕ) → Outcome
+restZeroed r out = writtenOutcome r (padded (take (countOf r) out) (length out))
 
 -- "Both hand back the number with 0."
 abbrev pub countedReply : Counted → Reply

@@ -17,7 +17,7 @@ use Rattle.semantics.proofs.Basics.{cond-true, cond-false}
 use Rattle.semantics.proofs.Calls.{needs-met, needs-short}
 use Rattle.answers.specs.declared.Written.{Written}
 use Rattle.answers.specs.declared.Written.the-variants.{Words, Refused}
-use Rattle.answers.specs.Replies.{finished}
+use Rattle.answers.specs.Replies.{restZeroed}
 use Rattle.block_reader.specs.Replies.{wordsOutcome}
 use Rattle.slices.proofs.Laws.{put-next}
 use Rattle.answers.proofs.Outcomes.{refused-outcome, words-outcome}
@@ -93,7 +93,7 @@ module _ {bs o o₀ : List ℕ} {n k : ℕ} (r : BlocksRead bs o o₀ n k) where
     left = omega arith
 
     pub block-bad : false ≡ blockGood (k + 1) (drop (512 * k) bs)
-        → finished (Refused (record { number = 2; place = k })) o ≡ wordsOutcome (length o₀) (readBlocks n 0 bs)
+        → restZeroed (Refused (record { number = 2; place = k })) o ≡ wordsOutcome (length o₀) (readBlocks n 0 bs)
     unfolding readBlocks andThen
     block-bad g =
         let e : readBlocks (n - k) k (drop (512 * k) bs) ≡ refused 2 k =
@@ -125,7 +125,7 @@ module _ {bs o o₀ : List ℕ} {n k : ℕ} (r : BlocksRead bs o o₀ n k) where
               ∙ ap (following (length o₀) (take (127 * k) o)) (sym e) ∙ r .follow;
         }
 
-  pub blocks-all : n ≤ k → 127 * n ≤ length o₀ → finished (Words (127 * n)) o ≡ wordsOutcome (length o₀) (readBlocks n 0 bs)
+  pub blocks-all : n ≤ k → 127 * n ≤ length o₀ → restZeroed (Words (127 * n)) o ≡ wordsOutcome (length o₀) (readBlocks n 0 bs)
   unfolding readBlocks andThen
   blocks-all h l =
       let e : k ≡ n = omega arith in
@@ -149,20 +149,20 @@ module _ (bs o : List ℕ) {lent : ℕ} (l : length o ≡ lent) where
   abbrev reads : Answer Result
   reads = andThen (readBlocks (length bs / 512) 0 bs) (λ (ws : List ℕ). result (ws ∷ []) [])
 
-  pub length-bad : true ≡ badLength (length bs) → finished (Refused (record { number = 1; place = 0 })) o ≡ readerCall bs lent
+  pub length-bad : true ≡ badLength (length bs) → restZeroed (Refused (record { number = 1; place = 0 })) o ≡ readerCall bs lent
   unfolding readerCall
   length-bad b = refused-outcome o l _ ∙ ap (outcome [] (lent ∷ [])) (sym (cond-true (badLength (length bs)) _ _ (sym b)))
 
   module _ (b : false ≡ badLength (length bs)) where
     pub output-short : lent < 127 * (length bs / 512)
-        → finished (Refused (record { number = 15; place = 127 * (length bs / 512) })) o ≡ readerCall bs lent
+        → restZeroed (Refused (record { number = 15; place = 127 * (length bs / 512) })) o ≡ readerCall bs lent
     unfolding readerCall
     output-short h =
         refused-outcome o l _
         ∙ ap (outcome [] (lent ∷ [])) (needs-short 15 _ lent reads h ∙ sym (cond-false (badLength (length bs)) _ _ (sym b)))
 
-    pub blocks-read : (r : Written) → 127 * (length bs / 512) ≤ lent → finished r o ≡ wordsOutcome lent (readBlocks (length bs / 512) 0 bs)
-        → finished r o ≡ readerCall bs lent
+    pub blocks-read : (r : Written) → 127 * (length bs / 512) ≤ lent → restZeroed r o ≡ wordsOutcome lent (readBlocks (length bs / 512) 0 bs)
+        → restZeroed r o ≡ readerCall bs lent
     unfolding readerCall
     blocks-read r h e =
         e ∙ ap (outcome [] (lent ∷ [])) (sym (needs-met 15 _ lent reads h) ∙ sym (cond-false (badLength (length bs)) _ _ (sym b)))

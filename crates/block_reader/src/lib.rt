@@ -5,7 +5,7 @@ ghost use Prim.Native.Nat.{_+_, _*_, _≤_};
 ghost use lib.ListN.{length, take, drop};
 ghost use Rattle.semantics.specs.Block.{wordsOf, badLength, readBlocks};
 ghost use Rattle.semantics.specs.Call.{readerCall};
-ghost use Rattle.answers.specs.Replies.{writtenOutcome, finished};
+ghost use Rattle.answers.specs.Replies.{writtenOutcome, restZeroed};
 ghost use Rattle.block_reader.specs.Replies.{wordsOutcome};
 use answers::Refusal;
 use answers::Written;
@@ -38,7 +38,7 @@ fn read_block(bytes: &[u8], at: usize, out: &mut [u32], to: usize)
 // The words of the blocks, as long as each has its check word.
 fn read_each(bytes: &[u8], blocks: usize, out: &mut [u32]) -> Written
     requires { ⌜ (blocks ≤ 710) × (512 * blocks ≤ length (now bytes)) × (127 * blocks ≤ length (now out)) ⌝ }
-    ensures { λ r. ⌜ finished r (now (out .exit)) ≡ wordsOutcome (length (now (out .entry))) (readBlocks blocks 0 (now (bytes .entry))) ⌝ }
+    ensures { λ r. ⌜ restZeroed r (now (out .exit)) ≡ wordsOutcome (length (now (out .entry))) (readBlocks blocks 0 (now (bytes .entry))) ⌝ }
 {
     let mut k: usize = 0;
     while k < blocks {
@@ -57,7 +57,7 @@ fn read_each(bytes: &[u8], blocks: usize, out: &mut [u32]) -> Written
 
 // The words of the blocks go to the front of the output.
 fn read_all(bytes: &[u8], out: &mut [u32]) -> Written
-    ensures { λ r. ⌜ finished r (now (out .exit)) ≡ readerCall (now (bytes .entry)) (length (now (out .entry))) ⌝ }
+    ensures { λ r. ⌜ restZeroed r (now (out .exit)) ≡ readerCall (now (bytes .entry)) (length (now (out .entry))) ⌝ }
 {
     if bad_length(bytes.len()) {
         return Written::Refused(Refusal {

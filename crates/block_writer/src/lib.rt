@@ -6,7 +6,7 @@ ghost use lib.ListN.{length, getD, take, drop};
 ghost use Rattle.semantics.specs.Check.{primeOf};
 ghost use Rattle.semantics.specs.Block.{wordsOf, wordBytes, firstWords, blockBytes, writeBlocks};
 ghost use Rattle.semantics.specs.Call.{writerCall};
-ghost use Rattle.answers.specs.Replies.{writtenOutcome, finished};
+ghost use Rattle.answers.specs.Replies.{writtenOutcome, restZeroed};
 use answers::Refusal;
 use answers::Written;
 use block::words;
@@ -72,7 +72,7 @@ fn write_each(s: &[u32], blocks: usize, out: &mut [u8])
 
 // The blocks of a sheet go to the front of the output.
 fn write_all(s: &[u32], out: &mut [u8]) -> Written
-    ensures { λ r. ⌜ finished r (now (out .exit)) ≡ writerCall (primeOf (now (s .entry))) (now (s .entry)) (length (now (out .entry))) ⌝ }
+    ensures { λ r. ⌜ restZeroed r (now (out .exit)) ≡ writerCall (primeOf (now (s .entry))) (now (s .entry)) (length (now (out .entry))) ⌝ }
 {
     let checked = sheet::check_sheet(s);
     let Checked::Sheet(head) = checked else {

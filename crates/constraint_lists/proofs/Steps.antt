@@ -21,14 +21,14 @@ use Rattle.records.specs.Access.{recordsOf}
 use Rattle.answers.specs.declared.Refusal.{Refusal}
 use Rattle.expand.specs.declared.Expanded.{Expanded}
 use Rattle.expand.specs.declared.Expanded.the-variants as expanded
-use Rattle.expand.specs.Walking.{Holds, Expands}
+use Rattle.expand.specs.Walking.{PoolHolds, Expands}
 use Rattle.grouping.specs.declared.Grouped.{Grouped}
 use Rattle.grouping.specs.declared.Lengths.{Lengths}
 use Rattle.grouping.specs.declared.Grouped.the-variants as grouped
 use Rattle.constraint_lists.specs.declared.ConstraintLists.{ConstraintLists}
 use Rattle.constraint_lists.specs.declared.ConstraintLists.the-variants.{Refused}
 use Rattle.grouping.specs.Families.{groupsOf, Front, Laid}
-use Rattle.constraint_lists.specs.Lists.{expansionOf, constraintAnswer, constraintsIn, constraintsOf, refusalOf, ShortFew, Fit, Inside}
+use Rattle.constraint_lists.specs.Lists.{expansionOf, constraintAnswer, constraintsIn, constraintsOf, expandedRefusal, ShortFew, Fit, ListsFit}
 
 -- There are three slices.
 first-bound : (k : ℕ) (ws : List (List ℕ)) (ns : List ℕ) → firstShort (suc k) ws ns ≤ k + length ws
@@ -118,7 +118,7 @@ module _ (gs : List Group) (h v t : List ℕ) where
       ∙ fits (layout constraintTerm gs) (length h ∷ length v ∷ length t ∷ []) [] z
   laid-constraints (grouped.Short k) (e, n) = short (layout constraintTerm gs) (length h ∷ length v ∷ length t ∷ []) [] k e n
 
-  pub laid-inside : (g : Grouped) → Laid constraintTerm gs h v t g → Inside (constraintsIn g) h v t
+  pub laid-inside : (g : Grouped) → Laid constraintTerm gs h v t g → ListsFit (constraintsIn g) h v t
   laid-inside (grouped.Written c) l = written-inside constraintTerm gs h v t c l
   laid-inside (grouped.Short k) l = tt
 
@@ -148,18 +148,18 @@ module _ (ws : List ℕ) (work pool : ℕ) {h v t : List ℕ} {lh lv lt : ℕ} (
 
   module _ (enough : 4096 ≤ work) (room : 2 * length (s .records) ≤ pool) where
     pub constraints-refused : (w : Expanded) (q v₁ : Refusal) (pool′ : List ℕ) → length pool′ ≡ pool → Expands ws pool′ w reached
-        → w ≡ expanded.Refused v₁ → q ≡ refusalOf w → constraintAnswer (Refused q) h v t ≡ call
+        → w ≡ expanded.Refused v₁ → q ≡ expandedRefusal w → constraintAnswer (Refused q) h v t ≡ call
     constraints-refused w q v₁ pool′ e f g r =
         let x : expandAll prime (recordsOf ws) (length pool′) reached ≡ refused (v₁ .number) (v₁ .place) =
         subst (λ (u : Expanded). Expands ws pool′ u reached) g f in
-        let y : q ≡ v₁ = r ∙ ap refusalOf g in
+        let y : q ≡ v₁ = r ∙ ap expandedRefusal g in
         (λ i. refused (y i .number) (y i .place))
         ∙ walk-refused work pool (lh ∷ lv ∷ lt ∷ []) constraintRoots (constraintOutputs prime) (λ x. []) s enough room (v₁ .number) (v₁ .place)
         (sym walks ∙ subst (λ (n : ℕ). expandAll prime (recordsOf ws) n reached ≡ refused (v₁ .number) (v₁ .place)) e x)
 
-    pub constraints-grouped : (used : ℕ) (pool′ : List ℕ) → length pool′ ≡ pool → Holds ws reached pool′ used
+    pub constraints-grouped : (used : ℕ) (pool′ : List ℕ) → length pool′ ≡ pool → PoolHolds ws reached pool′ used
         → (g : Grouped) → Laid constraintTerm (groupsOf ws (constraintRoots s)) h v t g → (r : ConstraintLists) → r ≡ constraintsIn g
-        → (constraintAnswer r h v t ≡ call) × Inside r h v t
+        → (constraintAnswer r h v t ≡ call) × ListsFit r h v t
     unfolding constraintOutputs family
     constraints-grouped used pool′ e holds g l r q =
         let x : expandAll prime (recordsOf ws) pool reached ≡ good used =
@@ -168,5 +168,5 @@ module _ (ws : List ℕ) (work pool : ℕ) {h v t : List ℕ} {lh lv lt : ℕ} (
               ∙ laid-constraints (groupsOf ws (constraintRoots s)) h v t g l
               ∙ (λ i. fitted (constraintOutputs prime s) (kept .headers-long i ∷ kept .variables-long i ∷ kept .terms-long i ∷ []) [])
               ∙ walk-done work pool (lh ∷ lv ∷ lt ∷ []) constraintRoots (constraintOutputs prime) (λ x. []) s enough room used (sym walks ∙ x),
-          subst (λ (a : ConstraintLists). Inside a h v t) (sym q) (laid-inside (groupsOf ws (constraintRoots s)) h v t g l),
+          subst (λ (a : ConstraintLists). ListsFit a h v t) (sym q) (laid-inside (groupsOf ws (constraintRoots s)) h v t g l),
         )

@@ -36,9 +36,9 @@ constraintAnswer (Refused r) headers variables terms = refused (r .number) (r .p
 abbrev pub Fit : Lengths → (headers variables terms : List ℕ) → Type 0
 Fit n headers variables terms = (n .headers ≤ length headers) × (n .variables ≤ length variables) × (n .terms ≤ length terms)
 
-abbrev pub Inside : ConstraintLists → (headers variables terms : List ℕ) → Type 0
-Inside (Written n) headers variables terms = Fit n headers variables terms
-Inside (Refused r) headers variables terms = Unit {0}
+abbrev pub ListsFit : ConstraintLists → (headers variables terms : List ℕ) → Type 0
+ListsFit (Written n) headers variables terms = Fit n headers variables terms
+ListsFit (Refused r) headers variables terms = Unit {0}
 
 -- An expansion of a sheet that was checked.
 abbrev pub expansionOf : (work pool : ℕ) (lent : List ℕ) → (roots : Sheet → List Root) (outputs : Sheet → List (List ℕ)) (numbers : Sheet → List ℕ) → Sheet → Answer Result
@@ -52,9 +52,9 @@ constraintsOf work pool headers variables terms =
     expansionOf work pool (headers ∷ variables ∷ terms ∷ []) constraintRoots (constraintOutputs prime) (λ s. [])
 
 -- The refusal of a walk that refused; and 17 for a slice that is too short.
-abbrev pub refusalOf : Expanded → Refusal
-refusalOf (expanded.Refused r) = r
-refusalOf (expanded.Used u) = record { number = 0; place = 0 }
+abbrev pub expandedRefusal : Expanded → Refusal
+expandedRefusal (expanded.Refused r) = r
+expandedRefusal (expanded.Used u) = record { number = 0; place = 0 }
 
 abbrev pub tooShort : ℕ → Refusal
 tooShort k = record { number = 17; place = k }

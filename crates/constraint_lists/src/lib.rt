@@ -6,7 +6,7 @@ ghost use Rattle.semantics.specs.Check.{readSheet};
 ghost use Rattle.semantics.specs.Walk.{order};
 ghost use Rattle.records.specs.Access.{recordsOf};
 ghost use Rattle.expand.specs.Walking.{Expands};
-ghost use Rattle.constraint_lists.specs.Lists.{refusalOf, shortOf, ShortFew, constraintsIn, constraintAnswer, constraintsOf, Inside, CheckedSheet};
+ghost use Rattle.constraint_lists.specs.Lists.{expandedRefusal, shortOf, ShortFew, constraintsIn, constraintAnswer, constraintsOf, ListsFit, CheckedSheet};
 use answers::Refusal;
 use expand::Expanded;
 use grouping::Grouped;
@@ -19,7 +19,7 @@ pub enum ConstraintLists {
 
 // The refusal of a walk that refused.
 pub fn refusal_of(walked: Expanded) -> Refusal
-    ensures { λ r. ⌜ r ≡ refusalOf walked ⌝ }
+    ensures { λ r. ⌜ r ≡ expandedRefusal walked ⌝ }
 {
     match walked {
         Expanded::Refused(r) => r,
@@ -74,7 +74,7 @@ fn walk_constraints(
     let heads = 2 * records;
     slices::zero_all(&mut pool[..heads]);
     let at = records::constraints_at(s);
-    expand::expand_names(s, at, constraints, work, pool, heads)
+    expand::expand_references(s, at, constraints, work, pool, heads)
 }
 
 // The lists of a checked sheet's constraints.
@@ -92,7 +92,7 @@ pub fn expand_checked(
     ensures { λ r. ⌜ (constraintAnswer r (now (headers .exit)) (now (variables .exit)) (now (terms .exit))
         ≡ constraintsOf (length (now (work .entry))) (length (now (pool .entry)))
         (length (now (headers .entry))) (length (now (variables .entry))) (length (now (terms .entry))) (readSheet (now (s .entry))))
-        × Inside r (now (headers .exit)) (now (variables .exit)) (now (terms .exit)) ⌝ }
+        × ListsFit r (now (headers .exit)) (now (variables .exit)) (now (terms .exit)) ⌝ }
 {
     if work.len() < 4096 {
         return ConstraintLists::Refused(Refusal {

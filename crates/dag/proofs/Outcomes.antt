@@ -18,7 +18,7 @@ use Rattle.answers.specs.declared.Refusal.{Refusal}
 use Rattle.sheet.specs.declared.Checked.{Checked}
 use Rattle.sheet.specs.declared.Checked.the-variants as checked
 use Rattle.answers.specs.declared.Written.the-variants.{Words, Refused}
-use Rattle.sheet.specs.Replies.{checkedOutcome, refusalOf}
+use Rattle.sheet.specs.Replies.{checkedOutcome, checkedRefusal}
 use Rattle.sheet.proofs.Answers.{on-found, on-refused}
 use Rattle.records.proofs.Reading.{read-found}
 use Rattle.graph_lists.specs.Lists.{graphOut, graphLength}
@@ -50,11 +50,11 @@ module _ (ws : List ℕ) (lent n : ℕ) where
   unfolding outcome
   refused-outcome v = refl
 
-  pub call-refused : {r : Checked} {v u : Refusal} → checkedOutcome r ≡ checkCall prime ws → r ≡ checked.Refused v → u ≡ refusalOf r
+  pub call-refused : {r : Checked} {v u : Refusal} → checkedOutcome r ≡ checkCall prime ws → r ≡ checked.Refused v → u ≡ checkedRefusal r
       → builtOutcome (Refused u) (zeros lent) (zeros n) ≡ builderCall prime ws lent n
   unfolding builderCall
   call-refused {v} e q f =
-      ap (λ (x : Refusal). builtOutcome (Refused x) (zeros lent) (zeros n)) (f ∙ ap refusalOf q)
+      ap (λ (x : Refusal). builtOutcome (Refused x) (zeros lent) (zeros n)) (f ∙ ap checkedRefusal q)
       ∙ refused-outcome v ∙ ap (outcome (lent ∷ []) (n ∷ [])) (on-refused prime ws rest e q)
 
 -- A checked sheet, with scratch and output of zeros.

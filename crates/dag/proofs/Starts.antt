@@ -11,12 +11,12 @@ use Rattle.semantics.specs.Graph.{build, graphRoots}
 use Rattle.semantics.specs.Call.{zeros, padded}
 use Rattle.semantics.proofs.Places.{place-head}
 use Rattle.semantics.proofs.Encoding.{sheet-length}
-use Rattle.records.specs.Access.{recordsOf, constraintsAt, interactionsAt, part, rootWords, NamesInside, AllRootsInside}
-use Rattle.records.proofs.Rooting.{order-none, names-below}
+use Rattle.records.specs.Access.{recordsOf, constraintsAt, interactionsAt, wordsFrom, rootWords, ReferencesInside, AllRootsInside}
+use Rattle.records.proofs.Rooting.{order-none, references-below}
 use Rattle.records.proofs.Reading.{constraints-are, constraints-inside, interactions-stand, interactions-inside, roots-are}
-use Rattle.nodes.specs.Memory.{tabulate, mark, nodesOut, builtOf, Holds}
-use Rattle.graph_lists.specs.Lists.{Finishing}
-use Rattle.graph_walk.specs.Walking.{Walking, Walks}
+use Rattle.nodes.specs.Memory.{tabulate, mark, nodesOut, builtOf, GraphHolds}
+use Rattle.graph_lists.specs.Lists.{ToWriteLists}
+use Rattle.graph_walk.specs.Walking.{AddWalking, Walks}
 use Rattle.graph_walk.proofs.Rooting.{walking-after, walks-both}
 use Rattle.dag.specs.Calls.{Starting}
 
@@ -42,7 +42,7 @@ module _ {ws scratch out : List ℕ} (b : Starting ws scratch out) where
   unfolding lengthOf
   room = omega (arith, sheet-length s, b .room)
 
-  holds-none : Holds ws [] scratch out 0
+  holds-none : GraphHolds ws [] scratch out 0
   unfolding mark member builtOf build nodesOut padded zeros flatMap
   holds-none = record {
     scratch-is = b .scratch-is ∙ table-zeros 0 E (mark [] (builtOf ws [])) (λ i. refl);
@@ -52,19 +52,19 @@ module _ {ws scratch out : List ℕ} (b : Starting ws scratch out) where
     count-is = refl;
   }
 
-  pub start-walking : Walking ws scratch out 0
+  pub start-walking : AddWalking ws scratch out 0
   start-walking = record { checked = b .checked; room = room; done = []; order = order-none ws; holds = holds-none }
 
   -- The records that the constraints and the interactions name.
   module _ {at count ints : ℕ} (n : Counted ws at count ints) where
-    pub names-inside : NamesInside ws at count
-    names-inside =
-        subst (λ (a : ℕ). NamesInside ws a count) (sym (n .located))
-        (subst (NamesInside ws (constraintsAt ws)) (sym (n .constraints)) (constraints-inside ws (b .checked)))
+    pub references-inside : ReferencesInside ws at count
+    references-inside =
+        subst (λ (a : ℕ). ReferencesInside ws a count) (sym (n .located))
+        (subst (ReferencesInside ws (constraintsAt ws)) (sym (n .constraints)) (constraints-inside ws (b .checked)))
 
     -- When the constraints are added.
-    pub walking-next : (s₁ o₁ : List ℕ) (n₁ : ℕ) → length o₁ ≡ length out → Walks ws (part at count ws) scratch out 0 s₁ o₁ n₁ → Walking ws s₁ o₁ n₁
-    walking-next s₁ o₁ n₁ = walking-after ws (part at count ws) (names-below ws at count names-inside) scratch out 0 s₁ o₁ n₁ start-walking
+    pub walking-next : (s₁ o₁ : List ℕ) (n₁ : ℕ) → length o₁ ≡ length out → Walks ws (wordsFrom at count ws) scratch out 0 s₁ o₁ n₁ → AddWalking ws s₁ o₁ n₁
+    walking-next s₁ o₁ n₁ = walking-after ws (wordsFrom at count ws) (references-below ws at count references-inside) scratch out 0 s₁ o₁ n₁ start-walking
 
     -- The interactions stand behind the constraints.
     behind : at + count ≡ interactionsAt ws
@@ -75,24 +75,24 @@ module _ {ws scratch out : List ℕ} (b : Starting ws scratch out) where
         subst (λ (a : ℕ). AllRootsInside E ws a ints) (sym behind)
         (subst (AllRootsInside E ws (interactionsAt ws)) (sym (n .interactions)) (interactions-inside ws (b .checked)))
 
-    roots-all : part at count ws ++ rootWords ws (at + count) ints ≡ graphRoots s
+    roots-all : wordsFrom at count ws ++ rootWords ws (at + count) ints ≡ graphRoots s
     unfolding graphRoots
     roots-all =
         let stands = interactions-stand ws (b .checked) in
-        (λ i. part (n .located i) (n .constraints i) ws ++ rootWords ws (behind i) (n .interactions i))
+        (λ i. wordsFrom (n .located i) (n .constraints i) ws ++ rootWords ws (behind i) (n .interactions i))
         ∙ (λ i. constraints-are ws (b .checked) i ++ roots-are (stands .0) ws (interactionsAt ws) (s .interactions) (stands .1) i)
 
     -- When all are.
-    pub finishing : (s₁ o₁ : List ℕ) (n₁ : ℕ) (s₂ o₂ : List ℕ) (n₂ : ℕ) → Walks ws (part at count ws) scratch out 0 s₁ o₁ n₁
-        → Walks ws (rootWords ws (at + count) ints) s₁ o₁ n₁ s₂ o₂ n₂ → length o₂ ≡ length out → Finishing ws s₂ o₂ n₂
+    pub finishing : (s₁ o₁ : List ℕ) (n₁ : ℕ) (s₂ o₂ : List ℕ) (n₂ : ℕ) → Walks ws (wordsFrom at count ws) scratch out 0 s₁ o₁ n₁
+        → Walks ws (rootWords ws (at + count) ints) s₁ o₁ n₁ s₂ o₂ n₂ → length o₂ ≡ length out → ToWriteLists ws s₂ o₂ n₂
     unfolding order
     finishing s₁ o₁ n₁ s₂ o₂ n₂ v w k =
-        let all = walks-both ws start-walking (part at count ws) (rootWords ws (at + count) ints) (names-below ws at count names-inside)
+        let all = walks-both ws start-walking (wordsFrom at count ws) (rootWords ws (at + count) ints) (references-below ws at count references-inside)
         s₁ o₁ n₁ s₂ o₂ n₂ v w in
         record {
           checked = b .checked;
           room = omega (arith, b .room);
           holds =
-              subst (λ (r : List ℕ). Holds ws (foldLeft (visit (childrenAt (recordsOf ws)) E) [] r) s₂ o₂ n₂) roots-all
+              subst (λ (r : List ℕ). GraphHolds ws (foldLeft (visit (childrenAt (recordsOf ws)) E) [] r) s₂ o₂ n₂) roots-all
               (all [] (order-none ws) holds-none);
         }

@@ -12,7 +12,7 @@ pub fn build_graph(sheet: &[u32], scratch: &mut [u32], out: &mut [u32]) -> usize
     let at = records::constraints_at(sheet);
     let constraints = records::num_constraints(sheet);
     let interactions = records::num_interactions(sheet);
-    let named = graph_walk::add_names(sheet, at, constraints, scratch, out, 0);
+    let named = graph_walk::add_references(sheet, at, constraints, scratch, out, 0);
     let n = graph_walk::add_interactions(
         sheet,
         at + constraints,

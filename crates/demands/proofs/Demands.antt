@@ -11,7 +11,7 @@ use Rattle.answers.specs.declared.Written.{Written}
 use Rattle.answers.specs.declared.Written.the-variants.{Words, Refused}
 use Rattle.answers.specs.Replies.{countOf}
 use Rattle.dag.specs.Calls.{builtOutcome}
-use Rattle.demands.specs.Demand.{Built, ConstraintsExpanded, InteractionsExpanded, Demand}
+use Rattle.demands.specs.Demand.{GraphBuilt, ConstraintsExpanded, InteractionsExpanded, CallsDemand}
 
 -- An answer's number is that of the definition's reply.
 number-is : {o o′ : Outcome} → o ≡ o′ → Accepted o → Accepted o′
@@ -24,7 +24,7 @@ words-back (Words n) scratch out = refl
 words-back (Refused v) scratch out = refl
 
 pub build-demand : (ws : List ℕ) (scratch-lent out-lent : ℕ) (r : Written) (scratch out : List ℕ)
-    → builtOutcome r scratch out ≡ builderCall prime ws scratch-lent out-lent → Built ws r out
+    → builtOutcome r scratch out ≡ builderCall prime ws scratch-lent out-lent → GraphBuilt ws r out
 build-demand ws scratch-lent out-lent r scratch out e a =
     let g = demand-prime .graph ws scratch-lent out-lent (number-is e a) in
     (g .0, g .1, subst (GraphRule prime (g .0)) (ap (λ (x : Outcome). handedBack 1 x 0) (sym e) ∙ words-back r scratch out) (g .2))
@@ -54,7 +54,7 @@ interactions-demand ws work pool h v t h₂ v₂ t₂ o e = record {
       (demand-prime .graphInteractions source (w .scratch) (w .out) s (w .accepted) (w .sheet) work pool h v t h₂ v₂ t₂ (number-is (sym f) a));
 }
 
-pub demand : Demand
+pub demand : CallsDemand
 demand = record {
   build = build-demand;
   constraints = λ ws work pool h v t r work′ pool′ h′ v′ t′. constraints-demand ws work pool h v t _;

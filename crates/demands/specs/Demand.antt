@@ -18,8 +18,8 @@ use Rattle.expansion.specs.Answers.{constraintOutcome, interactionOutcome}
 
 -- Where the builder's number is 0, the words given are a sheet, and as many words of the output as it counts are its graph, which keeps
 -- every value and has no more nodes than records reached.
-abbrev pub Built : (ws : List ℕ) → Written → (out : List ℕ) → Type 0
-Built ws r out = writtenReply r .number ≡ 0 → (s : Sheet) × (check (primeOf ws) ws ≡ good s) × GraphRule (primeOf ws) s (take (countOf r) out)
+abbrev pub GraphBuilt : (ws : List ℕ) → Written → (out : List ℕ) → Type 0
+GraphBuilt ws r out = writtenReply r .number ≡ 0 → (s : Sheet) × (check (primeOf ws) ws ≡ good s) × GraphRule (primeOf ws) s (take (countOf r) out)
 
 -- Words that the builder hands back for a source, which is the sheet s.
 pub record GraphWords (source : List ℕ) (s : Sheet) (ws : List ℕ) : Type 0 where
@@ -42,9 +42,9 @@ pub record InteractionsExpanded (ws : List ℕ) (o : Outcome) : Type 0 where
   pub source : Accepted o → (source : List ℕ) (s : Sheet) → GraphWords source s ws → GraphInteractionRule (primeOf source) s o
 
 -- For any words and any lent lengths, from what the contracts of the three calls promise of an answer r and of the slices.
-pub record Demand : Type 0 where
+pub record CallsDemand : Type 0 where
   pub build : (ws : List ℕ) (scratch-lent out-lent : ℕ) (r : Written) (scratch out : List ℕ)
-      → builtOutcome r scratch out ≡ builderCall (primeOf ws) ws scratch-lent out-lent → Built ws r out
+      → builtOutcome r scratch out ≡ builderCall (primeOf ws) ws scratch-lent out-lent → GraphBuilt ws r out
   pub constraints : (ws : List ℕ) (work pool h v t : ℕ) (r : ConstraintLists) (work′ pool′ h′ v′ t′ : List ℕ)
       → constraintOutcome r work′ pool′ h′ v′ t′ ≡ constraintCall (primeOf ws) ws work pool h v t
       → ConstraintsExpanded ws (constraintOutcome r work′ pool′ h′ v′ t′)

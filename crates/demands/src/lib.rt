@@ -5,7 +5,7 @@ ghost use Rattle.semantics.specs.Check.{primeOf};
 ghost use Rattle.semantics.specs.Call.{builderCall, constraintCall, interactionCall};
 ghost use Rattle.dag.specs.Calls.{builtOutcome};
 ghost use Rattle.expansion.specs.Answers.{constraintOutcome, interactionOutcome};
-ghost use Rattle.demands.specs.Demand.{Built, ConstraintsExpanded, InteractionsExpanded};
+ghost use Rattle.demands.specs.Demand.{GraphBuilt, ConstraintsExpanded, InteractionsExpanded};
 use answers::Written;
 use constraint_lists::ConstraintLists;
 use interaction_lists::InteractionLists;
@@ -13,7 +13,7 @@ use interaction_lists::InteractionLists;
 pub fn build(s: &[u32], scratch: &mut [u32], out: &mut [u32]) -> Written
     ensures outcome { λ r. ⌜ builtOutcome r (now (scratch .exit)) (now (out .exit))
         ≡ builderCall (primeOf (now (s .entry))) (now (s .entry)) (length (now (scratch .entry))) (length (now (out .entry))) ⌝ }
-    ensures demand { λ r. ⌜ Built (now (s .entry)) r (now (out .exit)) ⌝ }
+    ensures demand { λ r. ⌜ GraphBuilt (now (s .entry)) r (now (out .exit)) ⌝ }
 {
     let built = dag::build(s, scratch, out);
     built

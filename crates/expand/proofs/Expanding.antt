@@ -19,11 +19,11 @@ use Rattle.records.proofs.Visited as visited
 use Rattle.records.proofs.Visited.{Visits, Finishes, children-new, all-there}
 use Rattle.expand.specs.declared.Expanded.{Expanded}
 use Rattle.expand.specs.declared.Expanded.the-variants.{Used, Refused}
-use Rattle.expand.specs.Walking.{Holds, Expands, Walking, Ready, Finishing}
+use Rattle.expand.specs.Walking.{PoolHolds, Expands, ExpandWalking, ExpandReady, Finishing}
 use Rattle.expand.proofs.Far.{Roots, refused-stays, Far, far-none, far-walking, far-both, far-more}
 
 -- A record's start in the pool is 0 exactly while it is not expanded.
-module _ (ws done pool : List ℕ) (used : ℕ) (h : Holds ws done pool used) (r : ℕ) (l : r < length (recordsOf ws)) where
+module _ (ws done pool : List ℕ) (used : ℕ) (h : PoolHolds ws done pool used) (r : ℕ) (l : r < length (recordsOf ws)) where
   pub fresh : getD pool (2 * r) 0 ≡ 0 → member r done ≡ false
   fresh e = go (member r done) refl
     where
@@ -45,17 +45,17 @@ Visit ws pool used x pool′ u = Visits ws x (Expands ws pool (Used used)) (Expa
 abbrev pub Finish : (ws pool : List ℕ) (used r : ℕ) (pool′ : List ℕ) → Expanded → Type 0
 Finish ws pool used r pool′ u = Finishes ws r (Expands ws pool (Used used)) (Expands ws pool′ u)
 
-pub visits-seen : {ws : List ℕ} {r : ℕ} {work pool : List ℕ} {used : ℕ} → Ready ws r work pool used → (getD pool (2 * r) 0 ≡ 0 → ⊥) → Visit ws pool used r pool (Used used)
+pub visits-seen : {ws : List ℕ} {r : ℕ} {work pool : List ℕ} {used : ℕ} → ExpandReady ws r work pool used → (getD pool (2 * r) 0 ≡ 0 → ⊥) → Visit ws pool used r pool (Used used)
 visits-seen {ws} {r} {work} {pool} {used} p n =
     visited.visits-seen ws (p .walking .checked) r (p .inside) (Expands ws pool (Used used)) (λ done h. expanded ws done pool used h r (p .inside) n)
 
 -- A record that is not expanded yet.
 pub record Fresh (ws : List ℕ) (r : ℕ) (work pool : List ℕ) (used : ℕ) : Type 0 where
-  pub ready : Ready ws r work pool used
+  pub ready : ExpandReady ws r work pool used
   pub free : getD pool (2 * r) 0 ≡ 0
 
 module _ {ws : List ℕ} {r : ℕ} {work pool : List ℕ} {used : ℕ} (f : Fresh ws r work pool used) where
-  abbrev p : Walking ws work pool used
+  abbrev p : ExpandWalking ws work pool used
   p = f .ready .walking
 
   abbrev l : r < length (recordsOf ws)
@@ -105,7 +105,7 @@ module _ {ws : List ℕ} {r : ℕ} {work pool : List ℕ} {used : ℕ} (f : Fres
     pub left-low : x < r
     left-low = child-low ws (p .checked) r x left-in
 
-    pub ready-left : Ready ws x work pool used
+    pub ready-left : ExpandReady ws x work pool used
     ready-left = record { walking = p; inside = left-inside }
 
 -- Its left child x is expanded then, and u is the answer.
@@ -118,7 +118,7 @@ pub record Left (ws : List ℕ) (r : ℕ) (work pool : List ℕ) (used x : ℕ) 
   pub visits : Visit ws pool used x pool₁ u
 
 module _ {ws : List ℕ} {r : ℕ} {work pool : List ℕ} {used x : ℕ} {work₁ pool₁ : List ℕ} {u₁ : Expanded} (h₁ : Left ws r work pool used x work₁ pool₁ u₁) where
-  abbrev p₁ : Walking ws work pool used
+  abbrev p₁ : ExpandWalking ws work pool used
   p₁ = h₁ .fresh .ready .walking
 
   abbrev l₁ : r < length (recordsOf ws)
@@ -162,7 +162,7 @@ module _ {ws : List ℕ} {r : ℕ} {work pool : List ℕ} {used x : ℕ} {work�
       pub right-low : y < r
       right-low = child-low ws (p₁ .checked) r y right-in
 
-      pub ready-right : Ready ws y work₁ pool₁ one
+      pub ready-right : ExpandReady ws y work₁ pool₁ one
       ready-right = record { walking = far-walking ws work pool used p₁ (x ∷ []) work₁ pool₁ one far-left; inside = right-inside }
 
 -- And its right child y.
@@ -180,7 +180,7 @@ module _ {ws : List ℕ} {r : ℕ} {work pool : List ℕ} {used x : ℕ} {work�
   abbrev h₁ : Left ws r work pool used x work₁ pool₁ u₁
   h₁ = h₂ .left
 
-  abbrev p₂ : Walking ws work pool used
+  abbrev p₂ : ExpandWalking ws work pool used
   p₂ = h₁ .fresh .ready .walking
 
   inside-right : y < length (recordsOf ws)

@@ -14,7 +14,7 @@ use Rattle.records.proofs.Rooting.{order-walk, visiting-none, visiting-both}
 use Rattle.records.proofs.Visited.{Stays, visiting-stopped}
 use Rattle.expand.specs.declared.Expanded.{Expanded}
 use Rattle.expand.specs.declared.Expanded.the-variants.{Used, Refused}
-use Rattle.expand.specs.Walking.{Expands, Walking}
+use Rattle.expand.specs.Walking.{Expands, ExpandWalking}
 
 -- What some roots come to.
 abbrev pub Roots : (ws roots pool : List ℕ) (used : ℕ) (pool′ : List ℕ) → Expanded → Type 0
@@ -32,7 +32,7 @@ pub record Far (ws roots work₀ pool₀ : List ℕ) (used₀ : ℕ) (work pool 
   pub work-length : length work ≡ length work₀
   pub pool-length : length pool ≡ length pool₀
 
-module _ (ws work₀ pool₀ : List ℕ) (used₀ : ℕ) (p : Walking ws work₀ pool₀ used₀) where
+module _ (ws work₀ pool₀ : List ℕ) (used₀ : ℕ) (p : ExpandWalking ws work₀ pool₀ used₀) where
   pub far-none : Far ws [] work₀ pool₀ used₀ work₀ pool₀ used₀
   far-none = record {
     below = λ y i. not-in y i;
@@ -42,7 +42,7 @@ module _ (ws work₀ pool₀ : List ℕ) (used₀ : ℕ) (p : Walking ws work₀
   }
 
   module _ (roots work pool : List ℕ) (used : ℕ) (h : Far ws roots work₀ pool₀ used₀ work pool used) where
-    unfoldable pub far-walking : Walking ws work pool used
+    unfoldable pub far-walking : ExpandWalking ws work pool used
     far-walking = record {
       checked = p .checked;
       room = subst (λ (n : ℕ). 4096 ≤ n) (sym (h .work-length)) (p .room);

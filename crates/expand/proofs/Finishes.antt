@@ -23,9 +23,9 @@ use Rattle.records.specs.Access.{fiveWords, nodeIn, recordsOf}
 use Rattle.records.specs.Orders.{Order}
 use Rattle.records.proofs.Steps.{lows}
 use Rattle.records.proofs.Visits.{record-good, kind-limits, is, kind-is, a-is, b-is, has-a, has-b}
-use Rattle.monomial.specs.Words.{held, listIn, signed, ListFits, Stored}
+use Rattle.monomial.specs.Words.{held, listIn, negatedIf, ListFits, Stored}
 use Rattle.expand.specs.Making.{Makes}
-use Rattle.expand.specs.Walking.{Holds, Expands, refusedBy, Storing, Stores, Finishing}
+use Rattle.expand.specs.Walking.{PoolHolds, Expands, refusedBy, Storing, Stores, Finishing}
 use Rattle.expand.specs.declared.kinds.Made.{Made}
 use Rattle.expand.specs.declared.kinds.Made.the-variants.{Held, Fault}
 use Rattle.expand.specs.declared.kinds.PoolList.{PoolList}
@@ -221,12 +221,12 @@ module _ {ws : List ℕ} {r : ℕ} {work pool : List ℕ} {used : ℕ} {q : decl
       (λ i. products prime (left-list (h .left) i) (right-list i)) refl work′ u m
 
   pub finishes-sum : (q .kind ≡ 9 → ⊥) → (b : Bool) → b ≡ eqb (q .kind) 7 → (work′ : List ℕ) (u : Made)
-      → Makes work′ u (workFault (X (h .left) ++ signed b Y)) (combine prime (X (h .left) ++ signed b Y))
+      → Makes work′ u (workFault (X (h .left) ++ negatedIf b Y)) (combine prime (X (h .left) ++ negatedIf b Y))
       → Makes work′ u (recordFault prime (recordsOf ws) r) (listAt prime (recordsOf ws) r)
   unfolding working finished
   finishes-sum k₉ b eb work′ u m = go b (sym eb) m
     where
-      go : (s : Bool) → eqb (q .kind) 7 ≡ s → Makes work′ u (workFault (X (h .left) ++ signed s Y)) (combine prime (X (h .left) ++ signed s Y))
+      go : (s : Bool) → eqb (q .kind) 7 ≡ s → Makes work′ u (workFault (X (h .left) ++ negatedIf s Y)) (combine prime (X (h .left) ++ negatedIf s Y))
           → Makes work′ u (recordFault prime (recordsOf ws) r) (listAt prime (recordsOf ws) r)
       go true z m′ =
           let R = recordAt (recordsOf ws) r in
@@ -238,7 +238,7 @@ module _ {ws : List ℕ} {r : ℕ} {work pool : List ℕ} {used : ℕ} {q : decl
           made-as (add (R .a) (R .b)) (add-node R six) (X (h .left) ++ Y) (λ i. left-list (h .left) i ++ right-list i) refl work′ u m′
 
 -- A record whose list was not made.
-pub finish-refused : {ws done pool : List ℕ} {used : ℕ} → Holds ws done pool used → (r : ℕ)
+pub finish-refused : {ws done pool : List ℕ} {used : ℕ} → PoolHolds ws done pool used → (r : ℕ)
     → (work : List ℕ) (u : Made) → Makes work u (recordFault prime (recordsOf ws) r) (listAt prime (recordsOf ws) r)
     → {f : ℕ} → u ≡ Fault f → {a : Expanded} → a ≡ refusedBy u r → Expands ws pool a (r ∷ done)
 finish-refused {ws} {done} {pool} {used} h r work u m {f} e ea =
@@ -260,6 +260,6 @@ module _ {ws : List ℕ} {r : ℕ} {work pool : List ℕ} {used : ℕ} (p : Fini
       (subst (λ (k : ℕ). 4096 ≤ k) (sym lw) (w .room))
 
   pub finish-stored : (pool′ : List ℕ) → length pool′ ≡ length pool → (a : Expanded) → Stores pool pool′ r used (held n work′) a
-      → (done : List ℕ) → Order ws done → member r done ≡ false → Holds ws done pool used → Expands ws pool′ a (r ∷ done)
+      → (done : List ℕ) → Order ws done → member r done ≡ false → PoolHolds ws done pool used → Expands ws pool′ a (r ∷ done)
   finish-stored pool′ lp a s done o new h =
       stored ws done pool used h o r (p .ready .inside) new (p .ready .walking .checked) work′ n (made .1) (made .2) (made .3) (made .0) pool′ lp a s

@@ -26,7 +26,7 @@ use Rattle.answers.specs.declared.Refusal.{Refusal}
 use Rattle.packed_var.specs.Packed.{packedOutcome}
 use Rattle.packed_var.proofs.Answers.{packedAnswer, answer-is}
 use Rattle.monomial.specs.Words.{held, Fits}
-use Rattle.expand.specs.Making.{single, constant, faultOf, Makes}
+use Rattle.expand.specs.Making.{single, constantMonomial, faultOf, Makes}
 use Rattle.expand.specs.declared.kinds.Made.the-variants.{Held, Fault}
 use Rattle.monomial.proofs.Sizes.{held-zero}
 
@@ -75,7 +75,7 @@ unfolding recordList nodeOf finished working
 leaf-list r h f =
     rw (ne-eqb (r .kind) 5 (omega arith), ne-eqb (r .kind) 6 (omega arith), ne-eqb (r .kind) 7 (omega arith), ne-eqb (r .kind) 8 (omega arith), ne-eqb (r .kind) 9 (omega arith))
 
-constant-list : (r : Record) → r .kind ≡ 5 → (f : ℕ → List Monomial) → recordList prime r f ≡ constant (r .a) ∷ []
+constant-list : (r : Record) → r .kind ≡ 5 → (f : ℕ → List Monomial) → recordList prime r f ≡ constantMonomial (r .a) ∷ []
 unfolding recordList nodeOf finished working
 constant-list r e f = rw e
 
@@ -111,12 +111,12 @@ module _ (own : ℕ) (r : Record) (ok : GoodRecord prime own r) where
 
   -- What `expand_leaf` hands back.
   module _ (work work₁ : List ℕ) (f : ℕ → List Monomial) where
-    pub constant-made : r .kind ≡ 5 → (m : Monomial) → m ≡ constant (r .a) → held (0 + 1) work₁ ≡ held 0 work ++ (m ∷ [])
+    pub constant-made : r .kind ≡ 5 → (m : Monomial) → m ≡ constantMonomial (r .a) → held (0 + 1) work₁ ≡ held 0 work ++ (m ∷ [])
         → Makes work₁ (Held 1) (packFault r) (recordList prime r f)
     unfolding packFault
     constant-made e m em h =
-        one-made work work₁ (constant (r .a)) (packFault r) (recordList prime r f) (h ∙ ap (λ (x : Monomial). held 0 work ++ (x ∷ [])) em) (rw e)
-        (constant-list r e f) (one-fits (constant (r .a)) (omega arith) tt (constant-small e))
+        one-made work work₁ (constantMonomial (r .a)) (packFault r) (recordList prime r f) (h ∙ ap (λ (x : Monomial). held 0 work ++ (x ∷ [])) em) (rw e)
+        (constant-list r e f) (one-fits (constantMonomial (r .a)) (omega arith) tt (constant-small e))
 
     module _ (low : r .kind ≤ 4) (u : Packed) (e : packedOutcome u ≡ packCall r) where
       said : Told (packFault r) (packed r) (packedAnswer u)

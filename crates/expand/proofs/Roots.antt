@@ -13,40 +13,40 @@ use Rattle.semantics.specs.Expand.{expandAll}
 use Rattle.semantics.proofs.Members.{not-in, cons-below}
 use Rattle.answers.specs.declared.Refusal.{Refusal}
 use Rattle.records.specs.declared.Interaction.{Interaction}
-use Rattle.records.specs.Access.{recordsOf, part, messageLength, interactionFrom, eachWords, NamesInside, RootsInside, AllRootsInside}
+use Rattle.records.specs.Access.{recordsOf, wordsFrom, messageLength, interactionFrom, eachWords, ReferencesInside, RootsInside, AllRootsInside}
 use Rattle.records.proofs.Parts.{part-more}
-use Rattle.records.proofs.Rooting.{order-none, visiting-one, names-below, Passed, passed-none, passed-done, passed-next, passed-more}
-use Rattle.records.proofs.Takings.{Taken, taken-words, taken-names}
+use Rattle.records.proofs.Rooting.{order-none, visiting-one, references-below, Passed, passed-none, passed-done, passed-next, passed-more}
+use Rattle.records.proofs.Takings.{Taken, taken-words, taken-references}
 use Rattle.expand.specs.declared.Expanded.{Expanded}
 use Rattle.expand.specs.declared.Expanded.the-variants.{Used, Refused}
-use Rattle.expand.specs.Walking.{Holds, Expands, Walking, Ready}
+use Rattle.expand.specs.Walking.{PoolHolds, Expands, ExpandWalking, ExpandReady}
 use Rattle.expand.proofs.Far.{Roots, Far, far-none, far-walking, far-more, far-refused}
 use Rattle.expand.proofs.Expanding.{Visit}
 
 -- The records that the words from `at` on name; j of them are expanded.
 pub record Naming (ws : List ℕ) (at count : ℕ) (work₀ pool₀ : List ℕ) (used₀ : ℕ) (work pool : List ℕ) (used j : ℕ) : Type 0 where
   pub j-le : j ≤ count
-  pub far : Far ws (part at j ws) work₀ pool₀ used₀ work pool used
+  pub far : Far ws (wordsFrom at j ws) work₀ pool₀ used₀ work pool used
 
-module _ {ws : List ℕ} {at count : ℕ} {work₀ pool₀ : List ℕ} {used₀ : ℕ} (p : Walking ws work₀ pool₀ used₀) (named : NamesInside ws at count) where
+module _ {ws : List ℕ} {at count : ℕ} {work₀ pool₀ : List ℕ} {used₀ : ℕ} (p : ExpandWalking ws work₀ pool₀ used₀) (named : ReferencesInside ws at count) where
   pub naming-none : Naming ws at count work₀ pool₀ used₀ work₀ pool₀ used₀ 0
   naming-none = record { j-le = omega arith; far = far-none ws work₀ pool₀ used₀ p }
 
   module _ {work pool : List ℕ} {used j : ℕ} (h : Naming ws at count work₀ pool₀ used₀ work pool used j) where
-    pub naming-done : count ≤ j → Roots ws (part at count ws) pool₀ used₀ pool (Used used)
+    pub naming-done : count ≤ j → Roots ws (wordsFrom at count ws) pool₀ used₀ pool (Used used)
     naming-done l =
         let e : j ≡ count = omega (arith, h .j-le) in
-        subst (λ (k : ℕ). Roots ws (part at k ws) pool₀ used₀ pool (Used used)) e (h .far .walks)
+        subst (λ (k : ℕ). Roots ws (wordsFrom at k ws) pool₀ used₀ pool (Used used)) e (h .far .walks)
 
     module _ (l : j < count) {r : ℕ} (e : r ≡ getD ws (at + j) 0) where
       inside : r < length (recordsOf ws)
       inside = subst (λ (x : ℕ). x < length (recordsOf ws)) (sym e) (named .below j l)
 
-      pub ready-name : Ready ws r work pool used
-      ready-name = record { walking = far-walking ws work₀ pool₀ used₀ p (part at j ws) work pool used (h .far); inside = inside }
+      pub ready-name : ExpandReady ws r work pool used
+      ready-name = record { walking = far-walking ws work₀ pool₀ used₀ p (wordsFrom at j ws) work pool used (h .far); inside = inside }
 
-      more : part at (j + 1) ws ≡ part at j ws ++ (r ∷ [])
-      more = part-more ws at j (omega (arith, named .inside)) ∙ ap (λ (x : ℕ). part at j ws ++ (x ∷ [])) (sym e)
+      more : wordsFrom at (j + 1) ws ≡ wordsFrom at j ws ++ (r ∷ [])
+      more = part-more ws at j (omega (arith, named .inside)) ∙ ap (λ (x : ℕ). wordsFrom at j ws ++ (x ∷ [])) (sym e)
 
       module _ (work₁ pool₁ : List ℕ) (u : Expanded) (f : Visit ws pool used r pool₁ u) where
         one : Roots ws (r ∷ []) pool used pool₁ u
@@ -57,19 +57,19 @@ module _ {ws : List ℕ} {at count : ℕ} {work₀ pool₀ : List ℕ} {used₀ 
         naming-more lw lp {n} g = record {
           j-le = omega arith;
           far = subst (λ (xs : List ℕ). Far ws xs work₀ pool₀ used₀ work₁ pool₁ n) (sym more)
-              (far-more ws work₀ pool₀ used₀ p (part at j ws) work pool used (h .far) (r ∷ []) work₁ pool₁ u one
+              (far-more ws work₀ pool₀ used₀ p (wordsFrom at j ws) work pool used (h .far) (r ∷ []) work₁ pool₁ u one
               (cons-below (length (recordsOf ws)) r [] inside (λ y i. not-in y i)) lw lp n g);
         }
 
-        pub naming-refused : {v : Refusal} → u ≡ Refused v → Roots ws (part at count ws) pool₀ used₀ pool₁ u
+        pub naming-refused : {v : Refusal} → u ≡ Refused v → Roots ws (wordsFrom at count ws) pool₀ used₀ pool₁ u
         naming-refused {v} g =
             let k : count ≡ j + 1 + (count - (j + 1)) = omega arith in
             let rest : List ℕ = take (count - (j + 1)) (drop (j + 1) (drop at ws)) in
-            far-refused ws work₀ pool₀ used₀ p (part at j ws) work pool used (h .far) (r ∷ []) work₁ pool₁ u one v g rest (part at count ws)
-            (ap (λ (n : ℕ). part at n ws) k
+            far-refused ws work₀ pool₀ used₀ p (wordsFrom at j ws) work pool used (h .far) (r ∷ []) work₁ pool₁ u one v g rest (wordsFrom at count ws)
+            (ap (λ (n : ℕ). wordsFrom at n ws) k
             ∙ take-add (j + 1) (count - (j + 1)) (drop at ws)
             ∙ ap (λ (xs : List ℕ). xs ++ rest) more
-            ∙ append-assoc (part at j ws) (r ∷ []) rest)
+            ∙ append-assoc (wordsFrom at j ws) (r ∷ []) rest)
 
 -- What `one` takes of each interaction from `at` on; i of them are passed.
 pub record Passing (one : ℕ → List ℕ) (ws : List ℕ) (at count : ℕ) (work₀ pool₀ : List ℕ) (used₀ : ℕ) (work pool : List ℕ) (used from i : ℕ) : Type 0 where
@@ -77,12 +77,12 @@ pub record Passing (one : ℕ → List ℕ) (ws : List ℕ) (at count : ℕ) (wo
   pub passed : Passed one ws at count from i roots
   pub far : Far ws roots work₀ pool₀ used₀ work pool used
 
-module _ {one : ℕ → List ℕ} {ws : List ℕ} {at count : ℕ} {work₀ pool₀ : List ℕ} {used₀ : ℕ} (p : Walking ws work₀ pool₀ used₀) where
+module _ {one : ℕ → List ℕ} {ws : List ℕ} {at count : ℕ} {work₀ pool₀ : List ℕ} {used₀ : ℕ} (p : ExpandWalking ws work₀ pool₀ used₀) where
   pub passing-none : AllRootsInside (length (recordsOf ws)) ws at count → Passing one ws at count work₀ pool₀ used₀ work₀ pool₀ used₀ at 0
   passing-none h = record { roots = []; passed = passed-none one ws at count h; far = far-none ws work₀ pool₀ used₀ p }
 
   module _ {work pool : List ℕ} {used from i : ℕ} (h : Passing one ws at count work₀ pool₀ used₀ work pool used from i) where
-    pub passing-walking : Walking ws work pool used
+    pub passing-walking : ExpandWalking ws work pool used
     passing-walking = far-walking ws work₀ pool₀ used₀ p (h .roots) work pool used (h .far)
 
     pub passing-done : count ≤ i → Roots ws (eachWords one ws at count) pool₀ used₀ pool (Used used)
@@ -94,17 +94,17 @@ module _ {one : ℕ → List ℕ} {ws : List ℕ} {at count : ℕ} {work₀ pool
 
       -- One more interaction.
       module _ {place size : Interaction → ℕ} (t : Taken one ws place size) {x : Interaction} (e : x ≡ interactionFrom from (messageLength ws from)) where
-        pub names-next : NamesInside ws (place x) (size x)
-        names-next = taken-names t e next-inside
+        pub references-next : ReferencesInside ws (place x) (size x)
+        references-next = taken-references t e next-inside
 
-        module _ (work₁ pool₁ : List ℕ) (u : Expanded) (f : Roots ws (part (place x) (size x) ws) pool used pool₁ u) where
+        module _ (work₁ pool₁ : List ℕ) (u : Expanded) (f : Roots ws (wordsFrom (place x) (size x) ws) pool used pool₁ u) where
           next : Roots ws (one from) pool used pool₁ u
           next = subst (λ (xs : List ℕ). Roots ws xs pool used pool₁ u) (taken-words t e) f
 
           pub passing-more : length work₁ ≡ length work → length pool₁ ≡ length pool → {n : ℕ} → u ≡ Used n
               → Passing one ws at count work₀ pool₀ used₀ work₁ pool₁ n (x .next) (i + 1)
           passing-more lw lp {n} g =
-              let b = subst (Below (length (recordsOf ws))) (taken-words t e) (names-below ws (place x) (size x) names-next) in record {
+              let b = subst (Below (length (recordsOf ws))) (taken-words t e) (references-below ws (place x) (size x) references-next) in record {
                 roots = h .roots ++ one from;
                 passed = passed-more one ws at count from i (h .roots) (h .passed) l b (x .next) (ap (λ (y : Interaction). y .next) e);
                 far = far-more ws work₀ pool₀ used₀ p (h .roots) work pool used (h .far) (one from) work₁ pool₁ u next b lw lp n g;
@@ -120,7 +120,7 @@ module _ {one : ℕ → List ℕ} {ws : List ℕ} {at count : ℕ} {work₀ pool
 
 -- From a pool whose records have no list yet, to all that some roots reach.
 module _ (ws pool : List ℕ) (room : 2 * length (recordsOf ws) ≤ length pool) (clear : (i : ℕ) → i < length (recordsOf ws) → getD pool (2 * i) 0 ≡ 0) where
-  holds-none : Holds ws [] pool (2 * length (recordsOf ws))
+  holds-none : PoolHolds ws [] pool (2 * length (recordsOf ws))
   unfolding expandAll
   holds-none = record {
     used-is = refl;
@@ -133,7 +133,7 @@ module _ (ws pool : List ℕ) (room : 2 * length (recordsOf ws) ≤ length pool)
     before = λ i m. not-in i m;
   }
 
-  pub start-walking : check prime ws ≡ good (readSheet ws) → (work : List ℕ) → 4096 ≤ length work → Walking ws work pool (2 * length (recordsOf ws))
+  pub start-walking : check prime ws ≡ good (readSheet ws) → (work : List ℕ) → 4096 ≤ length work → ExpandWalking ws work pool (2 * length (recordsOf ws))
   start-walking checked work l = record { checked = checked; room = l; done = []; order = order-none ws; holds = holds-none }
 
   pub all-expanded : (roots pool′ : List ℕ) (u : Expanded) → Roots ws roots pool (2 * length (recordsOf ws)) pool′ u → Expands ws pool′ u (order (recordsOf ws) roots)

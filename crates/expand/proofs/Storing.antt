@@ -23,7 +23,7 @@ use Rattle.records.specs.Access.{recordsOf}
 use Rattle.records.specs.Orders.{Order}
 use Rattle.records.proofs.Steps.{few-records}
 use Rattle.monomial.specs.Words.{held, listWords, Fits, Stored}
-use Rattle.expand.specs.Walking.{Holds, Expands, withList, Storing, Stores}
+use Rattle.expand.specs.Walking.{PoolHolds, Expands, withList, Storing, Stores}
 use Rattle.expand.specs.declared.Expanded.{Expanded}
 use Rattle.expand.specs.declared.Expanded.the-variants.{Used, Refused}
 use Rattle.monomial.proofs.ListLaws.{size-nil, size-cons, words-length}
@@ -122,7 +122,7 @@ not-here : (i r : ℕ) (done : List ℕ) → member i (r ∷ done) ≡ false →
 unfolding member
 not-here i r done = by-test (λ (t : Bool). t ≡ false → (i ≡ r → ⊥) × (member i done ≡ false)) (eqb i r) (λ e h. not-both refl h) (λ e h. (eqb-false i r e, h))
 
-module _ (ws done pool : List ℕ) (used : ℕ) (h : Holds ws done pool used) (o : Order ws done) (r : ℕ) (lr : r < length (recordsOf ws)) (new : member r done ≡ false) where
+module _ (ws done pool : List ℕ) (used : ℕ) (h : PoolHolds ws done pool used) (o : Order ws done) (r : ℕ) (lr : r < length (recordsOf ws)) (new : member r done ≡ false) where
   abbrev L : List Monomial
   L = listAt prime (recordsOf ws) r
 
@@ -193,7 +193,7 @@ module _ (ws done pool : List ℕ) (used : ℕ) (h : Holds ws done pool used) (o
         go (inl e) = subst P (sym e) now
         go (inr k) = old i k
 
-    holds-more : Holds ws (r ∷ done) Q (used + listSize L)
+    holds-more : PoolHolds ws (r ∷ done) Q (used + listSize L)
     holds-more = record {
       used-is = subst (λ (n : ℕ). expandAll prime (recordsOf ws) n (r ∷ done) ≡ good (used + listSize L)) (sym long) (expand-more ws done (length pool) r used (h .used-is) fine room);
       low = omega (arith, h .low);
@@ -231,8 +231,8 @@ module _ (ws done pool : List ℕ) (used : ℕ) (h : Holds ws done pool used) (o
     stored fine pool′ lp (Used u) s =
         let t : Stores pool pool′ r used L (Used u) = subst (λ (l : List Monomial). Stores pool pool′ r used l (Used u)) is s in
         let c : length L ≤ 256 = omega (arith, ap length is, held-length n work) in
-        subst (λ (q : List ℕ). Holds ws (r ∷ done) q u) (sym (t .2))
-        (subst (Holds ws (r ∷ done) (withList pool r used L)) (sym (t .0)) (holds-more fine c fit (omega arith) (omega (arith, used-small, size-small L fit))))
+        subst (λ (q : List ℕ). PoolHolds ws (r ∷ done) q u) (sym (t .2))
+        (subst (PoolHolds ws (r ∷ done) (withList pool r used L)) (sym (t .0)) (holds-more fine c fit (omega arith) (omega (arith, used-small, size-small L fit))))
     stored fine pool′ lp (Refused q) s =
         let t : Stores pool pool′ r used L (Refused q) = subst (λ (l : List Monomial). Stores pool pool′ r used l (Refused q)) is s in
         subst (λ (k : ℕ). expandAll prime (recordsOf ws) k (r ∷ done) ≡ refused (q .number) (q .place)) (sym lp)

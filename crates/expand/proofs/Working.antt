@@ -12,7 +12,7 @@ use Rattle.semantics.specs.Monomial.{Asc, Monomial, negMonomial, mulMonomial, p
 use Rattle.semantics.specs.Expand.{longer, workFault}
 use Rattle.semantics.specs.Lists.{All}
 use Rattle.semantics.proofs.Sorting.{all-append, all-map}
-use Rattle.monomial.specs.Words.{held, listIn, readList, longestOf, insertAll, signed, Fits, ListFits, Summed}
+use Rattle.monomial.specs.Words.{held, listIn, readList, longestOf, insertAll, negatedIf, Fits, ListFits, Summed}
 use Rattle.expand.specs.Making.{Makes}
 use Rattle.expand.specs.declared.kinds.Made.the-variants.{Held, Fault}
 use Rattle.monomial.proofs.Canons.{sum-append, sum-combine, fits-sum, asc-sum, fits-negative, sort-length, small-of-fits}
@@ -65,11 +65,11 @@ neg-made pool at n work l k h =
 
 -- ---- Add and Sub
 
-fits-signed : (b : Bool) (ms : List Monomial) → All Fits ms → All Fits (signed b ms)
+fits-signed : (b : Bool) (ms : List Monomial) → All Fits ms → All Fits (negatedIf b ms)
 fits-signed true ms k = all-map Fits Fits (negMonomial prime) fits-negative ms k
 fits-signed false ms k = k
 
-signed-length : (b : Bool) (ms : List Monomial) → length (signed b ms) ≡ length ms
+signed-length : (b : Bool) (ms : List Monomial) → length (negatedIf b ms) ≡ length ms
 signed-length true ms = length-map ms (negMonomial prime)
 signed-length false ms = refl
 
@@ -78,7 +78,7 @@ module _ {pool : List ℕ} {la n ra m : ℕ} (b : Bool) (fl : ListFits pool la n
   L = listIn pool la n
 
   abbrev R : List Monomial
-  R = signed b (listIn pool ra m)
+  R = negatedIf b (listIn pool ra m)
 
   both-length : length (L ++ R) ≡ n + m
   both-length = length-append L R ∙ omega (arith, read-length n (drop la pool), signed-length b (listIn pool ra m), read-length m (drop ra pool))

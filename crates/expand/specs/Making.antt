@@ -11,8 +11,8 @@ use Rattle.expand.specs.declared.kinds.Made.{Made}
 use Rattle.expand.specs.declared.kinds.Made.the-variants.{Held, Fault}
 
 -- "leaf: one monomial": of a constant, and of a packed variable.
-abbrev pub constant : ℕ → Monomial
-constant k = record { vars = []; coef = k }
+abbrev pub constantMonomial : ℕ → Monomial
+constantMonomial k = record { vars = []; coef = k }
 
 abbrev pub single : ℕ → Monomial
 single v = record { vars = v ∷ []; coef = 1 }

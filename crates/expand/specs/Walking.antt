@@ -21,7 +21,7 @@ use Rattle.expand.specs.declared.Expanded.the-variants.{Used, Refused}
 -- The walk accepted the records `done`, newest first, and `used` words of the pool are taken: a record that is not among them has
 -- 0 for its start, and one that is has its list, behind the two words of each record and before what is free. A list takes at most sixteen
 -- words for each of 256 monomials.
-pub record Holds (ws done pool : List ℕ) (used : ℕ) : Type 0 where
+pub record PoolHolds (ws done pool : List ℕ) (used : ℕ) : Type 0 where
   pub used-is : expandAll (primeOf ws) (recordsOf ws) (length pool) done ≡ good used
   pub low : 2 * length (recordsOf ws) ≤ used
   pub high : used ≤ length pool
@@ -33,7 +33,7 @@ pub record Holds (ws done pool : List ℕ) (used : ℕ) : Type 0 where
 
 -- What an answer says of the records that were to be expanded: the words taken, or the refusal.
 abbrev pub Expands : (ws pool : List ℕ) → Expanded → (done : List ℕ) → Type 0
-Expands ws pool (Used u) done = Holds ws done pool u
+Expands ws pool (Used u) done = PoolHolds ws done pool u
 Expands ws pool (Refused q) done = expandAll (primeOf ws) (recordsOf ws) (length pool) done ≡ refused (q .number) (q .place)
 
 -- The refusal of record r, where its list was not made.
@@ -60,19 +60,19 @@ pub record Storing (work : List ℕ) (count : ℕ) (pool : List ℕ) (r used : �
   pub small : used < 4294967296
 
 -- What expanding asks: a checked sheet, work of 4,096 words, and a pool that holds what the walk expanded so far.
-pub record Walking (ws work pool : List ℕ) (used : ℕ) : Type 0 where
+pub record ExpandWalking (ws work pool : List ℕ) (used : ℕ) : Type 0 where
   pub checked : check (primeOf ws) ws ≡ good (readSheet ws)
   pub room : 4096 ≤ length work
   pub done : List ℕ
   pub order : Order ws done
-  pub holds : Holds ws done pool used
+  pub holds : PoolHolds ws done pool used
 
 -- The same for a record, and for one whose children are expanded.
-pub record Ready (ws : List ℕ) (r : ℕ) (work pool : List ℕ) (used : ℕ) : Type 0 where
-  pub walking : Walking ws work pool used
+pub record ExpandReady (ws : List ℕ) (r : ℕ) (work pool : List ℕ) (used : ℕ) : Type 0 where
+  pub walking : ExpandWalking ws work pool used
   pub inside : r < length (recordsOf ws)
 
 pub record Finishing (ws : List ℕ) (r : ℕ) (work pool : List ℕ) (used : ℕ) : Type 0 where
-  pub ready : Ready ws r work pool used
+  pub ready : ExpandReady ws r work pool used
   pub new : member r (ready .walking .done) ≡ false
   pub there : There ws r (ready .walking .done)

@@ -9,8 +9,8 @@ ghost use Rattle.semantics.specs.Packing.{packFault};
 ghost use Rattle.semantics.specs.Monomial.{negMonomial, products, combine, recordList};
 ghost use Rattle.semantics.specs.Expand.{workFault};
 ghost use Rattle.records.specs.Access.{fiveWords};
-ghost use Rattle.monomial.specs.Words.{monomialOf, listIn, signed, ListFits};
-ghost use Rattle.expand.specs.Making.{single, constant, faultOf, Makes};
+ghost use Rattle.monomial.specs.Words.{monomialOf, listIn, negatedIf, ListFits};
+ghost use Rattle.expand.specs.Making.{single, constantMonomial, faultOf, Makes};
 use monomial::Monomial;
 use monomial::lists;
 use packed_var::Packed;
@@ -42,7 +42,7 @@ pub fn list_of(pool: &[u32], c: usize) -> PoolList
 
 // A constant as a monomial.
 fn constant_monomial(value: u32) -> Monomial
-    ensures { λ x. ⌜ (monomialOf x ≡ constant value) × (x .count ≡ 0) ⌝ }
+    ensures { λ x. ⌜ (monomialOf x ≡ constantMonomial value) × (x .count ≡ 0) ⌝ }
 {
     Monomial {
         vars: [PackedVar(0); 14],
@@ -105,8 +105,8 @@ pub fn expand_sum(work: &mut [u32], pool: &[u32], l: PoolList, r: PoolList, nega
     requires { ⌜ (4096 ≤ length (now work)) × ((l .count ≤ 256) × ListFits (now pool) (l .at) (l .count))
         × (r .count ≤ 256) × ListFits (now pool) (r .at) (r .count) ⌝ }
     ensures { λ u. ⌜ Makes (now (work .exit)) u
-        (workFault (listIn (now (pool .entry)) (l .at) (l .count) ++ signed negated (listIn (now (pool .entry)) (r .at) (r .count))))
-        (combine prime (listIn (now (pool .entry)) (l .at) (l .count) ++ signed negated (listIn (now (pool .entry)) (r .at) (r .count)))) ⌝ }
+        (workFault (listIn (now (pool .entry)) (l .at) (l .count) ++ negatedIf negated (listIn (now (pool .entry)) (r .at) (r .count))))
+        (combine prime (listIn (now (pool .entry)) (l .at) (l .count) ++ negatedIf negated (listIn (now (pool .entry)) (r .at) (r .count)))) ⌝ }
 {
     if 256 < l.count + r.count {
         return Made::Fault(12);

@@ -8,11 +8,11 @@ ghost use Rattle.semantics.specs.Check.{primeOf};
 ghost use Rattle.semantics.specs.Monomial.{listAt};
 ghost use Rattle.semantics.specs.Expand.{recordFault};
 ghost use Rattle.semantics.specs.Walk.{member, visit, childrenAt};
-ghost use Rattle.records.specs.Access.{recordsOf, part, countWords, fieldWords, NamesInside, AllRootsInside};
+ghost use Rattle.records.specs.Access.{recordsOf, wordsFrom, countWords, fieldWords, ReferencesInside, AllRootsInside};
 ghost use Rattle.records.specs.Orders.{Order, There, Visiting};
 ghost use Rattle.monomial.specs.Words.{held};
 ghost use Rattle.expand.specs.Making.{Makes};
-ghost use Rattle.expand.specs.Walking.{Holds, Expands, refusedBy, Storing, Stores, Walking, Ready, Finishing};
+ghost use Rattle.expand.specs.Walking.{PoolHolds, Expands, refusedBy, Storing, Stores, ExpandWalking, ExpandReady, Finishing};
 
 mod kinds;
 
@@ -88,7 +88,7 @@ fn finish_record(
 ) -> Expanded
     requires { ⌜ Finishing (now sheet) r (now work) (now pool) used ⌝ }
     ensures { λ u. ⌜ ((done : List ℕ) → Order (now (sheet .entry)) done → member r done ≡ false
-        → There (now (sheet .entry)) r done → Holds (now (sheet .entry)) done (now (pool .entry)) used
+        → There (now (sheet .entry)) r done → PoolHolds (now (sheet .entry)) done (now (pool .entry)) used
         → Expands (now (sheet .entry)) (now (pool .exit)) u (r ∷ done)) ⌝ }
 {
     let made = make_list(sheet, work, pool, r);
@@ -101,8 +101,8 @@ fn finish_record(
 // Expands record r with all that it reaches, left child, right child, then itself. It recurses as deep as the longest chain of children,
 // so a level keeps one answer and no record: a word is read when it is needed.
 fn expand_node(sheet: &[u32], work: &mut [u32], pool: &mut [u32], r: usize, used: usize) -> Expanded
-    requires { ⌜ Ready (now sheet) r (now work) (now pool) used ⌝ }
-    ensures { λ u. ⌜ ((done : List ℕ) → Order (now (sheet .entry)) done → Holds (now (sheet .entry)) done (now (pool .entry)) used
+    requires { ⌜ ExpandReady (now sheet) r (now work) (now pool) used ⌝ }
+    ensures { λ u. ⌜ ((done : List ℕ) → Order (now (sheet .entry)) done → PoolHolds (now (sheet .entry)) done (now (pool .entry)) used
         → Expands (now (sheet .entry)) (now (pool .exit)) u (visit (childrenAt (recordsOf (now (sheet .entry)))) (suc r) done r)) ⌝ }
 {
     let mut answer = Expanded::Used(used);
@@ -130,7 +130,7 @@ fn expand_node(sheet: &[u32], work: &mut [u32], pool: &mut [u32], r: usize, used
 }
 
 // Expands the records that the words from `at` on name.
-pub fn expand_names(
+pub fn expand_references(
     sheet: &[u32],
     at: usize,
     count: usize,
@@ -138,8 +138,8 @@ pub fn expand_names(
     pool: &mut [u32],
     used: usize,
 ) -> Expanded
-    requires { ⌜ Walking (now sheet) (now work) (now pool) used × NamesInside (now sheet) at count ⌝ }
-    ensures { λ u. ⌜ Visiting (now (sheet .entry)) (part at count (now (sheet .entry))) (λ d. Holds (now (sheet .entry)) d (now (pool .entry)) used)
+    requires { ⌜ ExpandWalking (now sheet) (now work) (now pool) used × ReferencesInside (now sheet) at count ⌝ }
+    ensures { λ u. ⌜ Visiting (now (sheet .entry)) (wordsFrom at count (now (sheet .entry))) (λ d. PoolHolds (now (sheet .entry)) d (now (pool .entry)) used)
         (Expands (now (sheet .entry)) (now (pool .exit)) u) ⌝ }
 {
     let mut taken = used;
@@ -165,16 +165,16 @@ pub fn expand_counts(
     pool: &mut [u32],
     used: usize,
 ) -> Expanded
-    requires { ⌜ Walking (now sheet) (now work) (now pool) used × AllRootsInside (length (recordsOf (now sheet))) (now sheet) at count ⌝ }
+    requires { ⌜ ExpandWalking (now sheet) (now work) (now pool) used × AllRootsInside (length (recordsOf (now sheet))) (now sheet) at count ⌝ }
     ensures { λ u. ⌜ Visiting (now (sheet .entry)) (countWords (now (sheet .entry)) at count)
-        (λ d. Holds (now (sheet .entry)) d (now (pool .entry)) used) (Expands (now (sheet .entry)) (now (pool .exit)) u) ⌝ }
+        (λ d. PoolHolds (now (sheet .entry)) d (now (pool .entry)) used) (Expands (now (sheet .entry)) (now (pool .exit)) u) ⌝ }
 {
     let mut taken = used;
     let mut from = at;
     let mut i: usize = 0;
     while i < count {
         let x = records::interaction_at(sheet, from);
-        let answer = expand_names(sheet, x.count, 1, work, pool, taken);
+        let answer = expand_references(sheet, x.count, 1, work, pool, taken);
         let Expanded::Used(next) = answer else {
             return answer;
         };
@@ -194,16 +194,16 @@ pub fn expand_fields(
     pool: &mut [u32],
     used: usize,
 ) -> Expanded
-    requires { ⌜ Walking (now sheet) (now work) (now pool) used × AllRootsInside (length (recordsOf (now sheet))) (now sheet) at count ⌝ }
+    requires { ⌜ ExpandWalking (now sheet) (now work) (now pool) used × AllRootsInside (length (recordsOf (now sheet))) (now sheet) at count ⌝ }
     ensures { λ u. ⌜ Visiting (now (sheet .entry)) (fieldWords (now (sheet .entry)) at count)
-        (λ d. Holds (now (sheet .entry)) d (now (pool .entry)) used) (Expands (now (sheet .entry)) (now (pool .exit)) u) ⌝ }
+        (λ d. PoolHolds (now (sheet .entry)) d (now (pool .entry)) used) (Expands (now (sheet .entry)) (now (pool .exit)) u) ⌝ }
 {
     let mut taken = used;
     let mut from = at;
     let mut i: usize = 0;
     while i < count {
         let x = records::interaction_at(sheet, from);
-        let answer = expand_names(sheet, x.fields, x.message, work, pool, taken);
+        let answer = expand_references(sheet, x.fields, x.message, work, pool, taken);
         let Expanded::Used(next) = answer else {
             return answer;
         };

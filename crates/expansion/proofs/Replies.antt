@@ -15,7 +15,7 @@ use Rattle.answers.specs.declared.Refusal.{Refusal}
 use Rattle.sheet.specs.declared.Head.{Head}
 use Rattle.sheet.specs.declared.Checked.{Checked}
 use Rattle.sheet.specs.declared.Checked.the-variants as checked
-use Rattle.sheet.specs.Replies.{checkedOutcome, refusalOf}
+use Rattle.sheet.specs.Replies.{checkedOutcome, checkedRefusal}
 use Rattle.sheet.proofs.Answers.{found, on-found, on-refused}
 use Rattle.grouping.specs.declared.Lengths.{Lengths}
 use Rattle.constraint_lists.specs.declared.ConstraintLists.{ConstraintLists}
@@ -23,7 +23,7 @@ use Rattle.constraint_lists.specs.declared.ConstraintLists.the-variants.{Writte
 use Rattle.interaction_lists.specs.declared.InteractionLengths.{InteractionLengths}
 use Rattle.interaction_lists.specs.declared.InteractionLists.{InteractionLists}
 use Rattle.interaction_lists.specs.declared.InteractionLists.the-variants as interaction
-use Rattle.constraint_lists.specs.Lists.{constraintAnswer, Inside, constraintsOf, CheckedSheet}
+use Rattle.constraint_lists.specs.Lists.{constraintAnswer, ListsFit, constraintsOf, CheckedSheet}
 use Rattle.constraint_lists.proofs.Steps.{Kept}
 use Rattle.interaction_lists.specs.Lists.{interactionAnswer, BothInside, interactionsOf}
 use Rattle.expansion.specs.Answers.{constraintOutcome, lengthsOf, cut, interactionOutcome, bothLengths}
@@ -56,15 +56,15 @@ sheet-found ws e q =
 
 -- A refused sheet ends the call, and another goes on.
 module _ (ws : List ℕ) (rest : Sheet → Answer Result) where
-  pub sheet-refused : {r : Checked} {v u : Refusal} → checkedOutcome r ≡ checkCall prime ws → r ≡ checked.Refused v → u ≡ refusalOf r
+  pub sheet-refused : {r : Checked} {v u : Refusal} → checkedOutcome r ≡ checkCall prime ws → r ≡ checked.Refused v → u ≡ checkedRefusal r
       → refused (u .number) (u .place) ≡ onSheet prime ws rest
-  sheet-refused e q f = ap (λ (x : Refusal). refused (x .number) (x .place)) (f ∙ ap refusalOf q) ∙ on-refused prime ws rest e q
+  sheet-refused e q f = ap (λ (x : Refusal). refused (x .number) (x .place)) (f ∙ ap checkedRefusal q) ∙ on-refused prime ws rest e q
 
   pub sheet-goes-on : check prime ws ≡ good (readSheet ws) → rest (readSheet ws) ≡ onSheet prime ws rest
   sheet-goes-on e = on-found prime ws rest e
 
 -- The call, once scratch is zeroed and the outputs are zeroed behind their lists.
-pub constraint-finish : (r : ConstraintLists) (h v t : List ℕ) → Inside r h v t → (work pool : ℕ)
+pub constraint-finish : (r : ConstraintLists) (h v t : List ℕ) → ListsFit r h v t → (work pool : ℕ)
     → constraintOutcome r (replicate work 0) (replicate pool 0)
     (cut (lengthsOf r .headers) h) (cut (lengthsOf r .variables) v) (cut (lengthsOf r .terms) t)
     ≡ outcome (work ∷ pool ∷ []) (length h ∷ length v ∷ length t ∷ []) (constraintAnswer r h v t)
@@ -93,7 +93,7 @@ zeroed-again e l = e ∙ ap (λ (k : ℕ). replicate k 0) l
 
 module _ (ws : List ℕ) (work pool : ℕ) {headers variables terms : ℕ} (r : ConstraintLists) {h v t : List ℕ}
     (long : Kept headers variables terms h v t)
-    (answer : constraintAnswer r h v t ≡ onSheet prime ws (constraintsOf work pool headers variables terms)) (inside : Inside r h v t) where
+    (answer : constraintAnswer r h v t ≡ onSheet prime ws (constraintsOf work pool headers variables terms)) (inside : ListsFit r h v t) where
   pub constraint-done : (kept : Lengths) → kept ≡ lengthsOf r → (work′ pool′ : List ℕ) → work′ ≡ replicate work 0 → pool′ ≡ replicate pool 0
       → (h′ v′ t′ : List ℕ) → Cleared kept h v t h′ v′ t′
       → constraintOutcome r work′ pool′ h′ v′ t′ ≡ constraintCall prime ws work pool headers variables terms

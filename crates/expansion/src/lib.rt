@@ -3,7 +3,7 @@ ghost use mathlib.Core.Path.{_≡_};
 ghost use lib.ListN.{length};
 ghost use Rattle.semantics.specs.Check.{primeOf};
 ghost use Rattle.semantics.specs.Call.{onSheet, constraintCall, interactionCall};
-ghost use Rattle.constraint_lists.specs.Lists.{constraintAnswer, constraintsOf, Inside};
+ghost use Rattle.constraint_lists.specs.Lists.{constraintAnswer, constraintsOf, ListsFit};
 ghost use Rattle.interaction_lists.specs.Lists.{interactionAnswer, interactionsOf, BothInside};
 ghost use Rattle.expansion.specs.Answers.{constraintOutcome, lengthsOf, cut, interactionOutcome, bothLengths};
 use constraint_lists::ConstraintLists;
@@ -25,7 +25,7 @@ fn expand_sheet(
         ≡ onSheet (primeOf (now (s .entry))) (now (s .entry))
         (constraintsOf (length (now (work .entry))) (length (now (pool .entry)))
         (length (now (headers .entry))) (length (now (variables .entry))) (length (now (terms .entry)))))
-        × Inside r (now (headers .exit)) (now (variables .exit)) (now (terms .exit)) ⌝ }
+        × ListsFit r (now (headers .exit)) (now (variables .exit)) (now (terms .exit)) ⌝ }
 {
     let checked = sheet::check_sheet(s);
     let Checked::Sheet(head) = checked else {

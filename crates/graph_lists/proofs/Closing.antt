@@ -21,7 +21,7 @@ use Rattle.semantics.proofs.GraphSheets.{graph-shorter}
 use Rattle.nodes.specs.Memory.{tabulate, nodesOut}
 use Rattle.nodes.proofs.Marks.{tabulate-length, tabulate-from, tabulate-same}
 use Rattle.slices.specs.Putting.{put}
-use Rattle.graph_lists.specs.Lists.{flagged, marksOf, plainWord, plainBelow, chosen, flaggedAmong}
+use Rattle.graph_lists.specs.Lists.{flagged, marksOf, plainWord, plainBelow, oneIf, flaggedAmong}
 use Rattle.graph_lists.proofs.Flags.{ascending, ascending-sorts, table-of}
 use Rattle.graph_lists.proofs.Sweeps.{put-padded}
 
@@ -133,10 +133,10 @@ module _ (s₀ nums : List ℕ) (n : ℕ) (small : (i : ℕ) → i < length s₀
   unfolding flaggedAmong ascending
   among-is k zero h = refl
   among-is k (suc m) h =
-      (λ i. chosen ((ap (leb 65536) (entry-is k (omega arith)) ∙ flag-is k (omega arith)) i) k ++ among-is (suc k) m (omega arith) i)
+      (λ i. oneIf ((ap (leb 65536) (entry-is k (omega arith)) ∙ flag-is k (omega arith)) i) k ++ among-is (suc k) m (omega arith) i)
       ∙ go (member k nums)
     where
-      go : (t : Bool) → chosen t k ++ ascending (suc k) m nums ≡ cond t (k ∷ ascending (suc k) m nums) (ascending (suc k) m nums)
+      go : (t : Bool) → oneIf t k ++ ascending (suc k) m nums ≡ cond t (k ∷ ascending (suc k) m nums) (ascending (suc k) m nums)
       go true = refl
       go false = refl
 

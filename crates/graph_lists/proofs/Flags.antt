@@ -11,11 +11,11 @@ use borrow.Author.Tests.{eqb-true, eqb-false, ne-eqb, lt-ltb, le-ltb, le-leb, lt
 use Rattle.semantics.specs.Walk.{Below, member}
 use Rattle.semantics.specs.Graph.{setNum, insertOnce, sortedOnce}
 use Rattle.semantics.proofs.Members.{mem-here, mem-there}
-use Rattle.records.specs.Access.{part}
+use Rattle.records.specs.Access.{wordsFrom}
 use Rattle.records.proofs.Parts.{part-more}
 use Rattle.nodes.specs.Memory.{tabulate}
 use Rattle.nodes.proofs.Marks.{tabulate-length, tabulate-from, tabulate-same, tabulate-set}
-use Rattle.graph_lists.specs.Lists.{flagWord, flagged, nodeNumbers, marksOf, Named}
+use Rattle.graph_lists.specs.Lists.{flagWord, flagged, nodeNumbers, marksOf, NodesNamed}
 
 -- A member of a list with one more.
 member-snoc : (i x : ℕ) (xs : List ℕ) (t : Bool) → eqb i x ≡ t → member i (xs ++ (x ∷ [])) ≡ cond (member i xs) true t
@@ -131,27 +131,27 @@ ascending-sorts n (x ∷ nums) b =
 pub table-of : (s : List ℕ) → s ≡ tabulate 0 (length s) (marksOf s)
 table-of s = ext-getD 0 s (tabulate 0 (length s) (marksOf s)) (sym (tabulate-length 0 (length s) (marksOf s))) (λ i l. sym (tabulate-from (length s) (marksOf s) i 0 l))
 
--- The loop over the names: `j` of them are flagged.
-module _ {ws : List ℕ} {at count : ℕ} {s₀ : List ℕ} (h : Named ws at count s₀) where
+-- The loop over the references: `j` of them are flagged.
+module _ {ws : List ℕ} {at count : ℕ} {s₀ : List ℕ} (h : NodesNamed ws at count s₀) where
   abbrev f : ℕ → ℕ
   f = marksOf s₀
 
   abbrev pub Flagging : (s : List ℕ) (j : ℕ) → Type 0
-  Flagging s j = s ≡ tabulate 0 (length s₀) (flagged f (nodeNumbers f (part at j ws)))
+  Flagging s j = s ≡ tabulate 0 (length s₀) (flagged f (nodeNumbers f (wordsFrom at j ws)))
 
   pub flagging-none : Flagging s₀ 0
   unfolding flagged member
   flagging-none = table-of s₀ ∙ tabulate-same (length s₀) f (flagged f []) (λ i l. omega arith)
 
   pub flagging-length : {s : List ℕ} (j : ℕ) → Flagging s j → length s ≡ length s₀
-  flagging-length j e = ap length e ∙ tabulate-length 0 (length s₀) (flagged f (nodeNumbers f (part at j ws)))
+  flagging-length j e = ap length e ∙ tabulate-length 0 (length s₀) (flagged f (nodeNumbers f (wordsFrom at j ws)))
 
   module _ {s : List ℕ} {j : ℕ} (e : Flagging s j) (l : j < count) where
     -- The mark of the next name, and its node.
     next-mark : getD s (getD ws (at + j) 0) 0 % 65536 ≡ f (getD ws (at + j) 0)
     next-mark =
         ap (λ (u : List ℕ). getD u (getD ws (at + j) 0) 0 % 65536) e
-        ∙ mark-under (length s₀) f (h .small) (nodeNumbers f (part at j ws)) (getD ws (at + j) 0) (h .named j l .0)
+        ∙ mark-under (length s₀) f (h .small) (nodeNumbers f (wordsFrom at j ws)) (getD ws (at + j) 0) (h .named j l .0)
 
     next-node : pred (f (getD ws (at + j) 0)) < length s₀
     next-node = omega (arith, h .named j l .1, h .named j l .2)
@@ -171,10 +171,10 @@ module _ {ws : List ℕ} {at count : ℕ} {s₀ : List ℕ} (h : Named ws at cou
 
     pub flagging-more : (node : ℕ) → node ≡ pred (f (getD ws (at + j) 0)) → (s′ : List ℕ) → s′ ≡ set s node (flagWord (getD s node 0)) → Flagging s′ (j + 1)
     flagging-more node q s′ g =
-        let nums : List ℕ = nodeNumbers f (part at j ws) in
+        let nums : List ℕ = nodeNumbers f (wordsFrom at j ws) in
         let k : ℕ = pred (f (getD ws (at + j) 0)) in
         g ∙ ap (λ (m : ℕ). set s m (flagWord (getD s m 0))) q
         ∙ ap (λ (u : List ℕ). set u k (flagWord (getD u k 0))) e
         ∙ flag-more (length s₀) f (h .small) nums k next-node
-        ∙ ap (λ (xs : List ℕ). tabulate 0 (length s₀) (flagged f xs)) (sym (map-append (λ (x : ℕ). pred (f x)) (part at j ws) (getD ws (at + j) 0 ∷ [])))
+        ∙ ap (λ (xs : List ℕ). tabulate 0 (length s₀) (flagged f xs)) (sym (map-append (λ (x : ℕ). pred (f x)) (wordsFrom at j ws) (getD ws (at + j) 0 ∷ [])))
         ∙ ap (λ (xs : List ℕ). tabulate 0 (length s₀) (flagged f (nodeNumbers f xs))) (sym (part-more ws at j (omega (arith, h .inside))))

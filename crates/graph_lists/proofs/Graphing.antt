@@ -17,7 +17,7 @@ use Rattle.semantics.proofs.Encoding.{sheet-length}
 use Rattle.semantics.proofs.Access.{constraint-word, words-count}
 use Rattle.semantics.proofs.Orders.{order-closed, order-roots, order-below, order-distinct, distinct-length}
 use Rattle.semantics.proofs.GraphSheets.{constraint-root, graph-roots, sorted-length}
-use Rattle.records.specs.Access.{roots, recordsOf, constraintsAt, interactionsAt, part}
+use Rattle.records.specs.Access.{references, recordsOf, constraintsAt, interactionsAt, wordsFrom}
 use Rattle.records.specs.Orders.{Order}
 use Rattle.records.proofs.Steps.{inside, few-records, lows}
 use Rattle.records.proofs.Reading.{counts-small, constraints-are, interactions-stand}
@@ -25,7 +25,7 @@ use Rattle.nodes.specs.Memory.{tabulate, mark, nodesOut, builtOf}
 use Rattle.nodes.proofs.States as states
 use Rattle.nodes.proofs.Marks.{tabulate-length}
 use Rattle.slices.specs.Putting.{put}
-use Rattle.graph_lists.specs.Lists.{Finishing, allAdded, graphOut, graphLength, flagged, flaggedAmong, plainBelow, marksOf, nodeNumbers, renamedAll, Named, NamedInteractions}
+use Rattle.graph_lists.specs.Lists.{ToWriteLists, allAdded, graphOut, graphLength, flagged, flaggedAmong, plainBelow, marksOf, nodeNumbers, renamedAll, NodesNamed, NamedInteractions}
 use Rattle.slices.proofs.Puts.{put-length}
 use Rattle.graph_lists.proofs.Renaming.{map-same, renamed-are, named-are}
 use Rattle.graph_lists.proofs.Closing.{plain-again, flagged-are, graph-words, graph-fits}
@@ -34,7 +34,7 @@ use Rattle.graph_lists.proofs.Closing.{plain-again, flagged-are, graph-
 pub record Flags (ws scratch : List ℕ) (at count : ℕ) (s₁ : List ℕ) : Type 0 where
   pub at-is : at ≡ constraintsAt ws
   pub count-is : count ≡ length (readSheet ws .constraints)
-  pub flags-are : s₁ ≡ tabulate 0 (length scratch) (flagged (marksOf scratch) (nodeNumbers (marksOf scratch) (part at count ws)))
+  pub flags-are : s₁ ≡ tabulate 0 (length scratch) (flagged (marksOf scratch) (nodeNumbers (marksOf scratch) (wordsFrom at count ws)))
 
 -- They are written behind the nodes and plain again, and the interactions are next.
 pub record Behind (ws out : List ℕ) (n at count : ℕ) (s₁ : List ℕ) (to : ℕ) (s₂ out₁ : List ℕ) (next from ints : ℕ) : Type 0 where
@@ -45,7 +45,7 @@ pub record Behind (ws out : List ℕ) (n at count : ℕ) (s₁ : List ℕ) (to :
   pub starts : from ≡ at + count
   pub ints-are : ints ≡ length (readSheet ws .interactions)
 
-module _ {ws scratch out : List ℕ} {n : ℕ} (f : Finishing ws scratch out n) where
+module _ {ws scratch out : List ℕ} {n : ℕ} (f : ToWriteLists ws scratch out n) where
   abbrev s : Sheet
   s = readSheet ws
 
@@ -92,12 +92,12 @@ module _ {ws scratch out : List ℕ} {n : ℕ} (f : Finishing ws scratch out n) 
       (by-test (λ (k : ℕ). k < 65536) (member i (allAdded ws))
       (λ e. omega (arith, states.num-small ws (f .checked) (allAdded ws) ordered i e, few-records ws (f .checked))) (λ e. omega arith))
 
-  interaction-root : (c : ℕ) → Mem c (roots (s .interactions)) → Mem c (graphRoots s)
+  interaction-root : (c : ℕ) → Mem c (references (s .interactions)) → Mem c (graphRoots s)
   unfolding graphRoots
-  interaction-root c m = mem-right c (s .constraints) (roots (s .interactions)) m
+  interaction-root c m = mem-right c (s .constraints) (references (s .interactions)) m
 
   -- What turning the constraints into nodes asks.
-  pub constraints-named : (at count : ℕ) → at ≡ constraintsAt ws → count ≡ length (s .constraints) → Named ws at count scratch
+  pub constraints-named : (at count : ℕ) → at ≡ constraintsAt ws → count ≡ length (s .constraints) → NodesNamed ws at count scratch
   constraints-named at count e k = record {
     small = marks-small;
     inside = omega (arith, words-count prime ws s (f .checked));
@@ -110,9 +110,9 @@ module _ {ws scratch out : List ℕ} {n : ℕ} (f : Finishing ws scratch out n) 
   abbrev nums : List ℕ
   nums = map (B .num) (s .constraints)
 
-  numbers-are : (at count : ℕ) → at ≡ constraintsAt ws → count ≡ length (s .constraints) → nodeNumbers (marksOf scratch) (part at count ws) ≡ nums
+  numbers-are : (at count : ℕ) → at ≡ constraintsAt ws → count ≡ length (s .constraints) → nodeNumbers (marksOf scratch) (wordsFrom at count ws) ≡ nums
   numbers-are at count e k =
-      (λ i. nodeNumbers (marksOf scratch) (part (e i) (k i) ws)) ∙ ap (nodeNumbers (marksOf scratch)) (constraints-are ws (f .checked))
+      (λ i. nodeNumbers (marksOf scratch) (wordsFrom (e i) (k i) ws)) ∙ ap (nodeNumbers (marksOf scratch)) (constraints-are ws (f .checked))
       ∙ map-same (λ (x : ℕ). pred (marksOf scratch x)) (B .num) (s .constraints) (λ c m. number-is c (constraint-root s c m))
 
   nodes-count : n ≡ length (B .nodes)

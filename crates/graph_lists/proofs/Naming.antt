@@ -7,16 +7,16 @@ use native.Mathlib.Nat.{mod-eq-of-lt}
 use lib.ListN.{length, getD, set, length-append, length-set, length-map}
 use lib.Seq.{sets}
 use Rattle.records.specs.declared.Interaction.{Interaction}
-use Rattle.records.specs.Access.{part, messageLength, interactionFrom, eachWords}
+use Rattle.records.specs.Access.{wordsFrom, messageLength, interactionFrom, eachWords}
 use Rattle.records.proofs.Parts.{part-more, part-length}
 use Rattle.slices.specs.Putting.{put}
-use Rattle.graph_lists.specs.Lists.{nodeNumbers, marksOf, Named, NamedInteraction, NamedInteractions, renamedWords, renamedAll}
+use Rattle.graph_lists.specs.Lists.{nodeNumbers, marksOf, NodesNamed, NamedInteraction, NamedInteractions, renamedWords, renamedAll}
 use Rattle.slices.proofs.Puts.{put-none, put-length, put-behind, set-behind, sets-put}
 
-numbers-length : (ws : List ℕ) (at j : ℕ) (f : ℕ → ℕ) → at + j ≤ length ws → length (nodeNumbers f (part at j ws)) ≡ j
-numbers-length ws at j f h = length-map (part at j ws) (λ (x : ℕ). pred (f x)) ∙ part-length ws at j h
+numbers-length : (ws : List ℕ) (at j : ℕ) (f : ℕ → ℕ) → at + j ≤ length ws → length (nodeNumbers f (wordsFrom at j ws)) ≡ j
+numbers-length ws at j f h = length-map (wordsFrom at j ws) (λ (x : ℕ). pred (f x)) ∙ part-length ws at j h
 
-module _ {ws : List ℕ} {at count : ℕ} {s : List ℕ} (h : Named ws at count s) where
+module _ {ws : List ℕ} {at count : ℕ} {s : List ℕ} (h : NodesNamed ws at count s) where
   module _ {j : ℕ} (l : j < count) where
     -- The next name's mark has no flag.
     plain-mark : getD s (getD ws (at + j) 0) 0 % 65536 ≡ marksOf s (getD ws (at + j) 0)
@@ -33,25 +33,25 @@ module _ {ws : List ℕ} {at count : ℕ} {s : List ℕ} (h : Named ws at count 
       pub number-small : {node : ℕ} → node ≡ pred (getD s x 0 % 65536) → node < 4294967296
       number-small q = omega (arith, number-is q, h .small (getD ws (at + j) 0) (h .named j l .0))
 
-    pub naming-more : (out₀ : List ℕ) (to : ℕ) {out : List ℕ} {node : ℕ} → to + count ≤ length out₀ → out ≡ put out₀ to (nodeNumbers (marksOf s) (part at j ws))
+    pub naming-more : (out₀ : List ℕ) (to : ℕ) {out : List ℕ} {node : ℕ} → to + count ≤ length out₀ → out ≡ put out₀ to (nodeNumbers (marksOf s) (wordsFrom at j ws))
         → node ≡ pred (marksOf s (getD ws (at + j) 0))
-        → set out (to + j) node ≡ put out₀ to (nodeNumbers (marksOf s) (part at (j + 1) ws))
+        → set out (to + j) node ≡ put out₀ to (nodeNumbers (marksOf s) (wordsFrom at (j + 1) ws))
     naming-more out₀ to {out} {node} r e q =
         let f : ℕ → ℕ = marksOf s in
-        let xs : List ℕ = nodeNumbers f (part at j ws) in
+        let xs : List ℕ = nodeNumbers f (wordsFrom at j ws) in
         let n : length xs ≡ j = numbers-length ws at j f (omega (arith, h .inside)) in
         set-behind out₀ out to xs e (to + j) (omega arith) node (omega arith)
         ∙ ap (λ (x : ℕ). put out₀ to (xs ++ (x ∷ []))) q
-        ∙ ap (put out₀ to) (sym (map-append (λ (x : ℕ). pred (f x)) (part at j ws) (getD ws (at + j) 0 ∷ [])))
+        ∙ ap (put out₀ to) (sym (map-append (λ (x : ℕ). pred (f x)) (wordsFrom at j ws) (getD ws (at + j) 0 ∷ [])))
         ∙ ap (λ (y : List ℕ). put out₀ to (nodeNumbers f y)) (sym (part-more ws at j (omega (arith, h .inside))))
 
 -- The words of an interaction, one after the other.
 module _ {ws : List ℕ} {at : ℕ} {s : List ℕ} (h : NamedInteraction ws at s) where
   abbrev count-nodes : List ℕ
-  count-nodes = nodeNumbers (marksOf s) (part (at + 2) 1 ws)
+  count-nodes = nodeNumbers (marksOf s) (wordsFrom (at + 2) 1 ws)
 
   abbrev message-nodes : List ℕ
-  message-nodes = nodeNumbers (marksOf s) (part (at + 4) (messageLength ws at) ws)
+  message-nodes = nodeNumbers (marksOf s) (wordsFrom (at + 4) (messageLength ws at) ws)
 
   one-count : length count-nodes ≡ 1
   one-count = numbers-length ws (at + 2) 1 (marksOf s) (h .count .inside)
@@ -108,12 +108,12 @@ module _ {ws : List ℕ} {at : ℕ} {s out : List ℕ} {to : ℕ} {x y : Interac
     length-two : length o₂ ≡ length out
     length-two = ap length (e₂ ∙ sets-put out to (front h) (omega (arith, p .room))) ∙ put-length out to (front h) (omega (arith, p .room))
 
-    pub count-asks : Named ws (x .count) 1 s × (y .count + 1 ≤ length o₂)
-    count-asks = at-places (λ u v. Named ws (u .count) 1 s × (v .count + 1 ≤ length o₂)) (h .count, omega (arith, length-two, p .room))
+    pub count-asks : NodesNamed ws (x .count) 1 s × (y .count + 1 ≤ length o₂)
+    count-asks = at-places (λ u v. NodesNamed ws (u .count) 1 s × (v .count + 1 ≤ length o₂)) (h .count, omega (arith, length-two, p .room))
 
-    module _ {o₃ : List ℕ} (e₃ : o₃ ≡ put o₂ (y .count) (nodeNumbers (marksOf s) (part (x .count) 1 ws))) where
+    module _ {o₃ : List ℕ} (e₃ : o₃ ≡ put o₂ (y .count) (nodeNumbers (marksOf s) (wordsFrom (x .count) 1 ws))) where
       three-is : o₃ ≡ put o₂ (to + 2) (count-nodes h)
-      three-is = e₃ ∙ λ i. put o₂ (y-is i .count) (nodeNumbers (marksOf s) (part (p .x-is i .count) 1 ws))
+      three-is = e₃ ∙ λ i. put o₂ (y-is i .count) (nodeNumbers (marksOf s) (wordsFrom (p .x-is i .count) 1 ws))
 
       length-three : length o₃ ≡ length out
       length-three = ap length three-is ∙ put-length o₂ (to + 2) (count-nodes h) (omega (arith, one-count h, length-two, p .room)) ∙ length-two
@@ -126,16 +126,16 @@ module _ {ws : List ℕ} {at : ℕ} {s out : List ℕ} {to : ℕ} {x y : Interac
       abbrev o₄ : List ℕ
       o₄ = set o₃ (y .length) (getD ws (x .length) 0)
 
-      pub message-asks : Named ws (x .fields) (x .message) s × (y .fields + x .message ≤ length o₄)
+      pub message-asks : NodesNamed ws (x .fields) (x .message) s × (y .fields + x .message ≤ length o₄)
       message-asks =
           let l : length o₄ ≡ length out = length-set o₃ (y .length) (getD ws (x .length) 0) ∙ length-three in
-          at-places (λ u v. Named ws (u .fields) (u .message) s × (v .fields + u .message ≤ length o₄)) (h .message, omega (arith, l, p .room))
+          at-places (λ u v. NodesNamed ws (u .fields) (u .message) s × (v .fields + u .message ≤ length o₄)) (h .message, omega (arith, l, p .room))
 
-      module _ {o₅ : List ℕ} (e₅ : o₅ ≡ put o₄ (y .fields) (nodeNumbers (marksOf s) (part (x .fields) (x .message) ws))) where
+      module _ {o₅ : List ℕ} (e₅ : o₅ ≡ put o₄ (y .fields) (nodeNumbers (marksOf s) (wordsFrom (x .fields) (x .message) ws))) where
         pub interaction-put : o₅ ≡ put out to (renamedWords ws s at)
         interaction-put =
             all-put h out to (p .room) o₂ o₃ o₅ e₂ three-is
-            (e₅ ∙ λ i. put (set o₃ (y-is i .length) (getD ws (p .x-is i .length) 0)) (y-is i .fields) (nodeNumbers (marksOf s) (part (p .x-is i .fields) (p .x-is i .message) ws)))
+            (e₅ ∙ λ i. put (set o₃ (y-is i .length) (getD ws (p .x-is i .length) 0)) (y-is i .fields) (nodeNumbers (marksOf s) (wordsFrom (p .x-is i .fields) (p .x-is i .message) ws)))
 
         pub interaction-length : length o₅ ≡ length out
         interaction-length = ap length interaction-put ∙ put-length out to (renamedWords ws s at) (omega (arith, renamed-length h, p .room))

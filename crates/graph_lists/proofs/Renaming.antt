@@ -1,4 +1,4 @@
--- The words of interactions with their names turned into nodes.
+-- The words of interactions with their references turned into nodes.
 use mathlib.Core.Path.{_≡_, refl, sym, ap, subst, _∙_}
 use mathlib.Core.List.{List, [], _∷_, _++_, map, flatMap}
 use Prim.Native.Nat.{ℕ, pred, _+_, _≤_, _<_}
@@ -8,7 +8,7 @@ use Rattle.semantics.specs.Sheet.{Interaction, interactionWords}
 use Rattle.semantics.specs.Graph.{renamed}
 use Rattle.semantics.specs.Walk.{Mem}
 use Rattle.semantics.proofs.Members.{mem-here, mem-there, mem-left, mem-right, mem-getD}
-use Rattle.records.specs.Access.{roots, messageLength, eachWords}
+use Rattle.records.specs.Access.{references, messageLength, eachWords}
 use Rattle.records.proofs.Reading.{bus-is, weight-is, count-word, count-is, length-is, message-is, next-stands, interaction-inside, field-word, first-stands}
 use Rattle.graph_lists.specs.Lists.{nodeNumbers, marksOf, NamedInteraction, NamedInteractions, renamedWords, renamedAll}
 
@@ -23,7 +23,7 @@ Marked scratch c = (c < length scratch) × (0 < marksOf scratch c) × (marksOf s
 
 -- One interaction at `at`.
 module _ (ws : List ℕ) (at : ℕ) (x : Interaction) (tail : List ℕ) (e : drop at ws ≡ interactionWords x ++ tail) where
-  -- Its names turned into nodes.
+  -- Its references turned into nodes.
   pub renamed-one : (scratch : List ℕ) (num : ℕ → ℕ) → ((c : ℕ) → Mem c (x .message ++ (x .count ∷ [])) → pred (marksOf scratch c) ≡ num c)
       → renamedWords ws scratch at ≡ interactionWords (renamed num x)
   unfolding renamedWords interactionWords renamed
@@ -35,7 +35,7 @@ module _ (ws : List ℕ) (at : ℕ) (x : Interaction) (tail : List ℕ) (e : dro
       let l = length-is ws at x tail e ∙ sym (length-map (x .message) num) in
       λ i. (bus-is ws at x tail e i ∷ weight-is ws at x tail e i ∷ []) ++ (c i ++ ((l i ∷ []) ++ m i))
 
-  -- Its names have marks.
+  -- Its references have marks.
   pub named-one : (scratch : List ℕ) → ((i : ℕ) → i < length scratch → marksOf scratch i < 65536)
       → ((c : ℕ) → Mem c (x .message ++ (x .count ∷ [])) → (c < length scratch) × (0 < marksOf scratch c) × (marksOf scratch c ≤ length scratch))
       → NamedInteraction ws at scratch
@@ -62,7 +62,7 @@ module _ (ws : List ℕ) (at : ℕ) (x : Interaction) (tail : List ℕ) (e : dro
 module _ (rest : List ℕ) (ws : List ℕ) where
   -- Names turned into nodes.
   pub renamed-are : (at : ℕ) (xs : List Interaction) → drop at ws ≡ flatMap interactionWords xs ++ rest → (scratch : List ℕ) (num : ℕ → ℕ)
-      → ((c : ℕ) → Mem c (roots xs) → pred (marksOf scratch c) ≡ num c)
+      → ((c : ℕ) → Mem c (references xs) → pred (marksOf scratch c) ≡ num c)
       → renamedAll ws scratch at (length xs) ≡ flatMap interactionWords (map (renamed num) xs)
   unfolding flatMap eachWords
   renamed-are at [] e scratch num h = refl
@@ -70,20 +70,20 @@ module _ (rest : List ℕ) (ws : List ℕ) where
       let f = first-stands rest ws at x xs e in
       let ih =
       renamed-are (at + (4 + messageLength ws at)) xs (next-stands ws at x (flatMap interactionWords xs ++ rest) f) scratch num
-      (λ c m. h c (mem-right c (x .message ++ (x .count ∷ [])) (roots xs) m)) in
+      (λ c m. h c (mem-right c (x .message ++ (x .count ∷ [])) (references xs) m)) in
       λ i. renamed-one ws at x (flatMap interactionWords xs ++ rest) f scratch num
-      (λ c m. h c (mem-left c (x .message ++ (x .count ∷ [])) (roots xs) m)) i ++ ih i
+      (λ c m. h c (mem-left c (x .message ++ (x .count ∷ [])) (references xs) m)) i ++ ih i
 
-  -- The names have marks.
+  -- The references have marks.
   pub named-are : (at : ℕ) (xs : List Interaction) → drop at ws ≡ flatMap interactionWords xs ++ rest → (scratch : List ℕ)
       → ((i : ℕ) → i < length scratch → marksOf scratch i < 65536)
-      → ((c : ℕ) → Mem c (roots xs) → (c < length scratch) × (0 < marksOf scratch c) × (marksOf scratch c ≤ length scratch))
+      → ((c : ℕ) → Mem c (references xs) → (c < length scratch) × (0 < marksOf scratch c) × (marksOf scratch c ≤ length scratch))
       → NamedInteractions ws scratch at (length xs)
   unfolding flatMap
   named-are at [] e scratch s h = tt
   named-are at (x ∷ xs) e scratch s h =
       let f = first-stands rest ws at x xs e in (
-        named-one ws at x (flatMap interactionWords xs ++ rest) f scratch s (λ c m. h c (mem-left c (x .message ++ (x .count ∷ [])) (roots xs) m)),
+        named-one ws at x (flatMap interactionWords xs ++ rest) f scratch s (λ c m. h c (mem-left c (x .message ++ (x .count ∷ [])) (references xs) m)),
         named-are (at + (4 + messageLength ws at)) xs (next-stands ws at x (flatMap interactionWords xs ++ rest) f) scratch s
-            (λ c m. h c (mem-right c (x .message ++ (x .count ∷ [])) (roots xs) m)),
+            (λ c m. h c (mem-right c (x .message ++ (x .count ∷ [])) (references xs) m)),
       )

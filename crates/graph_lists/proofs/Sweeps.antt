@@ -15,7 +15,7 @@ use Rattle.semantics.specs.Call.{zeros, padded}
 use Rattle.nodes.specs.Memory.{tabulate}
 use Rattle.nodes.proofs.Marks.{tabulate-length, tabulate-from, tabulate-same, tabulate-set}
 use Rattle.slices.specs.Putting.{put}
-use Rattle.graph_lists.specs.Lists.{plainWord, plainBelow, chosen, Wanted, flaggedAmong, marksOf}
+use Rattle.graph_lists.specs.Lists.{plainWord, plainBelow, oneIf, Wanted, flaggedAmong, marksOf}
 use Rattle.slices.proofs.Puts.{put-none, put-length, put-behind}
 use Rattle.graph_lists.proofs.Flags.{table-of}
 
@@ -37,12 +37,12 @@ put-padded W xs lent h =
         ∙ drop-at (replicate (length xs) 0) (replicate (lent - length (W ++ xs)) 0) (length xs) (length-replicate (length xs) 0)
 
 -- The flagged among one more.
-pub among-more : (k n : ℕ) (s : List ℕ) → flaggedAmong k (suc n) s ≡ flaggedAmong k n s ++ chosen (leb 65536 (marksOf s (k + n))) (k + n)
+pub among-more : (k n : ℕ) (s : List ℕ) → flaggedAmong k (suc n) s ≡ flaggedAmong k n s ++ oneIf (leb 65536 (marksOf s (k + n))) (k + n)
 unfolding flaggedAmong
-among-more k zero s = append-nil (chosen (leb 65536 (marksOf s k)) k) ∙ ap (λ (j : ℕ). chosen (leb 65536 (marksOf s j)) j) (omega arith)
+among-more k zero s = append-nil (oneIf (leb 65536 (marksOf s k)) k) ∙ ap (λ (j : ℕ). oneIf (leb 65536 (marksOf s j)) j) (omega arith)
 among-more k (suc n) s =
-    ap (λ (l : List ℕ). chosen (leb 65536 (marksOf s k)) k ++ l) (among-more (suc k) n s ∙ ap (λ (j : ℕ). flaggedAmong (suc k) n s ++ chosen (leb 65536 (marksOf s j)) j) next)
-    ∙ sym (append-assoc (chosen (leb 65536 (marksOf s k)) k) (flaggedAmong (suc k) n s) (chosen (leb 65536 (marksOf s (k + suc n))) (k + suc n)))
+    ap (λ (l : List ℕ). oneIf (leb 65536 (marksOf s k)) k ++ l) (among-more (suc k) n s ∙ ap (λ (j : ℕ). flaggedAmong (suc k) n s ++ oneIf (leb 65536 (marksOf s j)) j) next)
+    ∙ sym (append-assoc (oneIf (leb 65536 (marksOf s k)) k) (flaggedAmong (suc k) n s) (oneIf (leb 65536 (marksOf s (k + suc n))) (k + suc n)))
   where
     next : suc k + n ≡ k + suc n
     next = omega arith
@@ -103,11 +103,11 @@ module _ {s₀ out₀ : List ℕ} {at nodes : ℕ} {s out : List ℕ} {next node
       )
 
   module _ (l : node < nodes) where
-    swept-room : at + length (flaggedAmong 0 node s₀) + length (chosen (leb 65536 (marksOf s₀ node)) node) ≤ length out₀
+    swept-room : at + length (flaggedAmong 0 node s₀) + length (oneIf (leb 65536 (marksOf s₀ node)) node) ≤ length out₀
     swept-room =
-        let e = ap length (among-more 0 node s₀) ∙ length-append (flaggedAmong 0 node s₀) (chosen (leb 65536 (marksOf s₀ (0 + node))) (0 + node)) in
-        let z : length (chosen (leb 65536 (marksOf s₀ (0 + node))) (0 + node)) ≡ length (chosen (leb 65536 (marksOf s₀ node)) node) =
-        ap (λ (j : ℕ). length (chosen (leb 65536 (marksOf s₀ j)) j)) (zero-add node) in
+        let e = ap length (among-more 0 node s₀) ∙ length-append (flaggedAmong 0 node s₀) (oneIf (leb 65536 (marksOf s₀ (0 + node))) (0 + node)) in
+        let z : length (oneIf (leb 65536 (marksOf s₀ (0 + node))) (0 + node)) ≡ length (oneIf (leb 65536 (marksOf s₀ node)) node) =
+        ap (λ (j : ℕ). length (oneIf (leb 65536 (marksOf s₀ j)) j)) (zero-add node) in
         omega (arith, among-le s₀ (suc node) nodes 0 (omega arith))
 
     -- The entry at `node` is as it was.
@@ -121,31 +121,31 @@ module _ {s₀ out₀ : List ℕ} {at nodes : ℕ} {s out : List ℕ} {next node
     pub swept-wanted : (b : Bool) → b ≡ leb 65536 (getD s node 0) → Wanted b next out
     swept-wanted b e =
         let w = e ∙ ap (leb 65536) swept-word in
-        go b swept-room (ap (λ (c : Bool). length (chosen c node)) w)
+        go b swept-room (ap (λ (c : Bool). length (oneIf c node)) w)
       where
-        go : (c : Bool) → at + length (flaggedAmong 0 node s₀) + length (chosen (leb 65536 (marksOf s₀ node)) node) ≤ length out₀
-            → length (chosen c node) ≡ length (chosen (leb 65536 (marksOf s₀ node)) node) → Wanted c next out
+        go : (c : Bool) → at + length (flaggedAmong 0 node s₀) + length (oneIf (leb 65536 (marksOf s₀ node)) node) ≤ length out₀
+            → length (oneIf c node) ≡ length (oneIf (leb 65536 (marksOf s₀ node)) node) → Wanted c next out
         go true r q = omega (arith, h .next-is, swept-lengths .1)
         go false r q = tt
 
     pub swept-more : (b : Bool) → b ≡ leb 65536 (getD s node 0) → (s′ out′ : List ℕ) (next′ : ℕ)
-        → s′ ≡ set s node (plainWord (getD s node 0)) → out′ ≡ put out next (chosen b node) → next′ ≡ next + length (chosen b node)
+        → s′ ≡ set s node (plainWord (getD s node 0)) → out′ ≡ put out next (oneIf b node) → next′ ≡ next + length (oneIf b node)
         → Swept s₀ out₀ at nodes s′ out′ next′ (node + 1)
     swept-more b e s′ out′ next′ q o n =
         let w : b ≡ leb 65536 (marksOf s₀ node) = e ∙ ap (leb 65536) swept-word in
         let old : List ℕ = flaggedAmong 0 node s₀ in
-        let new : old ++ chosen b node ≡ flaggedAmong 0 (node + 1) s₀ =
-        ap (λ (c : Bool). old ++ chosen c node) w ∙ ap (λ (j : ℕ). old ++ chosen (leb 65536 (marksOf s₀ j)) j) (sym (zero-add node))
+        let new : old ++ oneIf b node ≡ flaggedAmong 0 (node + 1) s₀ =
+        ap (λ (c : Bool). old ++ oneIf c node) w ∙ ap (λ (j : ℕ). old ++ oneIf (leb 65536 (marksOf s₀ j)) j) (sym (zero-add node))
         ∙ sym (among-more 0 node s₀) ∙ ap (λ (j : ℕ). flaggedAmong 0 j s₀) (sym (add-one node)) in
-        let r : at + length old + length (chosen b node) ≤ length out₀ =
-        subst (λ (c : Bool). at + length old + length (chosen c node) ≤ length out₀) (sym w) swept-room in
+        let r : at + length old + length (oneIf b node) ≤ length out₀ =
+        subst (λ (c : Bool). at + length old + length (oneIf c node) ≤ length out₀) (sym w) swept-room in
         record {
           node-le = omega arith;
           scratch-is = q ∙ ap (λ (v : ℕ). set s node (plainWord v)) swept-word ∙ ap (λ (u : List ℕ). set u node (plainWord (marksOf s₀ node))) (h .scratch-is)
               ∙ tabulate-set (length s₀) (plainBelow node s₀) node (plainWord (marksOf s₀ node)) (omega arith)
               ∙ tabulate-same (length s₀) (setNum node (plainWord (marksOf s₀ node)) (plainBelow node s₀)) (plainBelow (node + 1) s₀) (λ i m. plain-next s₀ node i (eqb i node) refl);
-          out-is = o ∙ put-behind out₀ out at old (h .out-is) next (h .next-is) (chosen b node) r ∙ ap (put out₀ at) new;
-          next-is = n ∙ ap (λ (k : ℕ). k + length (chosen b node)) (h .next-is) ∙ sum old (chosen b node) ∙ ap (λ (u : List ℕ). at + length u) new;
+          out-is = o ∙ put-behind out₀ out at old (h .out-is) next (h .next-is) (oneIf b node) r ∙ ap (put out₀ at) new;
+          next-is = n ∙ ap (λ (k : ℕ). k + length (oneIf b node)) (h .next-is) ∙ sum old (oneIf b node) ∙ ap (λ (u : List ℕ). at + length u) new;
         }
       where
         sum : (xs ys : List ℕ) → at + length xs + length ys ≡ at + length (xs ++ ys)

@@ -12,7 +12,7 @@ use Rattle.semantics.specs.Walk.{member, order}
 use Rattle.semantics.specs.Graph.{graphRoots, graphOf}
 use Rattle.semantics.specs.Call.{padded}
 use Rattle.records.specs.Access.{recordsOf, messageLength, eachWords, countAt, fieldsAt}
-use Rattle.nodes.specs.Memory.{Holds}
+use Rattle.nodes.specs.Memory.{GraphHolds}
 
 -- The nodes of the constraints are flagged in scratch by 65,536 while they are put into ascending order.
 unfoldable pub flagged : (ℕ → ℕ) → List ℕ → ℕ → ℕ
@@ -28,8 +28,8 @@ nodeNumbers f xs = map (λ (x : ℕ). pred (f x)) xs
 abbrev pub marksOf : List ℕ → ℕ → ℕ
 marksOf scratch i = getD scratch i 0
 
--- What turning names into node numbers asks: marks below the flag, names of records that have a mark.
-pub record Named (ws : List ℕ) (at count : ℕ) (scratch : List ℕ) : Type 0 where
+-- What turning references into node numbers asks: marks below the flag, references of records that have a mark.
+pub record NodesNamed (ws : List ℕ) (at count : ℕ) (scratch : List ℕ) : Type 0 where
   pub small : (i : ℕ) → i < length scratch → marksOf scratch i < 65536
   pub inside : at + count ≤ length ws
   pub named : (j : ℕ) → j < count
@@ -43,9 +43,9 @@ unfoldable pub plainBelow : (n : ℕ) → List ℕ → ℕ → ℕ
 plainBelow n scratch i = cond (ltb i n) (plainWord (marksOf scratch i)) (marksOf scratch i)
 
 -- A number, where it is wanted.
-abbrev pub chosen : Bool → ℕ → List ℕ
-chosen true x = x ∷ []
-chosen false x = []
+abbrev pub oneIf : Bool → ℕ → List ℕ
+oneIf true x = x ∷ []
+oneIf false x = []
 
 abbrev pub Wanted : Bool → ℕ → List ℕ → Type 0
 Wanted true at out = at < length out
@@ -54,9 +54,9 @@ Wanted false at out = Unit {0}
 -- The flagged entries among k, k + 1, .., n of them.
 unfoldable pub flaggedAmong : (k n : ℕ) → List ℕ → List ℕ
 flaggedAmong k zero scratch = []
-flaggedAmong k (suc n) scratch = chosen (leb 65536 (marksOf scratch k)) k ++ flaggedAmong (suc k) n scratch
+flaggedAmong k (suc n) scratch = oneIf (leb 65536 (marksOf scratch k)) k ++ flaggedAmong (suc k) n scratch
 
--- The words of an interaction that stands at `at`, its names turned into nodes, and of as many as said.
+-- The words of an interaction that stands at `at`, its references turned into nodes, and of as many as said.
 unfoldable pub renamedWords : (ws : List ℕ) (scratch : List ℕ) (at : ℕ) → List ℕ
 renamedWords ws scratch at =
     (getD ws at 0 ∷ getD ws (at + 1) 0 ∷ [])
@@ -66,11 +66,11 @@ renamedWords ws scratch at =
 abbrev pub renamedAll : (ws : List ℕ) (scratch : List ℕ) (at n : ℕ) → List ℕ
 renamedAll ws scratch at n = eachWords (renamedWords ws scratch) ws at n
 
--- What turning their names into nodes asks.
+-- What turning their references into nodes asks.
 pub record NamedInteraction (ws : List ℕ) (at : ℕ) (scratch : List ℕ) : Type 0 where
   pub inside : at + (4 + messageLength ws at) ≤ length ws
-  pub count : Named ws (at + 2) 1 scratch
-  pub message : Named ws (at + 4) (messageLength ws at) scratch
+  pub count : NodesNamed ws (at + 2) 1 scratch
+  pub message : NodesNamed ws (at + 4) (messageLength ws at) scratch
 
 abbrev pub NamedInteractions : (ws : List ℕ) (scratch : List ℕ) (at n : ℕ) → Type 0
 NamedInteractions ws scratch at zero = Unit {0}
@@ -80,10 +80,10 @@ NamedInteractions ws scratch at (suc n) = NamedInteraction ws at scratch × Name
 abbrev pub allAdded : List ℕ → List ℕ
 allAdded ws = order (recordsOf ws) (graphRoots (readSheet ws))
 
-pub record Finishing (ws scratch out : List ℕ) (n : ℕ) : Type 0 where
+pub record ToWriteLists (ws scratch out : List ℕ) (n : ℕ) : Type 0 where
   pub checked : check (primeOf ws) ws ≡ good (readSheet ws)
   pub room : lengthOf (readSheet ws) ≤ length out
-  pub holds : Holds ws (allAdded ws) scratch out n
+  pub holds : GraphHolds ws (allAdded ws) scratch out n
 
 -- The graph in the output.
 abbrev pub graphOut : (lent : ℕ) → List ℕ → List ℕ

@@ -4,11 +4,11 @@ ghost use Prim.Native.Nat.{pred, _+_, _%_, _≤_, _<_};
 ghost use lib.Dec.{leb};
 ghost use lib.ListN.{length, getD, set};
 ghost use Rattle.semantics.specs.Check.{readSheet};
-ghost use Rattle.records.specs.Access.{constraintsAt, part, messageLength};
+ghost use Rattle.records.specs.Access.{constraintsAt, wordsFrom, messageLength};
 ghost use Rattle.nodes.specs.Memory.{tabulate};
 ghost use Rattle.slices.specs.Putting.{put};
-ghost use Rattle.graph_lists.specs.Lists.{flagWord, plainWord, plainBelow, flagged, flaggedAmong, chosen, Wanted, nodeNumbers, marksOf, Named};
-ghost use Rattle.graph_lists.specs.Lists.{NamedInteraction, NamedInteractions, renamedWords, renamedAll, Finishing, graphOut, graphLength};
+ghost use Rattle.graph_lists.specs.Lists.{flagWord, plainWord, plainBelow, flagged, flaggedAmong, oneIf, Wanted, nodeNumbers, marksOf, NodesNamed};
+ghost use Rattle.graph_lists.specs.Lists.{NamedInteraction, NamedInteractions, renamedWords, renamedAll, ToWriteLists, graphOut, graphLength};
 
 // Above every mark: a mark is a node's number counted from 1.
 const FLAG: u32 = 65536;
@@ -35,9 +35,9 @@ fn flag_node(scratch: &mut [u32], node: usize)
 
 // Flags the nodes that the records named from `at` on have.
 fn flag_nodes(sheet: &[u32], at: usize, count: usize, scratch: &mut [u32])
-    requires { ⌜ Named (now sheet) at count (now scratch) ⌝ }
+    requires { ⌜ NodesNamed (now sheet) at count (now scratch) ⌝ }
     ensures { λ _. ⌜ now (scratch .exit) ≡ tabulate 0 (length (now (scratch .entry)))
-        (flagged (marksOf (now (scratch .entry))) (nodeNumbers (marksOf (now (scratch .entry))) (part at count (now (sheet .entry))))) ⌝ }
+        (flagged (marksOf (now (scratch .entry))) (nodeNumbers (marksOf (now (scratch .entry))) (wordsFrom at count (now (sheet .entry))))) ⌝ }
 {
     let mut j = 0;
     while j < count {
@@ -64,7 +64,7 @@ fn unflag_node(scratch: &mut [u32], node: usize) -> bool
 // Writes a node's number at `at` where it is wanted, and hands back where the output goes on.
 fn put_node(out: &mut [u32], at: usize, node: usize, wanted: bool) -> usize
     requires { ⌜ (node < 4294967296) × Wanted wanted at (now out) ⌝ }
-    ensures { λ r. ⌜ (now (out .exit) ≡ put (now (out .entry)) at (chosen wanted node)) × (r ≡ at + length (chosen wanted node)) ⌝ }
+    ensures { λ r. ⌜ (now (out .exit) ≡ put (now (out .entry)) at (oneIf wanted node)) × (r ≡ at + length (oneIf wanted node)) ⌝ }
 {
     if !wanted {
         return at;
@@ -92,9 +92,17 @@ fn write_flagged(scratch: &mut [u32], nodes: usize, out: &mut [u32], at: usize) 
 }
 
 // Writes the nodes of the records named from `at` on.
-fn write_names(sheet: &[u32], at: usize, count: usize, scratch: &[u32], out: &mut [u32], to: usize)
-    requires { ⌜ Named (now sheet) at count (now scratch) × (to + count ≤ length (now out)) ⌝ }
-    ensures { λ _. ⌜ now (out .exit) ≡ put (now (out .entry)) to (nodeNumbers (marksOf (now (scratch .entry))) (part at count (now (sheet .entry)))) ⌝ }
+fn write_references(
+    sheet: &[u32],
+    at: usize,
+    count: usize,
+    scratch: &[u32],
+    out: &mut [u32],
+    to: usize,
+)
+    requires { ⌜ NodesNamed (now sheet) at count (now scratch) × (to + count ≤ length (now out)) ⌝ }
+    ensures { λ _. ⌜ now (out .exit)
+        ≡ put (now (out .entry)) to (nodeNumbers (marksOf (now (scratch .entry))) (wordsFrom at count (now (sheet .entry)))) ⌝ }
 {
     let mut j = 0;
     while j < count {
@@ -104,7 +112,7 @@ fn write_names(sheet: &[u32], at: usize, count: usize, scratch: &[u32], out: &mu
     }
 }
 
-// Writes an interaction with its names turned into nodes, and hands back where the output goes on.
+// Writes an interaction with its references turned into nodes, and hands back where the output goes on.
 fn write_interaction(sheet: &[u32], at: usize, scratch: &[u32], out: &mut [u32], to: usize) -> usize
     requires { ⌜ NamedInteraction (now sheet) at (now scratch) × (to + (4 + messageLength (now sheet) at) ≤ length (now out)) ⌝ }
     ensures { λ r. ⌜ (now (out .exit) ≡ put (now (out .entry)) to (renamedWords (now (sheet .entry)) (now (scratch .entry)) at))
@@ -113,11 +121,11 @@ fn write_interaction(sheet: &[u32], at: usize, scratch: &[u32], out: &mut [u32],
     let x = records::interaction_at(sheet, at);
     let y = records::interaction_from(to, x.message);
     records::copy_bus_and_weight(sheet, at, out, to);
-    write_names(sheet, x.count, 1, scratch, out, y.count);
+    write_references(sheet, x.count, 1, scratch, out, y.count);
     let from = x.length;
     let length = y.length;
     out[length] = sheet[from];
-    write_names(sheet, x.fields, x.message, scratch, out, y.fields);
+    write_references(sheet, x.fields, x.message, scratch, out, y.fields);
     y.next
 }
 
@@ -158,7 +166,7 @@ pub fn write_graph(
     out: &mut [u32],
     n: usize,
 ) -> usize
-    requires { ⌜ Finishing (now sheet) (now scratch) (now out) n × (at ≡ constraintsAt (now sheet))
+    requires { ⌜ ToWriteLists (now sheet) (now scratch) (now out) n × (at ≡ constraintsAt (now sheet))
         × (constraints ≡ length (readSheet (now sheet) .constraints)) × (interactions ≡ length (readSheet (now sheet) .interactions)) ⌝ }
     ensures { λ r. ⌜ (now (out .exit) ≡ graphOut (length (now (out .entry))) (now (sheet .entry))) × (r ≡ graphLength (now (sheet .entry))) ⌝ }
 {

@@ -22,7 +22,7 @@ use Rattle.records.specs.Access.{recordsOf}
 use Rattle.records.specs.Orders.{Order, There}
 use Rattle.records.proofs.Steps.{few-records, order-more}
 use Rattle.nodes.specs.Nodes.{NoneBefore, aboveAll}
-use Rattle.nodes.specs.Memory.{builtOf, Holds}
+use Rattle.nodes.specs.Memory.{builtOf, GraphHolds}
 use Rattle.nodes.proofs.States as states
 use Rattle.nodes.proofs.Searches.{from-inside, from-none}
 use Rattle.graph_walk.specs.Walking.{Adding, pickOfRecord}
@@ -95,7 +95,7 @@ module _ {ws : List ℕ} {r : ℕ} {scratch out : List ℕ} {n : ℕ} (p : Addin
       omega (arith, place-most 5 (n + 1) E few, p .ready .room)
 
   -- The same for any order of which the state holds.
-  abbrev pub at-order : (d : List ℕ) → Order ws d → member r d ≡ false → There ws r d → Holds ws d scratch out n → Adding ws r scratch out n
+  abbrev pub at-order : (d : List ℕ) → Order ws d → member r d ≡ false → There ws r d → GraphHolds ws d scratch out n → Adding ws r scratch out n
   at-order d o new there h = record {
     ready = record { checked = p .ready .checked; inside = p .ready .inside; room = p .ready .room; done = d; order = o; holds = h };
     new = new;

@@ -25,7 +25,7 @@ use Rattle.records.proofs.Steps.{child-low}
 use Rattle.records.proofs.Visits.{kind-limits, is, kind-is, a-is, b-is, c-is, has-a, has-b}
 use Rattle.nodes.specs.declared.rules.Child.{Child}
 use Rattle.nodes.specs.Picks.{viewOf}
-use Rattle.nodes.specs.Memory.{builtOf, Holds}
+use Rattle.nodes.specs.Memory.{builtOf, GraphHolds}
 use Rattle.nodes.proofs.RuleLaws.{seen, view-add, view-sub, view-mul, view-neg}
 use Rattle.nodes.proofs.NodeLaws.{child-sees}
 use Rattle.nodes.proofs.States as states
@@ -82,7 +82,7 @@ pub record Picking (ws : List ℕ) (r : ℕ) (q : declared.Record) (done scratch
   pub words-are : fiveWords q ≡ nodeIn ws r
   pub order : Order ws done
   pub there : There ws r done
-  pub holds : Holds ws done scratch out n
+  pub holds : GraphHolds ws done scratch out n
 
 module _ {ws : List ℕ} {r : ℕ} {q : declared.Record} {done scratch out : List ℕ} {n : ℕ} (b : Picking ws r q done scratch out n) where
   abbrev R : Record

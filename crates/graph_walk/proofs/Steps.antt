@@ -7,16 +7,16 @@ use Rattle.semantics.specs.Sheet.{Record}
 use Rattle.semantics.specs.Graph as graph
 use Rattle.semantics.specs.Graph.{Built, takeIn, addRecord, build, find, intern}
 use Rattle.records.specs.Access.{recordsOf}
-use Rattle.nodes.specs.Memory.{tabulate, mark, nodesOut, builtOf, Holds}
+use Rattle.nodes.specs.Memory.{tabulate, mark, nodesOut, builtOf, GraphHolds}
 use Rattle.nodes.proofs.Marks.{mark-more}
 use Rattle.graph_walk.specs.Walking.{pickOfRecord}
 
 -- A record that goes to a node that is there, and one whose node is interned.
-module _ (ws done scratch out : List ℕ) (n : ℕ) (h : Holds ws done scratch out n) (r : ℕ) (l : r < length (recordsOf ws)) where
+module _ (ws done scratch out : List ℕ) (n : ℕ) (h : GraphHolds ws done scratch out n) (r : ℕ) (l : r < length (recordsOf ws)) where
   abbrev step : graph.Pick → Built
   step q = takeIn (builtOf ws done) r q
 
-  pub holds-present : (k : ℕ) → pickOfRecord ws r done ≡ graph.present k → Holds ws (r ∷ done) (set scratch r (suc k)) out n
+  pub holds-present : (k : ℕ) → pickOfRecord ws r done ≡ graph.present k → GraphHolds ws (r ∷ done) (set scratch r (suc k)) out n
   unfolding builtOf build addRecord takeIn
   holds-present k e = record {
     scratch-is =
@@ -28,7 +28,7 @@ module _ (ws done scratch out : List ℕ) (n : ℕ) (h : Holds ws done scratch o
 
   pub holds-made : (q : Record) → pickOfRecord ws r done ≡ graph.make q → (out′ : List ℕ) (index n′ : ℕ) → length out′ ≡ length out
       → index ≡ find q (builtOf ws done .nodes) → out′ ≡ nodesOut (length out) (intern q (builtOf ws done .nodes))
-      → n′ ≡ length (intern q (builtOf ws done .nodes)) → Holds ws (r ∷ done) (set scratch r (suc index)) out′ n′
+      → n′ ≡ length (intern q (builtOf ws done .nodes)) → GraphHolds ws (r ∷ done) (set scratch r (suc index)) out′ n′
   unfolding builtOf build addRecord takeIn
   holds-made q e out′ index n′ s i o c = record {
     scratch-is =

@@ -24,7 +24,7 @@ use Rattle.records.proofs.Children.{none-read, one-read, left-read, two-read}
 use Rattle.records.proofs.Rooting.{visiting-none, visiting-one, visiting-both}
 use Rattle.records.proofs.Visited.{Visits, Finishes, visiting-again, children-below, children-new, all-there, visits-seen, visits-new}
 use Rattle.nodes.proofs.States as states
-use Rattle.graph_walk.specs.Walking.{Ready, Adding, Walking, Walks, childOf}
+use Rattle.graph_walk.specs.Walking.{AddReady, Adding, AddWalking, Walks, childOf}
 use Rattle.graph_walk.proofs.Rooting.{State, walking-after, ready-root, walking-length}
 
 -- The first i children to which the loop goes.
@@ -74,11 +74,11 @@ pub record Children (ws : List ℕ) (r : ℕ) (s₀ o₀ : List ℕ) (n : ℕ) (
   pub out-length : length o ≡ length o₀
   pub visits : Walks ws (firstOf (nodeIn ws r) i) s₀ o₀ n s o u
 
-module _ {ws : List ℕ} {r : ℕ} {s₀ o₀ : List ℕ} {n : ℕ} (p : Ready ws r s₀ o₀ n) where
+module _ {ws : List ℕ} {r : ℕ} {s₀ o₀ : List ℕ} {n : ℕ} (p : AddReady ws r s₀ o₀ n) where
   abbrev E : ℕ
   E = length (recordsOf ws)
 
-  abbrev walking : Walking ws s₀ o₀ n
+  abbrev walking : AddWalking ws s₀ o₀ n
   walking = record { checked = p .checked; room = p .room; done = p .done; order = p .order; holds = p .holds }
 
   -- It is added already.
@@ -115,7 +115,7 @@ module _ {ws : List ℕ} {r : ℕ} {s₀ o₀ : List ℕ} {n : ℕ} (p : Ready w
     first-below : (c : ℕ) → Mem c (firstOf (nodeIn ws r) i) → c < E
     first-below = children-below ws (p .checked) r (p .inside) (firstOf (nodeIn ws r) i) (first-in ws (p .checked) r (p .inside) k i) (p .done)
 
-    walking-now : Walking ws s o u
+    walking-now : AddWalking ws s o u
     walking-now = walking-after ws (firstOf (nodeIn ws r) i) first-below s₀ o₀ n s o u walking (h .out-length) (h .visits)
 
     pub scratch-kept : length s ≡ length s₀
@@ -132,7 +132,7 @@ module _ {ws : List ℕ} {r : ℕ} {s₀ o₀ : List ℕ} {n : ℕ} (p : Ready w
       pub child-below : c < r
       child-below = child-low ws (p .checked) r c next-in
 
-      pub child-ready : Ready ws c s o u
+      pub child-ready : AddReady ws c s o u
       child-ready = ready-root ws c next-inside s o u walking-now
 
       pub children-more : i < 2 → (s₁ o₁ : List ℕ) (u₁ : ℕ) → length o₁ ≡ length o → Visits ws c (State ws s o u) (State ws s₁ o₁ u₁)

@@ -13,20 +13,20 @@ use Rattle.semantics.specs.Value.{nodeOf, recordAt}
 use Rattle.semantics.specs.Graph.{Pick, pick}
 use Rattle.records.specs.Access.{recordsOf}
 use Rattle.records.specs.Orders.{Order, There, Visiting}
-use Rattle.nodes.specs.Memory.{builtOf, Holds}
+use Rattle.nodes.specs.Memory.{builtOf, GraphHolds}
 
 -- What adding a record asks: a checked sheet, a record of it, room for as many nodes as records.
-pub record Ready (ws : List ℕ) (r : ℕ) (scratch out : List ℕ) (n : ℕ) : Type 0 where
+pub record AddReady (ws : List ℕ) (r : ℕ) (scratch out : List ℕ) (n : ℕ) : Type 0 where
   pub checked : check (primeOf ws) ws ≡ good (readSheet ws)
   pub inside : r < length (recordsOf ws)
   pub room : place 5 (length (recordsOf ws)) ≤ length out
   pub done : List ℕ
   pub order : Order ws done
-  pub holds : Holds ws done scratch out n
+  pub holds : GraphHolds ws done scratch out n
 
 -- What adding a record whose children are added asks.
 pub record Adding (ws : List ℕ) (r : ℕ) (scratch out : List ℕ) (n : ℕ) : Type 0 where
-  pub ready : Ready ws r scratch out n
+  pub ready : AddReady ws r scratch out n
   pub new : member r (ready .done) ≡ false
   pub there : There ws r (ready .done)
 
@@ -38,13 +38,13 @@ abbrev pub childOf : Record → (i : ℕ) → ℕ
 childOf m i = cond (eqb i 0) (m .a) (cond (eqb (m .kind) 8) (m .a) (m .b))
 
 -- What adding records asks when none is said: a checked sheet, and room for as many nodes as records.
-pub record Walking (ws scratch out : List ℕ) (n : ℕ) : Type 0 where
+pub record AddWalking (ws scratch out : List ℕ) (n : ℕ) : Type 0 where
   pub checked : check (primeOf ws) ws ≡ good (readSheet ws)
   pub room : place 5 (length (recordsOf ws)) ≤ length out
   pub done : List ℕ
   pub order : Order ws done
-  pub holds : Holds ws done scratch out n
+  pub holds : GraphHolds ws done scratch out n
 
 -- Scratch and output go from the one to the other as these records are added.
 abbrev pub Walks : (ws roots : List ℕ) (scratch out : List ℕ) (n : ℕ) (scratch′ out′ : List ℕ) (n′ : ℕ) → Type 0
-Walks ws roots scratch out n scratch′ out′ n′ = Visiting ws roots (λ done. Holds ws done scratch out n) (λ done. Holds ws done scratch′ out′ n′)
+Walks ws roots scratch out n scratch′ out′ n′ = Visiting ws roots (λ done. GraphHolds ws done scratch out n) (λ done. GraphHolds ws done scratch′ out′ n′)

@@ -9,11 +9,11 @@ ghost use Rattle.semantics.specs.Arithmetic.{prime};
 ghost use Rattle.semantics.specs.Sheet.{place};
 ghost use Rattle.semantics.specs.Graph.{addRule, subRule, mulRule};
 ghost use Rattle.semantics.specs.Walk.{member, visit, childrenAt};
-ghost use Rattle.records.specs.Access.{nodeIn, recordsOf, part, fieldsAt, countAt, rootWords, NamesInside, RootsInside, AllRootsInside};
+ghost use Rattle.records.specs.Access.{nodeIn, recordsOf, wordsFrom, fieldsAt, countAt, rootWords, ReferencesInside, RootsInside, AllRootsInside};
 ghost use Rattle.records.specs.Orders.{Order, There};
 ghost use Rattle.nodes.specs.Picks.{pickOf, viewOf};
-ghost use Rattle.nodes.specs.Memory.{Holds};
-ghost use Rattle.graph_walk.specs.Walking.{Ready, Adding, pickOfRecord, childOf, Walking, Walks};
+ghost use Rattle.nodes.specs.Memory.{GraphHolds};
+ghost use Rattle.graph_walk.specs.Walking.{AddReady, Adding, pickOfRecord, childOf, AddWalking, Walks};
 use nodes::rules;
 use nodes::rules::Child;
 use nodes::rules::Pick;
@@ -47,7 +47,7 @@ fn two_rule(kind: u32, l: Child, r: Child, g: u32) -> Pick
 fn pick_node(sheet: &[u32], scratch: &[u32], out: &[u32], r: usize) -> Pick
     requires { ⌜ ((n : ℕ) × Adding (now sheet) r (now scratch) (now out) n) ⌝ }
     ensures { λ x. ⌜ ((done : List ℕ) → Order (now (sheet .entry)) done → There (now (sheet .entry)) r done
-        → (n : ℕ) → Holds (now (sheet .entry)) done (now (scratch .entry)) (now (out .entry)) n
+        → (n : ℕ) → GraphHolds (now (sheet .entry)) done (now (scratch .entry)) (now (out .entry)) n
         → pickOf x ≡ pickOfRecord (now (sheet .entry)) r done) ⌝ }
 {
     let q = records::record_at(sheet, r);
@@ -70,8 +70,8 @@ fn pick_node(sheet: &[u32], scratch: &[u32], out: &[u32], r: usize) -> Pick
 fn add_record(sheet: &[u32], scratch: &mut [u32], out: &mut [u32], r: usize, n: usize) -> usize
     requires { ⌜ Adding (now sheet) r (now scratch) (now out) n ⌝ }
     ensures { λ u. ⌜ ((done : List ℕ) → Order (now (sheet .entry)) done → member r done ≡ false
-        → There (now (sheet .entry)) r done → Holds (now (sheet .entry)) done (now (scratch .entry)) (now (out .entry)) n
-        → Holds (now (sheet .entry)) (r ∷ done) (now (scratch .exit)) (now (out .exit)) u) ⌝ }
+        → There (now (sheet .entry)) r done → GraphHolds (now (sheet .entry)) done (now (scratch .entry)) (now (out .entry)) n
+        → GraphHolds (now (sheet .entry)) (r ∷ done) (now (scratch .exit)) (now (out .exit)) u) ⌝ }
 {
     match pick_node(sheet, scratch, out, r) {
         Pick::Present(k) => {
@@ -104,9 +104,9 @@ fn child_at(sheet: &[u32], r: usize, i: usize) -> usize
 // Adds record r with all that it reaches, children first, left before right; hands back the number of nodes.
 // The call for a child stands once, in a loop: a second one would have room of its own in the stack of each level.
 fn add_expr(sheet: &[u32], scratch: &mut [u32], out: &mut [u32], r: usize, n: usize) -> usize
-    requires { ⌜ Ready (now sheet) r (now scratch) (now out) n ⌝ }
-    ensures { λ u. ⌜ ((done : List ℕ) → Order (now (sheet .entry)) done → Holds (now (sheet .entry)) done (now (scratch .entry)) (now (out .entry)) n
-        → Holds (now (sheet .entry)) (visit (childrenAt (recordsOf (now (sheet .entry)))) (suc r) done r) (now (scratch .exit))
+    requires { ⌜ AddReady (now sheet) r (now scratch) (now out) n ⌝ }
+    ensures { λ u. ⌜ ((done : List ℕ) → Order (now (sheet .entry)) done → GraphHolds (now (sheet .entry)) done (now (scratch .entry)) (now (out .entry)) n
+        → GraphHolds (now (sheet .entry)) (visit (childrenAt (recordsOf (now (sheet .entry)))) (suc r) done r) (now (scratch .exit))
         (now (out .exit)) u) ⌝ }
 {
     if scratch[r] != 0 {
@@ -126,7 +126,7 @@ fn add_expr(sheet: &[u32], scratch: &mut [u32], out: &mut [u32], r: usize, n: us
 }
 
 // Adds the records that the words from `at` on name.
-pub fn add_names(
+pub fn add_references(
     sheet: &[u32],
     at: usize,
     count: usize,
@@ -134,8 +134,8 @@ pub fn add_names(
     out: &mut [u32],
     n: usize,
 ) -> usize
-    requires { ⌜ Walking (now sheet) (now scratch) (now out) n × NamesInside (now sheet) at count ⌝ }
-    ensures { λ u. ⌜ Walks (now (sheet .entry)) (part at count (now (sheet .entry))) (now (scratch .entry)) (now (out .entry)) n (now (scratch .exit))
+    requires { ⌜ AddWalking (now sheet) (now scratch) (now out) n × ReferencesInside (now sheet) at count ⌝ }
+    ensures { λ u. ⌜ Walks (now (sheet .entry)) (wordsFrom at count (now (sheet .entry))) (now (scratch .entry)) (now (out .entry)) n (now (scratch .exit))
         (now (out .exit)) u ⌝ }
 {
     let mut used = n;
@@ -156,13 +156,13 @@ fn add_interaction(
     out: &mut [u32],
     n: usize,
 ) -> usize
-    requires { ⌜ Walking (now sheet) (now scratch) (now out) n × RootsInside (length (recordsOf (now sheet))) (now sheet) at ⌝ }
+    requires { ⌜ AddWalking (now sheet) (now scratch) (now out) n × RootsInside (length (recordsOf (now sheet))) (now sheet) at ⌝ }
     ensures { λ u. ⌜ Walks (now (sheet .entry)) (fieldsAt (now (sheet .entry)) at ++ countAt (now (sheet .entry)) at) (now (scratch .entry))
         (now (out .entry)) n (now (scratch .exit)) (now (out .exit)) u ⌝ }
 {
     let x = records::interaction_at(sheet, at);
-    let fields = add_names(sheet, x.fields, x.message, scratch, out, n);
-    add_names(sheet, x.count, 1, scratch, out, fields)
+    let fields = add_references(sheet, x.fields, x.message, scratch, out, n);
+    add_references(sheet, x.count, 1, scratch, out, fields)
 }
 
 // Adds what the interactions from `at` on name.
@@ -174,7 +174,7 @@ pub fn add_interactions(
     out: &mut [u32],
     n: usize,
 ) -> usize
-    requires { ⌜ Walking (now sheet) (now scratch) (now out) n × AllRootsInside (length (recordsOf (now sheet))) (now sheet) at count ⌝ }
+    requires { ⌜ AddWalking (now sheet) (now scratch) (now out) n × AllRootsInside (length (recordsOf (now sheet))) (now sheet) at count ⌝ }
     ensures { λ u. ⌜ Walks (now (sheet .entry)) (rootWords (now (sheet .entry)) at count) (now (scratch .entry)) (now (out .entry)) n
         (now (scratch .exit)) (now (out .exit)) u ⌝ }
 {

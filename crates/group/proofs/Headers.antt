@@ -8,7 +8,7 @@ use Rattle.slices.proofs.Rows.{rows-length, word-at}
 use Rattle.slices.specs.Rows.{rows}
 use Rattle.semantics.proofs.Lists.{getD-map}
 use Rattle.semantics.proofs.Sorting.{all-within}
-use Rattle.group.specs.Grouped.{Tally, total, none, tallyRow, tallied, RowInside, Rows}
+use Rattle.group.specs.Grouped.{Tally, talliedTotal, none, tallyRow, tallied, RowInside, Rows}
 
 -- The tallies of rows.
 pub tallied-length : (n : ℕ) (H P : List ℕ) → length (tallied n H P) ≡ n
@@ -40,8 +40,8 @@ inside-at n k H P r h =
     let y : getD (getD (rows 4 n H) k []) 2 0 ≡ getD H (4 * k + 2) 0 = word-at 4 n k 2 H h (omega arith) in
     (omega arith, omega arith)
 
-pub total-at : (gs : List Tally) (k : ℕ) → k < length gs → getD gs k none .count ≤ total gs
-unfolding total
+pub total-at : (gs : List Tally) (k : ℕ) → k < length gs → getD gs k none .count ≤ talliedTotal gs
+unfolding talliedTotal
 total-at [] k h = absurd (omega arith)
 total-at (g ∷ gs) zero h = omega arith
 total-at (g ∷ gs) (suc k) h = omega (arith, total-at gs k (omega arith))

@@ -16,7 +16,7 @@ use Rattle.semantics.proofs.Calls.{drop-zeros}
 use Rattle.group.specs.declared.Found.the-variants.{Missing}
 use Rattle.group.specs.declared.Tallied.the-variants.{Headers}
 use Rattle.group.specs.Grouped.{Tally, tally, tallyAll, tallyRow, tallied, Ascends, RowInside, Rows, Spot, Counted}
-use Rattle.group.specs.Waiting.{Inside, varsAt, Batch, batched}
+use Rattle.group.specs.Waiting.{PlaceInside, poolVars, Batch, batched}
 use Rattle.group.proofs.Tallies.{once, tally-ascends}
 use Rattle.group.proofs.Headers.{tallied-length}
 use Rattle.group.proofs.Counting.{tally-missing, all-insert, tally-once, read-vars}
@@ -117,7 +117,7 @@ pub record Inserting (H₀ : List ℕ) (n : ℕ) (P pl : List ℕ) (b : ℕ) (H 
   pub long : length H ≡ length H₀
   pub rows-are : Rows (n + (b - j)) (closed H end j) P
   pub tallies-are : tallied (n + (b - j)) (closed H end j) P ≡ tallyAll (waitingFrom b pl P j) (tallied n H₀ P)
-  pub low : (v : List ℕ) (k : ℕ) → Spot v (tallied n H₀ P) (Missing k) → (j < b → beforeVars v (varsAt P (getD pl j 0)) ≡ true) → k ≤ end
+  pub low : (v : List ℕ) (k : ℕ) → Spot v (tallied n H₀ P) (Missing k) → (j < b → beforeVars v (poolVars P (getD pl j 0)) ≡ true) → k ≤ end
 
 module _ {n b : ℕ} {H₀ P pl fr : List ℕ} (t : Batch n b H₀ P pl fr) where
   -- No room.
@@ -162,13 +162,13 @@ module _ {n b : ℕ} {H₀ P pl fr : List ℕ} (t : Batch n b H₀ P pl fr) wher
 
   module _ {H : List ℕ} {end j : ℕ} (g : Inserting H₀ n P pl b H end j) where
     -- What the next one asks.
-    pub insert-next : (i : ℕ) → j ≡ suc i → (getD fr i 0 ≤ end) × Inside P (getD pl i 0)
+    pub insert-next : (i : ℕ) → j ≡ suc i → (getD fr i 0 ≤ end) × PlaceInside P (getD pl i 0)
     insert-next i e =
         let u = g .upto in
         let p = t .waiting in
         let h : i < b = omega arith in (
-          g .low (varsAt P (getD pl i 0)) (getD fr i 0) (p .missing i h)
-              (λ l. subst (λ (x : ℕ). beforeVars (varsAt P (getD pl i 0)) (varsAt P (getD pl x 0)) ≡ true) (sym e) (p .ascends i (omega arith))),
+          g .low (poolVars P (getD pl i 0)) (getD fr i 0) (p .missing i h)
+              (λ l. subst (λ (x : ℕ). beforeVars (poolVars P (getD pl i 0)) (poolVars P (getD pl x 0)) ≡ true) (sym e) (p .ascends i (omega arith))),
           p .inside i h,
         )
 
@@ -182,7 +182,7 @@ module _ {n b : ℕ} {H₀ P pl fr : List ℕ} (t : Batch n b H₀ P pl fr) wher
         let h : i < b = omega arith in
         let k : ℕ = getD fr i 0 in
         let at : ℕ = getD pl i 0 in
-        let v : List ℕ = varsAt P at in
+        let v : List ℕ = poolVars P at in
         let A : List Tally = tallied n H₀ P in
         let x = insert-next i e in
         let f = g .fits in

@@ -24,8 +24,8 @@ use Rattle.semantics.proofs.Calls.{padded-is, padded-length}
 use Rattle.group.specs.declared.Found.the-variants.{There, Missing}
 use Rattle.monomial.specs.Words.{readMonomial, listIn, readList}
 use Rattle.monomial.proofs.ListLaws.{list-in-suc}
-use Rattle.group.specs.Grouped.{Tally, Ascends, countOf, total, none, tallied, tallyRow, RowInside, Rows, Spot, select, placed, cursors, Room, column}
-use Rattle.group.specs.Grouped.{Standing, termOf, widthOf, itemAt, itemsAt, Placing, ToPlace, Places}
+use Rattle.group.specs.Grouped.{Tally, Ascends, talliedCount, talliedTotal, none, tallied, tallyRow, RowInside, Rows, Spot, select, placed, cursors, RoomForTerms, column}
+use Rattle.group.specs.Grouped.{Standing, termOf, termWidth, itemAt, itemsAt, Placing, ToPlace, Places}
 use Rattle.group.proofs.Gathering.{less-is, more-is}
 use Rattle.group.proofs.Places.{select-append, select-same, Fit, room-fit, spot, cursor-at, cursor-step, place-step}
 use Rattle.group.proofs.Headers.{tallied-length}
@@ -34,19 +34,19 @@ use Rattle.group.proofs.Counting.{all-set, row-long, tallyRow-cursor}
 use Rattle.group.proofs.PoolLists.{left-suc, standing-next}
 
 -- The two forms of a term.
-pub term-wide : (b : Bool) (t : Item) → length (termOf b t) ≡ widthOf b
+pub term-wide : (b : Bool) (t : Item) → length (termOf b t) ≡ termWidth b
 term-wide false t = constraint-wide t
 term-wide true t = interaction-wide t
 
 module _ (T T′ : List ℕ) (at i f c : ℕ) where
   pub put-interaction : (b : Bool) → b ≡ true → T′ ≡ sets T (3 * at) (c ∷ i ∷ f ∷ [])
-      → (t : Item) → t .index ≡ i → t .field ≡ f → t .coef ≡ c → T′ ≡ sets T (widthOf b * at) (termOf b t)
+      → (t : Item) → t .index ≡ i → t .field ≡ f → t .coef ≡ c → T′ ≡ sets T (termWidth b * at) (termOf b t)
   unfolding interactionTerm
   put-interaction true e h t p q r = h ∙ (λ j. sets T (3 * at) (sym r j ∷ sym p j ∷ sym q j ∷ []))
   put-interaction false e h t p q r = absurd (true≢false (sym e))
 
   pub put-constraint : (b : Bool) → b ≡ false → T′ ≡ sets T (2 * at) (i ∷ c ∷ [])
-      → (t : Item) → t .index ≡ i → t .field ≡ f → t .coef ≡ c → T′ ≡ sets T (widthOf b * at) (termOf b t)
+      → (t : Item) → t .index ≡ i → t .field ≡ f → t .coef ≡ c → T′ ≡ sets T (termWidth b * at) (termOf b t)
   unfolding constraintTerm
   put-constraint false e h t p q r = h ∙ (λ j. sets T (2 * at) (sym p j ∷ sym r j ∷ []))
   put-constraint true e h t p q r = absurd (true≢false e)
@@ -95,27 +95,27 @@ module _ (n k x : ℕ) (H P : List ℕ) (r : Rows n H P) (h : k < n) where
       ∙ ap (λ (w : List ℕ). set w k x) (sym (column-words 1 n H))
 
 -- Room for the first of some items.
-pub room-front : (gs : List Tally) (ts us : List Item) → Room gs (ts ++ us) → Room gs ts
+pub room-front : (gs : List Tally) (ts us : List Item) → RoomForTerms gs (ts ++ us) → RoomForTerms gs ts
 room-front gs ts us r v = let e = ap length (select-append v ts us) ∙ length-append (select v ts) (select v us) in omega (arith, r v)
 
-count-missing : (v : List ℕ) (gs : List Tally) (k : ℕ) → Spot v gs (Missing k) → countOf v gs ≡ 0
-unfolding countOf
+count-missing : (v : List ℕ) (gs : List Tally) (k : ℕ) → Spot v gs (Missing k) → talliedCount v gs ≡ 0
+unfolding talliedCount
 count-missing v [] k s = refl
-count-missing v (g ∷ gs) zero s = less-is v (g .vars) 0 (countOf v gs) (g .count) (s .2 0 (omega arith) (omega arith))
+count-missing v (g ∷ gs) zero s = less-is v (g .vars) 0 (talliedCount v gs) (g .count) (s .2 0 (omega arith) (omega arith))
 count-missing v (g ∷ gs) (suc k) s =
-    more-is v (g .vars) 0 (countOf v gs) (g .count) (s .1 0 (omega arith))
+    more-is v (g .vars) 0 (talliedCount v gs) (g .count) (s .1 0 (omega arith))
     ∙ count-missing v gs k (omega (arith, s .0), (λ i h. s .1 (suc i) (omega arith)), (λ i h l. s .2 (suc i) (omega arith) (omega arith)))
 
 -- Variables with room for an item are found.
-pub room-found : (gs : List Tally) (done : List Item) (t : Item) (v : List ℕ) (k : ℕ) → v ≡ t .vars → Room gs (done ++ (t ∷ [])) → Spot v gs (Missing k) → ⊥
+pub room-found : (gs : List Tally) (done : List Item) (t : Item) (v : List ℕ) (k : ℕ) → v ≡ t .vars → RoomForTerms gs (done ++ (t ∷ [])) → Spot v gs (Missing k) → ⊥
 room-found gs done t v k q r s =
     let e = ap length (select-same v t done q) ∙ length-append (select v done) (t ∷ []) in
     let z = count-missing v gs k s in
     absurd (omega (arith, r v))
 
 pub spot-lt : (gs : List Tally) (k : ℕ) (done : List Item) (t : Item) → k < length gs → getD gs k none .vars ≡ t .vars → Fit gs (done ++ (t ∷ []))
-    → suc (spot gs k done) ≤ total gs
-unfolding spot total
+    → suc (spot gs k done) ≤ talliedTotal gs
+unfolding spot talliedTotal
 spot-lt [] k done t h e f = absurd (omega arith)
 spot-lt (g ∷ gs) zero done t h e f =
     let q = ap length (select-same (g .vars) t done e) ∙ length-append (select (g .vars) done) (t ∷ []) in
@@ -129,8 +129,8 @@ times-le w x y h = go (y - x) (omega arith)
     go d q = rw q (omega arith)
 
 module _ (term : Item → List ℕ) (width : ℕ) (wide : (u : Item) → length (term u) ≡ width) where
-  pub placed-length : (gs : List Tally) (done : List Item) → Fit gs done → length (placed term width gs done) ≡ width * total gs
-  unfolding placed total
+  pub placed-length : (gs : List Tally) (done : List Item) → Fit gs done → length (placed term width gs done) ≡ width * talliedTotal gs
+  unfolding placed talliedTotal
   placed-length [] done f = omega arith
   placed-length (g ∷ gs) done f =
       let l = flat-length term width wide (select (g .vars) done) in
@@ -141,7 +141,7 @@ module _ (term : Item → List ℕ) (width : ℕ) (wide : (u : Item) → length 
 
 -- The next term of row k.
 module _ (b : Bool) (gs : List Tally) (n : ℕ) (H P T : List ℕ) (done : List Item) (t : Item) (v : List ℕ) (k : ℕ)
-    (p : Placing b gs n H P T done) (m : Room gs (done ++ (t ∷ []))) (e : v ≡ t .vars) (s : Spot v (tallied n H P) (There k)) where
+    (p : Placing b gs n H P T done) (m : RoomForTerms gs (done ++ (t ∷ []))) (e : v ≡ t .vars) (s : Spot v (tallied n H P) (There k)) where
   row-lt : k < n
   row-lt = subst (λ (i : ℕ). k < i) (tallied-length n H P) (s .0)
 
@@ -165,33 +165,33 @@ module _ (b : Bool) (gs : List Tally) (n : ℕ) (H P T : List ℕ) (done : List 
       let z : 0 + spot gs k done ≡ spot gs k done = omega arith in
       sym cursor-word ∙ ap (λ (l : List ℕ). getD l k 0) (p .cursors-are) ∙ cursor-at 0 gs k done (in-groups .0) ∙ z
 
-  pub cursor-small : suc (getD H (4 * k + 1) 0) ≤ total gs
-  cursor-small = subst (λ (x : ℕ). suc x ≤ total gs) (sym cursor-spot) (spot-lt gs k done t (in-groups .0) (in-groups .1) fitting)
+  pub cursor-small : suc (getD H (4 * k + 1) 0) ≤ talliedTotal gs
+  cursor-small = subst (λ (x : ℕ). suc x ≤ talliedTotal gs) (sym cursor-spot) (spot-lt gs k done t (in-groups .0) (in-groups .1) fitting)
 
-  pub term-fits : widthOf b * getD H (4 * k + 1) 0 + widthOf b ≤ length T
+  pub term-fits : termWidth b * getD H (4 * k + 1) 0 + termWidth b ≤ length T
   term-fits =
-      let a = times-le (widthOf b) (suc (getD H (4 * k + 1) 0)) (total gs) cursor-small in
+      let a = times-le (termWidth b) (suc (getD H (4 * k + 1) 0)) (talliedTotal gs) cursor-small in
       let f = p .fits in
       omega arith
 
   row-four : length (getD (rows 4 n H) k []) ≡ 4
   row-four = row-long n k H row-lt (p .rows-are .room)
 
-  pub place-one : (H′ T′ : List ℕ) → T′ ≡ sets T (widthOf b * getD H (4 * k + 1) 0) (termOf b t) → H′ ≡ set H (4 * k + 1) (getD H (4 * k + 1) 0 + 1)
+  pub place-one : (H′ T′ : List ℕ) → T′ ≡ sets T (termWidth b * getD H (4 * k + 1) 0) (termOf b t) → H′ ≡ set H (4 * k + 1) (getD H (4 * k + 1) 0 + 1)
       → Placing b gs n H′ P T′ (done ++ (t ∷ []))
   place-one H′ T′ tt′ hh =
       let x : ℕ = getD H (4 * k + 1) 0 + 1 in
       let c : x ≡ suc (getD (cursors 0 gs done) k 0) = add-one (getD H (4 * k + 1) 0) ∙ ap suc (sym cursor-word ∙ ap (λ (l : List ℕ). getD l k 0) (p .cursors-are)) in
-      let W : List ℕ = placed (termOf b) (widthOf b) gs done in
-      let W′ : List ℕ = placed (termOf b) (widthOf b) gs (done ++ (t ∷ [])) in
-      let lw = placed-length (termOf b) (widthOf b) (term-wide b) gs done (room-fit gs done ascending (room-front gs done (t ∷ []) m)) in
-      let lw′ = placed-length (termOf b) (widthOf b) (term-wide b) gs (done ++ (t ∷ [])) fitting in
-      let lt : length T′ ≡ length T = ap length tt′ ∙ length-sets T (widthOf b * getD H (4 * k + 1) 0) (termOf b t) in
+      let W : List ℕ = placed (termOf b) (termWidth b) gs done in
+      let W′ : List ℕ = placed (termOf b) (termWidth b) gs (done ++ (t ∷ [])) in
+      let lw = placed-length (termOf b) (termWidth b) (term-wide b) gs done (room-fit gs done ascending (room-front gs done (t ∷ []) m)) in
+      let lw′ = placed-length (termOf b) (termWidth b) (term-wide b) gs (done ++ (t ∷ [])) fitting in
+      let lt : length T′ ≡ length T = ap length tt′ ∙ length-sets T (termWidth b * getD H (4 * k + 1) 0) (termOf b t) in
       let z : length T - length W ≡ length T′ - length W′ = omega arith in
       let q : T′ ≡ padded W′ (length T′) =
-      tt′ ∙ ap (λ (i : ℕ). sets T (widthOf b * i) (termOf b t)) cursor-spot
-      ∙ ap (λ (l : List ℕ). sets l (widthOf b * spot gs k done) (termOf b t)) (p .terms-are ∙ padded-is W (length T))
-      ∙ place-step t done (termOf b) (widthOf b) (term-wide b) gs k (zeros (length T - length W)) ascending (in-groups .0) (in-groups .1) fitting
+      tt′ ∙ ap (λ (i : ℕ). sets T (termWidth b * i) (termOf b t)) cursor-spot
+      ∙ ap (λ (l : List ℕ). sets l (termWidth b * spot gs k done) (termOf b t)) (p .terms-are ∙ padded-is W (length T))
+      ∙ place-step t done (termOf b) (termWidth b) (term-wide b) gs k (zeros (length T - length W)) ascending (in-groups .0) (in-groups .1) fitting
       ∙ ap (λ (i : ℕ). W′ ++ zeros i) z ∙ sym (padded-is W′ (length T′)) in
       let f = p .fits in
       record {
@@ -230,7 +230,7 @@ pub record Going (b : Bool) (n : ℕ) (P H₀ T₀ : List ℕ) (all : List Item)
   pub termsLong : length T ≡ length T₀
   pub front : List Item
   pub whole : front ++ rest ≡ all
-  pub placing : (gs : List Tally) → (done : List Item) → Placing b gs n H₀ P T₀ done → Room gs (done ++ all) → Placing b gs n H P T (done ++ front)
+  pub placing : (gs : List Tally) → (done : List Item) → Placing b gs n H₀ P T₀ done → RoomForTerms gs (done ++ all) → Placing b gs n H P T (done ++ front)
 
 module _ (b : Bool) (n : ℕ) (P H₀ T₀ : List ℕ) (all : List Item) where
   pub going-start : (rest : List Item) → rest ≡ all → Going b n P H₀ T₀ all H₀ T₀ rest
@@ -246,10 +246,10 @@ module _ (b : Bool) (n : ℕ) (P H₀ T₀ : List ℕ) (all : List Item) where
     next-items : (g .front ++ here) ++ rest′ ≡ all
     next-items = append-assoc (g .front) here rest′ ∙ ap (λ (l : List Item). g .front ++ l) (sym e) ∙ g .whole
 
-    next-room : (gs : List Tally) (done : List Item) → Room gs (done ++ all) → Room gs ((done ++ g .front) ++ here)
+    next-room : (gs : List Tally) (done : List Item) → RoomForTerms gs (done ++ all) → RoomForTerms gs ((done ++ g .front) ++ here)
     next-room gs done r =
         room-front gs ((done ++ g .front) ++ here) rest′
-        (subst (Room gs)
+        (subst (RoomForTerms gs)
         (ap (λ (l : List Item). done ++ l) (sym next-items) ∙ sym (append-assoc done (g .front ++ here) rest′)
         ∙ ap (λ (l : List Item). l ++ rest′) (sym (append-assoc done (g .front) here))) r)
 

@@ -14,7 +14,7 @@ use Rattle.semantics.specs.Call.{zeros, padded}
 use Rattle.semantics.specs.Lists.{All}
 use Rattle.semantics.proofs.Sorting.{all-within}
 use Rattle.semantics.proofs.Calls.{zeros-add, zeros-long, padded-is, padded-length}
-use Rattle.group.specs.Grouped.{byOrder, Tally, select, Ascends, countOf, total, placed, cursors, Room, none}
+use Rattle.group.specs.Grouped.{byOrder, Tally, select, Ascends, talliedCount, talliedTotal, placed, cursors, RoomForTerms, none}
 use Rattle.group.proofs.Gathering.{Side, side, less-is, more-is, same-is}
 use Rattle.group.proofs.Tallies.{counted, Whole}
 
@@ -59,22 +59,22 @@ module _ (v : List ℕ) (t : Item) where
 abbrev pub Fit : List Tally → List Item → Type 0
 Fit gs ts = All (λ (g : Tally). length (select (g .vars) ts) ≤ g .count) gs
 
-count-each : (hs : List Tally) → Ascends hs → All (λ (h : Tally). countOf (h .vars) hs ≡ h .count) hs
-unfolding countOf
+count-each : (hs : List Tally) → Ascends hs → All (λ (h : Tally). talliedCount (h .vars) hs ≡ h .count) hs
+unfolding talliedCount
 count-each [] b = tt
 count-each (h ∷ hs) b =
-    (same-is (h .vars) (h .vars) 0 (countOf (h .vars) hs) (h .count) refl, behind hs (b .0) (count-each hs (b .1)))
+    (same-is (h .vars) (h .vars) 0 (talliedCount (h .vars) hs) (h .count) refl, behind hs (b .0) (count-each hs (b .1)))
   where
     behind : (ks : List Tally) → All (λ (x : Tally). beforeVars (h .vars) (x .vars) ≡ true) ks
-        → All (λ (x : Tally). countOf (x .vars) hs ≡ x .count) ks → All (λ (x : Tally). countOf (x .vars) (h ∷ hs) ≡ x .count) ks
+        → All (λ (x : Tally). talliedCount (x .vars) hs ≡ x .count) ks → All (λ (x : Tally). talliedCount (x .vars) (h ∷ hs) ≡ x .count) ks
     behind [] c d = tt
     behind (x ∷ ks) c d =
-        (more-is (x .vars) (h .vars) 0 (countOf (x .vars) hs) (h .count) (c .0) ∙ d .0, behind ks (c .1) (d .1))
+        (more-is (x .vars) (h .vars) 0 (talliedCount (x .vars) hs) (h .count) (c .0) ∙ d .0, behind ks (c .1) (d .1))
 
-pub room-fit : (gs : List Tally) (ts : List Item) → Ascends gs → Room gs ts → Fit gs ts
+pub room-fit : (gs : List Tally) (ts : List Item) → Ascends gs → RoomForTerms gs ts → Fit gs ts
 room-fit gs ts a r = go gs (count-each gs a)
   where
-    go : (hs : List Tally) → All (λ (h : Tally). countOf (h .vars) gs ≡ h .count) hs → Fit hs ts
+    go : (hs : List Tally) → All (λ (h : Tally). talliedCount (h .vars) gs ≡ h .count) hs → Fit hs ts
     go [] c = tt
     go (h ∷ hs) c = (omega (arith, r (h .vars), c .0), go hs (c .1))
 
@@ -228,14 +228,14 @@ module _ (t : Item) (done : List Item) where
 
 -- Before any term, and after all.
 module _ (term : Item → List ℕ) (width : ℕ) where
-  pub placed-none : (gs : List Tally) → placed term width gs [] ≡ zeros (width * total gs)
-  unfolding placed select flatMap padded total
+  pub placed-none : (gs : List Tally) → placed term width gs [] ≡ zeros (width * talliedTotal gs)
+  unfolding placed select flatMap padded talliedTotal
   placed-none [] = let e : 0 ≡ width * 0 = omega arith in sym zeros-none ∙ ap zeros e
   placed-none (g ∷ gs) =
       let e : width * g .count - 0 ≡ width * g .count = omega arith in
-      let d : width * g .count + width * total gs ≡ width * (g .count + total gs) = omega arith in
+      let d : width * g .count + width * talliedTotal gs ≡ width * (g .count + talliedTotal gs) = omega arith in
       ap (λ (n : ℕ). zeros n ++ placed term width gs []) e ∙ ap (λ (l : List ℕ). zeros (width * g .count) ++ l) (placed-none gs)
-      ∙ sym (zeros-add (width * g .count) (width * total gs)) ∙ ap zeros d
+      ∙ sym (zeros-add (width * g .count) (width * talliedTotal gs)) ∙ ap zeros d
 
   pub placed-all : ((t : Item) → length (term t) ≡ width) → (gs : List Group) (ts : List Item) → Whole ts gs
       → placed term width (map counted gs) ts ≡ terms term gs

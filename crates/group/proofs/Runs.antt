@@ -8,16 +8,16 @@ use Rattle.monomial.specs.Words.{readMonomial, listIn}
 use Rattle.group.specs.declared.Tallied.the-variants.{Headers, Full}
 use Rattle.group.specs.declared.pending.Next.the-variants.{Taken, Stopped}
 use Rattle.group.specs.declared.pending.Run.{Run}
-use Rattle.group.specs.Grouped.{Tally, tallyAll, total, tallied, Rows, Counted, nonZero, Standing}
-use Rattle.group.specs.Waiting.{Inside, varsAt, Batch, batched, Nexts, Ran}
+use Rattle.group.specs.Grouped.{Tally, tallyAll, talliedTotal, tallied, Rows, Counted, nonZero, Standing}
+use Rattle.group.specs.Waiting.{PlaceInside, poolVars, Batch, batched, Nexts, Ran}
 use Rattle.group.proofs.Tallies.{tallyAll-grows, total-all}
 use Rattle.group.proofs.PoolLists.{nonZero-one, left-next, left-none, standing-next}
 use Rattle.group.proofs.Waits.{batch-none, batched-none}
 
 -- Those that wait are counted too.
-total-batched : (n b : ℕ) (H P pl : List ℕ) → total (batched n b H P pl) ≡ total (tallied n H P) + length (map (varsAt P) (take b pl))
+total-batched : (n b : ℕ) (H P pl : List ℕ) → talliedTotal (batched n b H P pl) ≡ talliedTotal (tallied n H P) + length (map (poolVars P) (take b pl))
 unfolding batched
-total-batched n b H P pl = total-all (map (varsAt P) (take b pl)) (tallied n H P)
+total-batched n b H P pl = total-all (map (poolVars P) (take b pl)) (tallied n H P)
 
 -- During a run: i monomials are taken, b of them wait.
 pub record Running (n : ℕ) (P : List ℕ) (at count : ℕ) (H₀ pl₀ fr₀ H pl fr : List ℕ) (place b i : ℕ) : Type 0 where
@@ -25,7 +25,7 @@ pub record Running (n : ℕ) (P : List ℕ) (at count : ℕ) (H₀ pl₀ fr₀ H
   pub few : b ≤ i
   pub batch : Batch n b H P pl fr
   pub standing : Standing (count - i) P place
-  pub grown : total (batched n b H P pl) + (count - i) ≤ total (tallied n H₀ P) + count
+  pub grown : talliedTotal (batched n b H P pl) + (count - i) ≤ talliedTotal (tallied n H₀ P) + count
   pub long : length H ≡ length H₀
   pub long-places : length pl ≡ length pl₀
   pub long-fronts : length fr ≡ length fr₀
@@ -35,7 +35,7 @@ pub run-start : (n : ℕ) (P : List ℕ) (at count : ℕ) (H pl fr : List ℕ) �
     → Running n P at count H pl fr H pl fr at 0 0
 run-start n P at count H pl fr r s h e =
     let z : count - 0 ≡ count = omega arith in
-    let q = ap total (batched-none n H P pl) in
+    let q = ap talliedTotal (batched-none n H P pl) in
     record {
       upto = omega arith;
       few = omega arith;
@@ -52,7 +52,7 @@ run-start n P at count H pl fr r s h e =
 
 module _ {n : ℕ} {P : List ℕ} {at count : ℕ} {H₀ pl₀ fr₀ H pl fr : List ℕ} {place b i : ℕ} (g : Running n P at count H₀ pl₀ fr₀ H pl fr place b i) where
   -- What the next monomial asks.
-  pub run-asks : i < count → total (tallied n H₀ P) + count ≤ 4294967295 → Batch n b H P pl fr × Inside P place × (total (tallied n H P) < 4294967295)
+  pub run-asks : i < count → talliedTotal (tallied n H₀ P) + count ≤ 4294967295 → Batch n b H P pl fr × PlaceInside P place × (talliedTotal (tallied n H P) < 4294967295)
   run-asks h t =
       let s = standing-next count i place P h (g .standing) in
       let e = total-batched n b H P pl in
@@ -65,7 +65,7 @@ module _ {n : ℕ} {P : List ℕ} {at count : ℕ} {H₀ pl₀ fr₀ H pl fr : L
   run-step h H′ pl′ fr′ c near x y z k =
       let vs : List (List ℕ) = nonZero (readMonomial (drop place P) ∷ []) in
       let s = standing-next count i place P h (g .standing) in
-      let t = ap total (k .2) ∙ total-all vs (batched n b H P pl) in
+      let t = ap talliedTotal (k .2) ∙ total-all vs (batched n b H P pl) in
       let o = nonZero-one (readMonomial (drop place P)) in
       let q = g .grown in
       let f = g .few in
@@ -91,7 +91,7 @@ module _ {n : ℕ} {P : List ℕ} {at count : ℕ} {H₀ pl₀ fr₀ H pl fr : L
       let f = g .few in
       let l = k .0 in
       let q = g .grown in
-      let e = ap total (k .2) in
+      let e = ap talliedTotal (k .2) in
       record {
         some = λ _. omega arith;
         upto = g .upto;
@@ -116,12 +116,12 @@ pub record Tallying (H₀ : List ℕ) (n : ℕ) (P : List ℕ) (at count : ℕ) 
   pub upto : i ≤ count
   pub rows-are : Rows rows H P
   pub standing : Standing (count - i) P place
-  pub small : total (tallied rows H P) + (count - i) ≤ 4294967295
+  pub small : talliedTotal (tallied rows H P) + (count - i) ≤ 4294967295
   pub long : length H ≡ length H₀
   pub left : tallyAll (nonZero (listIn P place (count - i))) (tallied rows H P) ≡ tallyAll (nonZero (listIn P at count)) (tallied n H₀ P)
 
 pub tallying-start : (H : List ℕ) (n : ℕ) (P : List ℕ) (at count : ℕ) → Rows n H P → Standing count P at
-    → total (tallied n H P) + count ≤ 4294967295 → Tallying H n P at count H n at 0
+    → talliedTotal (tallied n H P) + count ≤ 4294967295 → Tallying H n P at count H n at 0
 tallying-start H n P at count r s t =
     let e : count - 0 ≡ count = omega arith in
     record {
@@ -155,7 +155,7 @@ module _ {H₀ : List ℕ} {n : ℕ} {P : List ℕ} {at count : ℕ} {H : List �
         let v = g .upto in
         let s = g .small in
         let q = a .grown in
-        let t = ap total (c .1) in
+        let t = ap talliedTotal (c .1) in
         record {
           upto = omega arith;
           rows-are = c .0;

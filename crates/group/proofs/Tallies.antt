@@ -12,7 +12,7 @@ use Rattle.semantics.specs.Group.{Item, Group}
 use Rattle.semantics.specs.Lists.{All}
 use Rattle.semantics.proofs.Order.{beforeVars-trans}
 use Rattle.semantics.proofs.Sorting.{all-imply}
-use Rattle.group.specs.Grouped.{byOrder, Tally, tally, tallyAll, select, Ascends, countOf, total}
+use Rattle.group.specs.Grouped.{byOrder, Tally, tally, tallyAll, select, Ascends, talliedCount, talliedTotal}
 use Rattle.group.proofs.Gathering.{Side, side, less-is, more-is, same-is, alone, joined, gather, gathered}
 
 abbrev pub once : List ℕ → Tally
@@ -255,35 +255,35 @@ gathered-whole ts = go (gathered ts) (found-each (gathered ts) (gathered-ascends
     go (g ∷ ks) a = (sym (found-gathered (g .vars) ts) ∙ a .0, go ks (a .1))
 
 -- How many items with these variables are counted.
-pub count-counted : (v : List ℕ) (gs : List Group) → countOf v (map counted gs) ≡ length (found v gs)
-unfolding countOf found
+pub count-counted : (v : List ℕ) (gs : List Group) → talliedCount v (map counted gs) ≡ length (found v gs)
+unfolding talliedCount found
 count-counted v [] = refl
 count-counted v (g ∷ gs) = go (side v (g .vars)) (count-counted v gs)
   where
-    go : Side v (g .vars) → countOf v (map counted gs) ≡ length (found v gs)
-        → byOrder v (g .vars) 0 (countOf v (map counted gs)) (length (g .terms)) ≡ length (byOrder v (g .vars) [] (found v gs) (g .terms))
+    go : Side v (g .vars) → talliedCount v (map counted gs) ≡ length (found v gs)
+        → byOrder v (g .vars) 0 (talliedCount v (map counted gs)) (length (g .terms)) ≡ length (byOrder v (g .vars) [] (found v gs) (g .terms))
     go (inl e) ih = less-is v (g .vars) 0 _ (length (g .terms)) e ∙ ap length (sym (less-is v (g .vars) [] (found v gs) (g .terms) e))
     go (inr (inl e)) ih = more-is v (g .vars) 0 _ (length (g .terms)) e ∙ ih ∙ ap length (sym (more-is v (g .vars) [] (found v gs) (g .terms) e))
     go (inr (inr e)) ih = same-is v (g .vars) 0 _ (length (g .terms)) e ∙ ap length (sym (same-is v (g .vars) [] (found v gs) (g .terms) e))
 
-pub count-all : (v : List ℕ) (ts : List Item) → countOf v (tallyAll (varsOf ts) []) ≡ length (select v ts)
+pub count-all : (v : List ℕ) (ts : List Item) → talliedCount v (tallyAll (varsOf ts) []) ≡ length (select v ts)
 count-all v ts =
-    ap (countOf v) (sym (counted-gathered ts)) ∙ count-counted v (gathered ts) ∙ ap length (found-gathered v ts)
+    ap (talliedCount v) (sym (counted-gathered ts)) ∙ count-counted v (gathered ts) ∙ ap length (found-gathered v ts)
 
 -- The sum of the counts.
-pub total-tally : (v : List ℕ) (gs : List Tally) → total (tally v gs) ≡ suc (total gs)
-total-tally v [] = unfold total in (ap total (tally-nil v))
+pub total-tally : (v : List ℕ) (gs : List Tally) → talliedTotal (tally v gs) ≡ suc (talliedTotal gs)
+total-tally v [] = unfold talliedTotal in (ap talliedTotal (tally-nil v))
 total-tally v (g ∷ gs) = go (side v (g .vars)) (total-tally v gs)
   where
-    cons : (h : Tally) (hs : List Tally) → total (h ∷ hs) ≡ h .count + total hs
-    cons h hs = unfold total in refl
+    cons : (h : Tally) (hs : List Tally) → talliedTotal (h ∷ hs) ≡ h .count + talliedTotal hs
+    cons h hs = unfold talliedTotal in refl
 
-    go : Side v (g .vars) → total (tally v gs) ≡ suc (total gs) → total (tally v (g ∷ gs)) ≡ suc (total (g ∷ gs))
-    go (inl e) ih = ap total (tally-less v g gs e) ∙ cons (once v) (g ∷ gs) ∙ omega arith
-    go (inr (inl e)) ih = ap total (tally-more v g gs e) ∙ omega (arith, cons g (tally v gs), cons g gs)
-    go (inr (inr e)) ih = ap total (tally-same v g gs e) ∙ omega (arith, cons (again g) gs, cons g gs)
+    go : Side v (g .vars) → talliedTotal (tally v gs) ≡ suc (talliedTotal gs) → talliedTotal (tally v (g ∷ gs)) ≡ suc (talliedTotal (g ∷ gs))
+    go (inl e) ih = ap talliedTotal (tally-less v g gs e) ∙ cons (once v) (g ∷ gs) ∙ omega arith
+    go (inr (inl e)) ih = ap talliedTotal (tally-more v g gs e) ∙ omega (arith, cons g (tally v gs), cons g gs)
+    go (inr (inr e)) ih = ap talliedTotal (tally-same v g gs e) ∙ omega (arith, cons (again g) gs, cons g gs)
 
-pub total-all : (vs : List (List ℕ)) (gs : List Tally) → total (tallyAll vs gs) ≡ total gs + length vs
+pub total-all : (vs : List (List ℕ)) (gs : List Tally) → talliedTotal (tallyAll vs gs) ≡ talliedTotal gs + length vs
 unfolding tallyAll
 total-all [] gs = omega arith
 total-all (v ∷ vs) gs = total-all vs (tally v gs) ∙ omega (arith, total-tally v gs)

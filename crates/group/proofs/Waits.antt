@@ -18,7 +18,7 @@ use Rattle.monomial.specs.declared.vars.Order.the-variants.{After}
 use Rattle.monomial.specs.Orders.{orderOf}
 use Rattle.group.specs.declared.Found.the-variants.{There, Missing}
 use Rattle.group.specs.Grouped.{Tally, tally, tallyAll, tallied, none, Ascends, Rows, Spot}
-use Rattle.group.specs.Waiting.{Inside, varsAt, Pending, Batch, batched, MayFollow}
+use Rattle.group.specs.Waiting.{PlaceInside, poolVars, Pending, Batch, batched, MayFollow}
 use Rattle.group.proofs.Tallies.{once, again, tally-more, tallyAll-tally, tallyAll-append, above-tally}
 use Rattle.group.proofs.Counting.{Told, order-told, tally-there, tally-missing, count-more, read-vars}
 
@@ -120,17 +120,17 @@ spot-there v w gs k l a t s =
 
 -- Those that wait, from the j-th on.
 abbrev pub waitingFrom : (b : ℕ) (places pool : List ℕ) (j : ℕ) → List (List ℕ)
-waitingFrom b places pool j = map (varsAt pool) (drop j (take b places))
+waitingFrom b places pool j = map (poolVars pool) (drop j (take b places))
 
 module _ {b : ℕ} {places fronts pool : List ℕ} {gs : List Tally} (p : Pending b places fronts pool gs) where
-  pub waiting-next : (j : ℕ) → j < b → waitingFrom b places pool j ≡ varsAt pool (getD places j 0) ∷ waitingFrom b places pool (suc j)
+  pub waiting-next : (j : ℕ) → j < b → waitingFrom b places pool j ≡ poolVars pool (getD places j 0) ∷ waitingFrom b places pool (suc j)
   waiting-next j h =
       let l : length (take b places) ≡ b = length-take-le b places (p .room) in
-      ap (map (varsAt pool)) (drop-cons (take b places) j 0 (omega arith))
-      ∙ ap (λ (x : ℕ). varsAt pool x ∷ waitingFrom b places pool (suc j)) (getD-take b places j 0 h)
+      ap (map (poolVars pool)) (drop-cons (take b places) j 0 (omega arith))
+      ∙ ap (λ (x : ℕ). poolVars pool x ∷ waitingFrom b places pool (suc j)) (getD-take b places j 0 h)
 
   pub waiting-end : (j : ℕ) → b ≤ j → waitingFrom b places pool j ≡ []
-  waiting-end j h = ap (map (varsAt pool)) (none-left (take b places) j (subst (λ (x : ℕ). x ≤ j) (sym (length-take-le b places (p .room))) h))
+  waiting-end j h = ap (map (poolVars pool)) (none-left (take b places) j (subst (λ (x : ℕ). x ≤ j) (sym (length-take-le b places (p .room))) h))
     where
       none-left : (l : List ℕ) (j : ℕ) → length l ≤ j → drop j l ≡ []
       none-left [] zero q = refl
@@ -139,24 +139,24 @@ module _ {b : ℕ} {places fronts pool : List ℕ} {gs : List Tally} (p : Pendin
       none-left (x ∷ l) (suc j) q = none-left l j (omega arith)
 
   -- Each stands before all that follow it.
-  behind-from : (d j : ℕ) → suc j + d ≡ b → Behind (varsAt pool (getD places j 0)) (waitingFrom b places pool (suc j))
-  behind-from zero j e = subst (Behind (varsAt pool (getD places j 0))) (sym (waiting-end (suc j) (omega arith))) tt
+  behind-from : (d j : ℕ) → suc j + d ≡ b → Behind (poolVars pool (getD places j 0)) (waitingFrom b places pool (suc j))
+  behind-from zero j e = subst (Behind (poolVars pool (getD places j 0))) (sym (waiting-end (suc j) (omega arith))) tt
   behind-from (suc d) j e =
       let h = p .ascends j (omega arith) in
-      subst (Behind (varsAt pool (getD places j 0))) (sym (waiting-next (suc j) (omega arith)))
-      (h, behind-trans (varsAt pool (getD places j 0)) (varsAt pool (getD places (suc j) 0)) (waitingFrom b places pool (suc (suc j))) h (behind-from d (suc j) (omega arith)))
+      subst (Behind (poolVars pool (getD places j 0))) (sym (waiting-next (suc j) (omega arith)))
+      (h, behind-trans (poolVars pool (getD places j 0)) (poolVars pool (getD places (suc j) 0)) (waitingFrom b places pool (suc (suc j))) h (behind-from d (suc j) (omega arith)))
 
-  pub spot-from : (j : ℕ) → j < b → Spot (varsAt pool (getD places j 0)) (tallyAll (waitingFrom b places pool (suc j)) gs) (Missing (getD fronts j 0))
+  pub spot-from : (j : ℕ) → j < b → Spot (poolVars pool (getD places j 0)) (tallyAll (waitingFrom b places pool (suc j)) gs) (Missing (getD fronts j 0))
   spot-from j h =
-      spot-all (varsAt pool (getD places j 0)) (waitingFrom b places pool (suc j)) gs (getD fronts j 0) (p .missing j h)
+      spot-all (poolVars pool (getD places j 0)) (waitingFrom b places pool (suc j)) gs (getD fronts j 0) (p .missing j h)
       (behind-from (b - suc j) j (omega arith))
 
   pub tally-from : (j : ℕ) → j < b
-      → tallyAll (waitingFrom b places pool j) gs ≡ tally (varsAt pool (getD places j 0)) (tallyAll (waitingFrom b places pool (suc j)) gs)
+      → tallyAll (waitingFrom b places pool j) gs ≡ tally (poolVars pool (getD places j 0)) (tallyAll (waitingFrom b places pool (suc j)) gs)
   unfolding tallyAll
   tally-from j h =
       ap (λ (vs : List (List ℕ)). tallyAll vs gs) (waiting-next j h)
-      ∙ tallyAll-tally (waitingFrom b places pool (suc j)) (varsAt pool (getD places j 0)) gs
+      ∙ tallyAll-tally (waitingFrom b places pool (suc j)) (poolVars pool (getD places j 0)) gs
 
   length-from : (d j : ℕ) → j + d ≡ b → length (tallyAll (waitingFrom b places pool j) gs) ≡ length gs + d
   unfolding tallyAll
@@ -165,7 +165,7 @@ module _ {b : ℕ} {places fronts pool : List ℕ} {gs : List Tally} (p : Pendin
       let h : j < b = omega arith in
       let ih = length-from d (suc j) (omega arith) in
       ap length (tally-from j h)
-      ∙ length-missing (varsAt pool (getD places j 0)) (tallyAll (waitingFrom b places pool (suc j)) gs) (getD fronts j 0) (spot-from j h) ∙ omega arith
+      ∙ length-missing (poolVars pool (getD places j 0)) (tallyAll (waitingFrom b places pool (suc j)) gs) (getD fronts j 0) (spot-from j h) ∙ omega arith
 
   -- As many rows more as monomials wait.
   pub length-waiting : length (tallyAll (waitingFrom b places pool 0) gs) ≡ length gs + b
@@ -174,14 +174,14 @@ module _ {b : ℕ} {places fronts pool : List ℕ} {gs : List Tally} (p : Pendin
 -- A monomial that comes after the last of those that wait may follow them.
 pub follows-last : (P pl : List ℕ) (b at : ℕ) (o : Order) (x y : ℕ)
     → o ≡ orderOf (take x (drop (at + 2) P)) (take y (drop (getD pl (b - 1) 0 + 2) P)) → x ≡ getD P at 0 → y ≡ getD P (getD pl (b - 1) 0) 0 → o ≡ After
-    → (j : ℕ) → suc j ≡ b → beforeVars (varsAt P (getD pl j 0)) (varsAt P at) ≡ true
+    → (j : ℕ) → suc j ≡ b → beforeVars (poolVars P (getD pl j 0)) (poolVars P at) ≡ true
 follows-last P pl b at o x y e f g q j h =
     let l : ℕ = getD pl (b - 1) 0 in
     let d : b - 1 ≡ j = omega arith in
-    let u : take x (drop (at + 2) P) ≡ varsAt P at = ap (λ (i : ℕ). take i (drop (at + 2) P)) f ∙ sym (read-vars P at) in
-    let w : take y (drop (l + 2) P) ≡ varsAt P l = ap (λ (i : ℕ). take i (drop (l + 2) P)) g ∙ sym (read-vars P l) in
-    let r : o ≡ orderOf (varsAt P at) (varsAt P l) = e ∙ (λ i. orderOf (u i) (w i)) in
-    subst (λ (i : ℕ). beforeVars (varsAt P (getD pl i 0)) (varsAt P at) ≡ true) d (subst (Told (varsAt P at) (varsAt P l)) q (order-told (varsAt P at) (varsAt P l) o r))
+    let u : take x (drop (at + 2) P) ≡ poolVars P at = ap (λ (i : ℕ). take i (drop (at + 2) P)) f ∙ sym (read-vars P at) in
+    let w : take y (drop (l + 2) P) ≡ poolVars P l = ap (λ (i : ℕ). take i (drop (l + 2) P)) g ∙ sym (read-vars P l) in
+    let r : o ≡ orderOf (poolVars P at) (poolVars P l) = e ∙ (λ i. orderOf (u i) (w i)) in
+    subst (λ (i : ℕ). beforeVars (poolVars P (getD pl i 0)) (poolVars P at) ≡ true) d (subst (Told (poolVars P at) (poolVars P l)) q (order-told (poolVars P at) (poolVars P l) o r))
 
 -- Nothing waits.
 pub batch-none : (n : ℕ) (H P pl fr : List ℕ) → Rows n H P → 0 < length pl → length fr ≡ length pl → Batch n 0 H P pl fr
@@ -216,7 +216,7 @@ module _ (n b : ℕ) (H P pl fr : List ℕ) (v : List ℕ) (t : Batch n b H P pl
     batch-count =
         let c = count-more n k H P v (t .rows-are) s in
         let p = t .waiting in
-        let vs : List (List ℕ) = map (varsAt P) (take b pl) in (
+        let vs : List (List ℕ) = map (poolVars P) (take b pl) in (
           record {
             rows-are = c .0;
             waiting = record {
@@ -224,8 +224,8 @@ module _ (n b : ℕ) (H P pl fr : List ℕ) (v : List ℕ) (t : Batch n b H P pl
               same = p .same;
               room = p .room;
               inside = p .inside;
-              missing = λ j h. subst (λ (gs : List Tally). Spot (varsAt P (getD pl j 0)) gs (Missing (getD fr j 0))) (sym (c .1))
-                  (spot-there (varsAt P (getD pl j 0)) v (tallied n H P) k (getD fr j 0) (t .rows-are .ascends) s (p .missing j h));
+              missing = λ j h. subst (λ (gs : List Tally). Spot (poolVars P (getD pl j 0)) gs (Missing (getD fr j 0))) (sym (c .1))
+                  (spot-there (poolVars P (getD pl j 0)) v (tallied n H P) k (getD fr j 0) (t .rows-are .ascends) s (p .missing j h));
               ascends = p .ascends;
             };
           },
@@ -233,7 +233,7 @@ module _ (n b : ℕ) (H P pl fr : List ℕ) (v : List ℕ) (t : Batch n b H P pl
         )
 
   -- One that has none waits.
-  module _ (at k : ℕ) (e : v ≡ varsAt P at) (i : Inside P at) (s : Spot v (tallied n H P) (Missing k)) (m : MayFollow b pl P at true) where
+  module _ (at k : ℕ) (e : v ≡ poolVars P at) (i : PlaceInside P at) (s : Spot v (tallied n H P) (Missing k)) (m : MayFollow b pl P at true) where
     abbrev pl′ : List ℕ
     pl′ = set pl b at
 
@@ -263,19 +263,19 @@ module _ (n b : ℕ) (H P pl fr : List ℕ) (v : List ℕ) (t : Batch n b H P pl
             let d : b ≡ j = omega arith in
             subst (λ (x : ℕ). Q (getD pl′ x 0) (getD fr′ x 0)) d (subst (λ (y : ℕ). Q (getD pl′ b 0) y) (sym newest) (subst (λ (x : ℕ). Q x k) (sym new) g))
 
-    steps : (j : ℕ) → suc j < b + 1 → beforeVars (varsAt P (getD pl′ j 0)) (varsAt P (getD pl′ (suc j) 0)) ≡ true
+    steps : (j : ℕ) → suc j < b + 1 → beforeVars (poolVars P (getD pl′ j 0)) (poolVars P (getD pl′ (suc j) 0)) ≡ true
     steps j h = go (ltb (suc j) b) refl
       where
-        go : (x : Bool) → ltb (suc j) b ≡ x → beforeVars (varsAt P (getD pl′ j 0)) (varsAt P (getD pl′ (suc j) 0)) ≡ true
+        go : (x : Bool) → ltb (suc j) b ≡ x → beforeVars (poolVars P (getD pl′ j 0)) (poolVars P (getD pl′ (suc j) 0)) ≡ true
         go true q =
             let l : suc j < b = ltb-true (suc j) b q in
-            subst (λ (x : ℕ). beforeVars (varsAt P x) (varsAt P (getD pl′ (suc j) 0)) ≡ true) (sym (old pl at j (omega arith)))
-            (subst (λ (x : ℕ). beforeVars (varsAt P (getD pl j 0)) (varsAt P x) ≡ true) (sym (old pl at (suc j) l)) (t .waiting .ascends j l))
+            subst (λ (x : ℕ). beforeVars (poolVars P x) (poolVars P (getD pl′ (suc j) 0)) ≡ true) (sym (old pl at j (omega arith)))
+            (subst (λ (x : ℕ). beforeVars (poolVars P (getD pl j 0)) (poolVars P x) ≡ true) (sym (old pl at (suc j) l)) (t .waiting .ascends j l))
         go false q =
             let l : b ≤ suc j = ltb-false (suc j) b q in
             let d : suc j ≡ b = omega arith in
-            subst (λ (x : ℕ). beforeVars (varsAt P x) (varsAt P (getD pl′ (suc j) 0)) ≡ true) (sym (old pl at j (omega arith)))
-            (subst (λ (x : ℕ). beforeVars (varsAt P (getD pl j 0)) (varsAt P x) ≡ true) (sym (ap (λ (x : ℕ). getD pl′ x 0) d ∙ new)) (m .1 j d))
+            subst (λ (x : ℕ). beforeVars (poolVars P x) (poolVars P (getD pl′ (suc j) 0)) ≡ true) (sym (old pl at j (omega arith)))
+            (subst (λ (x : ℕ). beforeVars (poolVars P (getD pl j 0)) (poolVars P x) ≡ true) (sym (ap (λ (x : ℕ). getD pl′ x 0) d ∙ new)) (m .1 j d))
 
     pub batch-wait : Batch n (b + 1) H P pl′ fr′ × (batched n (b + 1) H P pl′ ≡ tallyAll (v ∷ []) (batched n b H P pl))
     unfolding batched
@@ -294,13 +294,13 @@ module _ (n b : ℕ) (H P pl fr : List ℕ) (v : List ℕ) (t : Batch n b H P pl
               some = omega arith;
               same = omega arith;
               room = omega arith;
-              inside = each (λ x y. Inside P x) (λ j h. p .inside j h) i;
-              missing = each (λ x y. Spot (varsAt P x) gs (Missing y)) (λ j h. p .missing j h) (subst (λ (u : List ℕ). Spot u gs (Missing k)) e s);
+              inside = each (λ x y. PlaceInside P x) (λ j h. p .inside j h) i;
+              missing = each (λ x y. Spot (poolVars P x) gs (Missing y)) (λ j h. p .missing j h) (subst (λ (u : List ℕ). Spot u gs (Missing k)) e s);
               ascends = steps;
             };
           },
-          ap (λ (l : List ℕ). tallyAll (map (varsAt P) l) gs) q
-              ∙ ap (λ (l : List (List ℕ)). tallyAll l gs) (map-append (varsAt P) (take b pl) (at ∷ []))
-              ∙ tallyAll-append (map (varsAt P) (take b pl)) (varsAt P at ∷ []) gs
-              ∙ ap (λ (u : List ℕ). tallyAll (u ∷ []) (tallyAll (map (varsAt P) (take b pl)) gs)) (sym e),
+          ap (λ (l : List ℕ). tallyAll (map (poolVars P) l) gs) q
+              ∙ ap (λ (l : List (List ℕ)). tallyAll l gs) (map-append (poolVars P) (take b pl) (at ∷ []))
+              ∙ tallyAll-append (map (poolVars P) (take b pl)) (poolVars P at ∷ []) gs
+              ∙ ap (λ (u : List ℕ). tallyAll (u ∷ []) (tallyAll (map (poolVars P) (take b pl)) gs)) (sym e),
         )

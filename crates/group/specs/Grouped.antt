@@ -46,13 +46,13 @@ abbrev pub Ascends : List Tally → Type 0
 Ascends gs = AscendBy BeforeVars (λ (g : Tally). g .vars) gs
 
 -- How many monomials are counted: with these variables, and in all.
-unfoldable pub countOf : List ℕ → List Tally → ℕ
-countOf v [] = 0
-countOf v (g ∷ gs) = byOrder v (g .vars) 0 (countOf v gs) (g .count)
+unfoldable pub talliedCount : List ℕ → List Tally → ℕ
+talliedCount v [] = 0
+talliedCount v (g ∷ gs) = byOrder v (g .vars) 0 (talliedCount v gs) (g .count)
 
-unfoldable pub total : List Tally → ℕ
-total [] = 0
-total (g ∷ gs) = g .count + total gs
+unfoldable pub talliedTotal : List Tally → ℕ
+talliedTotal [] = 0
+talliedTotal (g ∷ gs) = g .count + talliedTotal gs
 
 -- The terms placed so far, as words: each group's, and zeros up to its room.
 unfoldable pub placed : (term : Item → List ℕ) (width : ℕ) → List Tally → (done : List Item) → List ℕ
@@ -65,8 +65,8 @@ cursors start [] done = []
 cursors start (g ∷ gs) done = (start + length (select (g .vars) done)) ∷ cursors (start + g .count) gs done
 
 -- The groups have room for these items.
-abbrev pub Room : List Tally → List Item → Type 0
-Room gs ts = (v : List ℕ) → length (select v ts) ≤ countOf v gs
+abbrev pub RoomForTerms : List Tally → List Item → Type 0
+RoomForTerms gs ts = (v : List ℕ) → length (select v ts) ≤ talliedCount v gs
 
 -- A row of the headers while monomials are counted: where a monomial with its variables stands in the pool, where its next term goes,
 -- the number of variables, the number of terms.
@@ -145,9 +145,9 @@ abbrev pub termOf : (interaction : Bool) → Item → List ℕ
 termOf false t = constraintTerm t
 termOf true t = interactionTerm t
 
-abbrev pub widthOf : (interaction : Bool) → ℕ
-widthOf false = 2
-widthOf true = 3
+abbrev pub termWidth : (interaction : Bool) → ℕ
+termWidth false = 2
+termWidth true = 3
 
 -- A monomial as an item, and the items of a list, for a label.
 abbrev pub itemAt : (index field : ℕ) → Monomial → Item
@@ -161,25 +161,25 @@ pub record Placing (interaction : Bool) (gs : List Tally) (n : ℕ) (headers poo
   pub rows-are : Rows n headers pool
   pub tallies-are : tallied n headers pool ≡ gs
   pub cursors-are : column 1 n headers ≡ cursors 0 gs done
-  pub terms-are : terms ≡ padded (placed (termOf interaction) (widthOf interaction) gs done) (length terms)
-  pub fits : widthOf interaction * total gs ≤ length terms
-  pub small : total gs ≤ 4294967295
+  pub terms-are : terms ≡ padded (placed (termOf interaction) (termWidth interaction) gs done) (length terms)
+  pub fits : termWidth interaction * talliedTotal gs ≤ length terms
+  pub small : talliedTotal gs ≤ 4294967295
 
 -- What placing some items asks.
 pub record ToPlace (interaction : Bool) (n : ℕ) (headers pool terms : List ℕ) (ts : List Item) : Type 0 where
   pub gs : List Tally
   pub done : List Item
   pub placing : Placing interaction gs n headers pool terms done
-  pub room : Room gs (done ++ ts)
+  pub room : RoomForTerms gs (done ++ ts)
 
 -- The variables of the groups.
 unfoldable pub varsIn : List Tally → List ℕ
 varsIn gs = flatMap (λ (g : Tally). g .vars) gs
 
 -- The headers of the groups: both offsets count from what stands before.
-unfoldable pub headersOf : (vo to : ℕ) → List Tally → List ℕ
-headersOf vo to [] = []
-headersOf vo to (g ∷ gs) = vo ∷ to ∷ length (g .vars) ∷ g .count ∷ headersOf (vo + length (g .vars)) (to + g .count) gs
+unfoldable pub talliedHeaders : (vo to : ℕ) → List Tally → List ℕ
+talliedHeaders vo to [] = []
+talliedHeaders vo to (g ∷ gs) = vo ∷ to ∷ length (g .vars) ∷ g .count ∷ talliedHeaders (vo + length (g .vars)) (to + g .count) gs
 
 -- A slice of zeros with room for some words.
 abbrev pub Vacant : (words slice : List ℕ) → Type 0
@@ -188,9 +188,9 @@ Vacant words slice = (slice ≡ zeros (length slice)) × (length words ≤ lengt
 -- What placing the items `ts` does, whatever was placed before.
 abbrev pub Places : (interaction : Bool) (n : ℕ) (pool headers terms headers′ terms′ : List ℕ) (ts : List Item) → Type 0
 Places interaction n pool headers terms headers′ terms′ ts =
-    (gs : List Tally) → (done : List Item) → Placing interaction gs n headers pool terms done → Room gs (done ++ ts)
+    (gs : List Tally) → (done : List Item) → Placing interaction gs n headers pool terms done → RoomForTerms gs (done ++ ts)
     → Placing interaction gs n headers′ pool terms′ (done ++ ts)
 
 -- The variables of the monomials that the lists of these records have, zero coefficients left out.
-unfoldable pub varsNamed : (pool names : List ℕ) → List (List ℕ)
-varsNamed pool names = flatMap (λ (i : ℕ). nonZero (listOf pool i)) names
+unfoldable pub varsNamed : (pool references : List ℕ) → List (List ℕ)
+varsNamed pool references = flatMap (λ (i : ℕ). nonZero (listOf pool i)) references

@@ -2,7 +2,7 @@
 ghost use Prim.Native.Nat.{_+_, _≤_};
 ghost use lib.ListN.{length};
 ghost use Rattle.monomial.specs.Words.{listIn};
-ghost use Rattle.group.specs.Grouped.{Rows, tallied, tallyAll, total, Counted, nonZero, Standing, listOf, InPool};
+ghost use Rattle.group.specs.Grouped.{Rows, tallied, tallyAll, talliedTotal, Counted, nonZero, Standing, listOf, InPool};
 
 mod pending;
 pub mod place;
@@ -23,7 +23,8 @@ pub enum Tallied {
 
 // Counts the monomials of a list that stands at `at`: in runs, each of which has the monomials without a row put in at its end.
 fn tally_list(headers: &mut [u32], n: usize, pool: &[u32], at: usize, count: usize) -> Tallied
-    requires { ⌜ Rows n (now headers) (now pool) × Standing count (now pool) at × (total (tallied n (now headers) (now pool)) + count ≤ 4294967295) ⌝ }
+    requires { ⌜ Rows n (now headers) (now pool) × Standing count (now pool) at
+        × (talliedTotal (tallied n (now headers) (now pool)) + count ≤ 4294967295) ⌝ }
     ensures { λ r. ⌜ Counted (now (headers .exit)) (now (pool .entry))
         (tallyAll (nonZero (listIn (now (pool .entry)) at count)) (tallied n (now (headers .entry)) (now (pool .entry)))) r ⌝ }
 {
@@ -56,7 +57,7 @@ fn tally_list(headers: &mut [u32], n: usize, pool: &[u32], at: usize, count: usi
 // Counts the monomials of a record's list.
 pub fn tally_root(headers: &mut [u32], n: usize, pool: &[u32], node: usize) -> Tallied
     requires { ⌜ Rows n (now headers) (now pool) × InPool (now pool) node
-        × (total (tallied n (now headers) (now pool)) + length (listOf (now pool) node) ≤ 4294967295) ⌝ }
+        × (talliedTotal (tallied n (now headers) (now pool)) + length (listOf (now pool) node) ≤ 4294967295) ⌝ }
     ensures { λ r. ⌜ Counted (now (headers .exit)) (now (pool .entry))
         (tallyAll (nonZero (listOf (now (pool .entry)) node)) (tallied n (now (headers .entry)) (now (pool .entry)))) r ⌝ }
 {

@@ -8,8 +8,8 @@ ghost use Prim.Native.Nat.{ℕ, _+_, _*_, _-_, _≤_, _<_};
 ghost use lib.ListN.{length, getD, drop};
 ghost use lib.Seq.{sets};
 ghost use Rattle.monomial.specs.Words.{readMonomial};
-ghost use Rattle.group.specs.Grouped.{Rows, tallied, total, Counted, nonZero, Standing};
-ghost use Rattle.group.specs.Waiting.{Inside, varsAt, Batch, batched, MayFollow, Nexts, Ran};
+ghost use Rattle.group.specs.Grouped.{Rows, tallied, talliedTotal, Counted, nonZero, Standing};
+ghost use Rattle.group.specs.Waiting.{PlaceInside, poolVars, Batch, batched, MayFollow, Nexts, Ran};
 use monomial::vars;
 use monomial::vars::Order;
 use slices::shift;
@@ -41,8 +41,8 @@ fn put_row(headers: &mut [u32], at: usize, place: u32, count: u32)
 
 // Whether the monomial that stands at `at` may wait behind the b that do: there is room, and it comes after the last of them.
 fn may_follow(places: &[usize], b: usize, pool: &[u32], at: usize) -> bool
-    requires { ⌜ (b ≤ length (now places)) × (0 < length (now places)) × ((j : ℕ) → j < b → Inside (now pool) (getD (now places) j 0))
-        × Inside (now pool) at ⌝ }
+    requires { ⌜ (b ≤ length (now places)) × (0 < length (now places)) × ((j : ℕ) → j < b → PlaceInside (now pool) (getD (now places) j 0))
+        × PlaceInside (now pool) at ⌝ }
     ensures { λ r. ⌜ MayFollow b (now (places .entry)) (now (pool .entry)) at r ⌝ }
 {
     if b == 0 {
@@ -83,9 +83,9 @@ fn tally_near(
     fronts: &mut [usize],
     b: usize,
 ) -> Next
-    requires { ⌜ Batch n b (now headers) (now pool) (now places) (now fronts) × Inside (now pool) at
-        × (total (tallied n (now headers) (now pool)) < 4294967295) ⌝ }
-    ensures { λ r. ⌜ Nexts n b (varsAt (now (pool .entry)) at ∷ []) (batched n b (now (headers .entry)) (now (pool .entry)) (now (places .entry)))
+    requires { ⌜ Batch n b (now headers) (now pool) (now places) (now fronts) × PlaceInside (now pool) at
+        × (talliedTotal (tallied n (now headers) (now pool)) < 4294967295) ⌝ }
+    ensures { λ r. ⌜ Nexts n b (poolVars (now (pool .entry)) at ∷ []) (batched n b (now (headers .entry)) (now (pool .entry)) (now (places .entry)))
         (now (headers .exit)) (now (pool .entry)) (now (places .exit)) (now (fronts .exit)) r ⌝ }
 {
     let found = search::find_near(headers, n, pool, at, near);
@@ -117,8 +117,8 @@ fn tally_kept(
     fronts: &mut [usize],
     b: usize,
 ) -> Next
-    requires { ⌜ Batch n b (now headers) (now pool) (now places) (now fronts) × Inside (now pool) at
-        × (total (tallied n (now headers) (now pool)) < 4294967295) ⌝ }
+    requires { ⌜ Batch n b (now headers) (now pool) (now places) (now fronts) × PlaceInside (now pool) at
+        × (talliedTotal (tallied n (now headers) (now pool)) < 4294967295) ⌝ }
     ensures { λ r. ⌜ Nexts n b (nonZero (readMonomial (drop at (now (pool .entry))) ∷ []))
         (batched n b (now (headers .entry)) (now (pool .entry)) (now (places .entry))) (now (headers .exit)) (now (pool .entry))
         (now (places .exit)) (now (fronts .exit)) r ⌝ }
@@ -139,7 +139,7 @@ pub fn tally_run(
     places: &mut [usize],
     fronts: &mut [usize],
 ) -> Run
-    requires { ⌜ Rows n (now headers) (now pool) × Standing count (now pool) at × (total (tallied n (now headers) (now pool)) + count ≤ 4294967295)
+    requires { ⌜ Rows n (now headers) (now pool) × Standing count (now pool) at × (talliedTotal (tallied n (now headers) (now pool)) + count ≤ 4294967295)
         × (0 < length (now places)) × (length (now fronts) ≡ length (now places)) ⌝ }
     ensures { λ r. ⌜ Ran n (now (pool .entry)) at count (tallied n (now (headers .entry)) (now (pool .entry))) (now (headers .exit))
         (now (places .exit)) (now (fronts .exit)) r ⌝ }

@@ -6,7 +6,7 @@ ghost use lib.ListN.{length, getD, take, drop};
 ghost use lib.Seq.{sets};
 ghost use Rattle.semantics.specs.Group.{Item};
 ghost use Rattle.monomial.specs.Words.{readMonomial, listIn};
-ghost use Rattle.group.specs.Grouped.{Rows, tallied, Standing, listOf, InPool, termOf, widthOf, itemAt, itemsAt, ToPlace, Places, varsIn};
+ghost use Rattle.group.specs.Grouped.{Rows, tallied, Standing, listOf, InPool, termOf, termWidth, itemAt, itemsAt, ToPlace, Places, varsIn};
 use crate::Found;
 
 // A term of a constraint, two words; `at` counts terms.
@@ -32,9 +32,9 @@ fn put_interaction_term(terms: &mut [u32], at: usize, coef: u32, index: u32, fie
 
 // A term of one of the two families.
 fn put_term(terms: &mut [u32], at: usize, interaction: bool, index: u32, field: u32, coef: u32)
-    requires { ⌜ widthOf interaction * at + widthOf interaction ≤ length (now terms) ⌝ }
+    requires { ⌜ termWidth interaction * at + termWidth interaction ≤ length (now terms) ⌝ }
     ensures { λ _. ⌜ ((t : Item) → (t .index ≡ index) → (t .field ≡ field) → (t .coef ≡ coef)
-        → now (terms .exit) ≡ sets (now (terms .entry)) (widthOf interaction * at) (termOf interaction t)) ⌝ }
+        → now (terms .exit) ≡ sets (now (terms .entry)) (termWidth interaction * at) (termOf interaction t)) ⌝ }
 {
     if interaction {
         put_interaction_term(terms, at, coef, index, field);

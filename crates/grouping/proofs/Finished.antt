@@ -14,8 +14,8 @@ use Rattle.semantics.specs.Group.{Root, Item, itemsOf}
 use Rattle.semantics.specs.Call.{zeros, padded}
 use Rattle.semantics.specs.Lists.{All}
 use Rattle.semantics.proofs.Calls.{zeros-add, zeros-long, padded-is}
-use Rattle.group.specs.Grouped.{Tally, tallyAll, Ascends, total, tallyRow, tallied, RowInside, Rows, column, sum, totalled, cursors, select, placed}
-use Rattle.group.specs.Grouped.{itemsAt, termOf, widthOf, Placing, varsIn, headersOf, Vacant, InPool, varsNamed}
+use Rattle.group.specs.Grouped.{Tally, tallyAll, Ascends, talliedTotal, tallyRow, tallied, RowInside, Rows, column, sum, totalled, cursors, select, placed}
+use Rattle.group.specs.Grouped.{itemsAt, termOf, termWidth, Placing, varsIn, talliedHeaders, Vacant, InPool, varsNamed}
 use Rattle.group.proofs.Tallies.{total-all, length-all}
 use Rattle.group.proofs.Places.{placed-none}
 use Rattle.group.proofs.Headers.{tallied-length}
@@ -69,14 +69,14 @@ zeros-padded ws m n e h =
     ap zeros (sym a) ∙ zeros-add m (n - m) ∙ ap (λ (k : ℕ). zeros m ++ zeros k) b ∙ ap (λ (l : List ℕ). l ++ zeros (n - length ws)) (sym e) ∙ sym (padded-is ws n)
 
 pub placing-start : (b : Bool) (n : ℕ) (H H′ P T : List ℕ) → Rows n H P → rows 4 n H′ ≡ totalled 1 3 0 (rows 4 n H) → drop (4 * n) H′ ≡ drop (4 * n) H
-    → length H′ ≡ length H → Vacant (placed (termOf b) (widthOf b) (tallied n H P) []) T → total (tallied n H P) ≤ 4294967295
+    → length H′ ≡ length H → Vacant (placed (termOf b) (termWidth b) (tallied n H P) []) T → talliedTotal (tallied n H P) ≤ 4294967295
     → Placing b (tallied n H P) n H′ P T []
 unfolding tallied
 placing-start b n H H′ P T r e d l v s =
     let m = r .room in
     let t : tallied n H′ P ≡ tallied n H P = ap (map (tallyRow P)) e ∙ start-tallies P 0 (rows 4 n H) in
-    let z = placed-none (termOf b) (widthOf b) (tallied n H P) in
-    let q : length (placed (termOf b) (widthOf b) (tallied n H P) []) ≡ widthOf b * total (tallied n H P) = ap length z ∙ zeros-long (widthOf b * total (tallied n H P)) in
+    let z = placed-none (termOf b) (termWidth b) (tallied n H P) in
+    let q : length (placed (termOf b) (termWidth b) (tallied n H P) []) ≡ termWidth b * talliedTotal (tallied n H P) = ap length z ∙ zeros-long (termWidth b * talliedTotal (tallied n H P)) in
     record {
       rows-are = record {
         room = omega arith;
@@ -86,7 +86,7 @@ placing-start b n H H′ P T r e d l v s =
       };
       tallies-are = t;
       cursors-are = column-words 1 n H′ ∙ ap (words 1) e ∙ start-cursors P 0 (rows 4 n H) (rows-four n H m);
-      terms-are = v .0 ∙ zeros-padded (placed (termOf b) (widthOf b) (tallied n H P) []) (widthOf b * total (tallied n H P)) (length T) z (omega (arith, v .1));
+      terms-are = v .0 ∙ zeros-padded (placed (termOf b) (termWidth b) (tallied n H P) []) (termWidth b * talliedTotal (tallied n H P)) (length T) z (omega (arith, v .1));
       fits = omega (arith, v .1);
       small = s;
     }
@@ -98,8 +98,8 @@ row-vars-long P row i =
     let d = length-drop (getD row 0 0 + 2) P in
     length-take-le (getD row 2 0) (drop (getD row 0 0 + 2) P) (omega (arith, i .0))
 
-sum-terms : (P : List ℕ) (rs : List (List ℕ)) → sum (words 3 rs) ≡ total (map (tallyRow P) rs)
-unfolding sum total
+sum-terms : (P : List ℕ) (rs : List (List ℕ)) → sum (words 3 rs) ≡ talliedTotal (map (tallyRow P) rs)
+unfolding sum talliedTotal
 sum-terms P [] = refl
 sum-terms P (row ∷ rs) = ap (λ (x : ℕ). x + sum (words 3 rs)) (sym (row-count P row)) ∙ ap (λ (x : ℕ). tallyRow P row .count + x) (sum-terms P rs)
 
@@ -116,7 +116,7 @@ sum-few P [] a = omega arith
 sum-few P (row ∷ rs) a = let b = a .0 in omega (arith, b .1, sum-few P rs (a .1))
 
 module _ (n : ℕ) (H P : List ℕ) (r : Rows n H P) where
-  pub total-is : sum (column 3 n H) ≡ total (tallied n H P)
+  pub total-is : sum (column 3 n H) ≡ talliedTotal (tallied n H P)
   unfolding tallied
   total-is = ap sum (column-words 3 n H) ∙ sum-terms P (rows 4 n H)
 
@@ -150,8 +150,8 @@ two-offsets (a ∷ b ∷ c ∷ d ∷ []) v t h = refl
 two-offsets (a ∷ b ∷ c ∷ d ∷ e ∷ row) v t h = absurd (omega arith)
 
 flat-headers : (P : List ℕ) (v t : ℕ) (rs : List (List ℕ)) → Four rs → All (RowInside P) rs
-    → flat (totalled 1 3 t (totalled 0 2 v rs)) ≡ headersOf v t (map (tallyRow P) rs)
-unfolding totalled headersOf flatMap
+    → flat (totalled 1 3 t (totalled 0 2 v rs)) ≡ talliedHeaders v t (map (tallyRow P) rs)
+unfolding totalled talliedHeaders flatMap
 flat-headers P v t [] f a = refl
 flat-headers P v t (row ∷ rs) f a =
     let x : getD (set row 0 v) 3 0 ≡ getD row 3 0 = getD-set-other row 0 3 v 0 (λ z. absurd (omega arith)) in
@@ -160,19 +160,19 @@ flat-headers P v t (row ∷ rs) f a =
     ap (λ (l : List ℕ). l ++ flat (totalled 1 3 (t + getD (set row 0 v) 3 0) (totalled 0 2 (v + getD row 2 0) rs))) (two-offsets row v t (f .0))
     ∙ ap (λ (k : ℕ). v ∷ t ∷ getD row 2 0 ∷ getD row 3 0 ∷ flat (totalled 1 3 (t + k) (totalled 0 2 (v + getD row 2 0) rs))) x
     ∙ ap (λ (l : List ℕ). v ∷ t ∷ getD row 2 0 ∷ getD row 3 0 ∷ l) (flat-headers P (v + getD row 2 0) (t + getD row 3 0) rs (f .1) (a .1))
-    ∙ ap (λ (k : ℕ). v ∷ t ∷ k ∷ getD row 3 0 ∷ headersOf (v + k) (t + getD row 3 0) (map (tallyRow P) rs)) (sym y)
-    ∙ ap (λ (k : ℕ). v ∷ t ∷ length (tallyRow P row .vars) ∷ k ∷ headersOf (v + length (tallyRow P row .vars)) (t + k) (map (tallyRow P) rs)) (sym c)
+    ∙ ap (λ (k : ℕ). v ∷ t ∷ k ∷ getD row 3 0 ∷ talliedHeaders (v + k) (t + getD row 3 0) (map (tallyRow P) rs)) (sym y)
+    ∙ ap (λ (k : ℕ). v ∷ t ∷ length (tallyRow P row .vars) ∷ k ∷ talliedHeaders (v + length (tallyRow P row .vars)) (t + k) (map (tallyRow P) rs)) (sym c)
 
-headers-long : (v t : ℕ) (gs : List Tally) → length (headersOf v t gs) ≡ 4 * length gs
-unfolding headersOf
+headers-long : (v t : ℕ) (gs : List Tally) → length (talliedHeaders v t gs) ≡ 4 * length gs
+unfolding talliedHeaders
 headers-long v t [] = omega arith
 headers-long v t (g ∷ gs) = omega (arith, headers-long (v + length (g .vars)) (t + g .count) gs)
 
 pub headers-filled : (n : ℕ) (H H′ P : List ℕ) → Rows n H P → rows 4 n H′ ≡ totalled 1 3 0 (totalled 0 2 0 (rows 4 n H)) → drop (4 * n) H′ ≡ drop (4 * n) H
-    → length H′ ≡ length H → H′ ≡ padded (headersOf 0 0 (tallied n H P)) (length H′)
+    → length H′ ≡ length H → H′ ≡ padded (talliedHeaders 0 0 (tallied n H P)) (length H′)
 unfolding tallied
 headers-filled n H H′ P r e d l =
-    let hs : List ℕ = headersOf 0 0 (tallied n H P) in
+    let hs : List ℕ = talliedHeaders 0 0 (tallied n H P) in
     let lh : length hs ≡ 4 * n = headers-long 0 0 (tallied n H P) ∙ ap (λ (k : ℕ). 4 * k) (tallied-length n H P) in
     let q : length H - 4 * n ≡ length H′ - length hs = omega arith in
     sym (take-append-drop (4 * n) H′)
@@ -186,24 +186,24 @@ items-label r [] = refl
 items-label r (m ∷ ms) =
     ap (λ (l : List Item). cond (eqb (m .coef) 0) l (record { vars = m .vars; index = r .index; field = r .field; coef = m .coef } ∷ l)) (items-label r ms)
 
-pub total-nil : total [] ≡ 0
-unfolding total
+pub total-nil : talliedTotal [] ≡ 0
+unfolding talliedTotal
 total-nil = refl
 
 -- There are few monomials, and so few rows.
-pub family-small : (n : ℕ) (H P names : List ℕ) → tallied n H P ≡ tallyAll (varsNamed P names) [] → All (InPool P) names → length names ≤ 65536
-    → (total (tallied n H P) ≤ 16777216) × (n ≤ 16777216)
-family-small n H P names g a h =
-    let f = vars-length P names a in
-    let t = ap total g ∙ total-all (varsNamed P names) [] in
-    let z : total [] ≡ 0 = total-nil in
-    let l = length-all (varsNamed P names) [] in
+pub family-small : (n : ℕ) (H P references : List ℕ) → tallied n H P ≡ tallyAll (varsNamed P references) [] → All (InPool P) references → length references ≤ 65536
+    → (talliedTotal (tallied n H P) ≤ 16777216) × (n ≤ 16777216)
+family-small n H P references g a h =
+    let f = vars-length P references a in
+    let t = ap talliedTotal g ∙ total-all (varsNamed P references) [] in
+    let z : talliedTotal [] ≡ 0 = total-nil in
+    let l = length-all (varsNamed P references) [] in
     let e = sym (tallied-length n H P) ∙ ap length g in
     (omega arith, omega arith)
 
-pub vacant-terms : (b : Bool) (gs : List Tally) (T : List ℕ) → T ≡ zeros (length T) → widthOf b * total gs ≤ length T
-    → Vacant (placed (termOf b) (widthOf b) gs []) T
-vacant-terms b gs T e h = (e, let q = ap length (placed-none (termOf b) (widthOf b) gs) ∙ zeros-long (widthOf b * total gs) in omega arith)
+pub vacant-terms : (b : Bool) (gs : List Tally) (T : List ℕ) → T ≡ zeros (length T) → termWidth b * talliedTotal gs ≤ length T
+    → Vacant (placed (termOf b) (termWidth b) gs []) T
+vacant-terms b gs T e h = (e, let q = ap length (placed-none (termOf b) (termWidth b) gs) ∙ zeros-long (termWidth b * talliedTotal gs) in omega arith)
 
 pub zeros-again : (T : List ℕ) (k : ℕ) → T ≡ replicate k 0 → T ≡ zeros (length T)
 unfolding zeros

@@ -33,8 +33,8 @@ use Rattle.grouping.specs.declared.families.Family.the-variants.{Constra
 use Rattle.grouping.specs.declared.Lengths.{Lengths}
 use Rattle.grouping.specs.declared.Grouped.{Grouped}
 use Rattle.grouping.specs.declared.Grouped.the-variants.{Written, Short}
-use Rattle.group.specs.Grouped.{Tally, tallyAll, total, tallied, Rows, Counted, select, countOf, placed, Room, column, sum, listOf, InPool, varsNamed, termOf}
-use Rattle.group.specs.Grouped.{widthOf, Placing, Places, varsIn, headersOf}
+use Rattle.group.specs.Grouped.{Tally, tallyAll, talliedTotal, tallied, Rows, Counted, select, talliedCount, placed, RoomForTerms, column, sum, listOf, InPool, varsNamed, termOf}
+use Rattle.group.specs.Grouped.{termWidth, Placing, Places, varsIn, talliedHeaders}
 use Rattle.grouping.specs.Families.{rootsOf, nodesOf, ToTally, ToPlaceRoots, Grouping, groupsOf, Measured, Front, Laid}
 use Rattle.group.proofs.Gathering.{gathered}
 use Rattle.group.proofs.Tallies.{counted, counted-gathered, gathered-whole, count-all}
@@ -48,8 +48,8 @@ use Rattle.grouping.proofs.RootItems.{items-named}
 use Rattle.monomial.proofs.ListLaws.{stored-list}
 
 -- Groups as tallies.
-headers-are : (v t : ℕ) (gs : List Group) → headersOf v t (map counted gs) ≡ headers v t gs
-unfolding headersOf headers
+headers-are : (v t : ℕ) (gs : List Group) → talliedHeaders v t (map counted gs) ≡ headers v t gs
+unfolding talliedHeaders headers
 headers-are v t [] = refl
 headers-are v t (g ∷ gs) =
     ap (λ (l : List ℕ). v ∷ t ∷ length (g .vars) ∷ length (g .terms) ∷ l) (headers-are (v + length (g .vars)) (t + length (g .terms)) gs)
@@ -59,12 +59,12 @@ unfolding varsIn variables flatMap
 vars-are [] = refl
 vars-are (g ∷ gs) = ap (λ (l : List ℕ). g .vars ++ l) (vars-are gs)
 
-terms-count : (b : Bool) (gs : List Group) → length (terms (termOf b) gs) ≡ widthOf b * total (map counted gs)
-unfolding terms total flatMap
+terms-count : (b : Bool) (gs : List Group) → length (terms (termOf b) gs) ≡ termWidth b * talliedTotal (map counted gs)
+unfolding terms talliedTotal flatMap
 terms-count b [] = omega arith
 terms-count b (g ∷ gs) =
     length-append (flatMap (termOf b) (g .terms)) (terms (termOf b) gs)
-    ∙ omega (arith, flat-length (termOf b) (widthOf b) (term-wide b) (g .terms), terms-count b gs)
+    ∙ omega (arith, flat-length (termOf b) (termWidth b) (term-wide b) (g .terms), terms-count b gs)
 
 -- The first slice that is too short.
 module _ (term : Item → List ℕ) (gs : List Group) (a b c : ℕ) where
@@ -120,13 +120,13 @@ pub record Rowed (ws P : List ℕ) (roots : List Root) (n : ℕ) (H : List ℕ) 
   pub known : Known ws P roots
   pub rows-are : Rows n H P
   pub tallies-are : tallied n H P ≡ tallyAll (varsNamed P (nodesOf roots)) []
-  pub total-small : total (tallied n H P) ≤ 16777216
+  pub total-small : talliedTotal (tallied n H P) ≤ 16777216
   pub rows-few : n ≤ 16777216
 
 -- There is room for all.
 pub record Fits (ws P : List ℕ) (roots : List Root) (b : Bool) (n : ℕ) (H W T : List ℕ) (c : Lengths) : Type 0 where
   pub rowed : Rowed ws P roots n H
-  pub measured : Measured n (widthOf b) (sum (column 2 n H)) (sum (column 3 n H)) (length W) (length T) (Written c)
+  pub measured : Measured n (termWidth b) (sum (column 2 n H)) (sum (column 3 n H)) (length W) (length T) (Written c)
 
 -- Headers and terms are ready for the terms of the roots.
 pub record Started (ws P : List ℕ) (roots : List Root) (b : Bool) (n : ℕ) (H W T : List ℕ) (c : Lengths) (H₁ T₁ : List ℕ) : Type 0 where
@@ -180,22 +180,22 @@ module _ {ws P : List ℕ} {roots : List Root} (f : Known ws P roots) where
   headers-size : length (headers 0 0 (groups list roots)) ≡ 4 * length tallies
   headers-size = headers-length 0 0 (groups list roots) ∙ ap (λ (k : ℕ). 4 * k) (sym (length-map (groups list roots) counted) ∙ ap length counted-are)
 
-  room-is : Room tallies (items (listOf P) roots)
+  room-is : RoomForTerms tallies (items (listOf P) roots)
   room-is v =
-      let e = ap (λ (l : List (List ℕ)). countOf v (tallyAll l [])) (sym (items-named P roots)) ∙ count-all v (items (listOf P) roots) in
+      let e = ap (λ (l : List (List ℕ)). talliedCount v (tallyAll l [])) (sym (items-named P roots)) ∙ count-all v (items (listOf P) roots) in
       omega arith
 
--- Counting starts with no rows; the names are those of the roots' records.
-module _ {ws P : List ℕ} {roots : List Root} (f : Known ws P roots) {H names : List ℕ} (z : H ≡ zeros (length H)) (e : names ≡ nodesOf roots) where
-  pub fit-start : ToTally 0 H P names
+-- Counting starts with no rows; the references are those of the roots' records.
+module _ {ws P : List ℕ} {roots : List Root} (f : Known ws P roots) {H references : List ℕ} (z : H ≡ zeros (length H)) (e : references ≡ nodesOf roots) where
+  pub fit-start : ToTally 0 H P references
   fit-start =
       let r = rows-none H P z in
-      let t = ap total (r .1) ∙ total-nil in
+      let t = ap talliedTotal (r .1) ∙ total-nil in
       let l = ap length e in
       let k = nodes-few f in
       record { rows-are = r .0; lists = subst (All (InPool P)) (sym e) (named f); small = omega arith }
 
-  pub fit-counted : (H′ : List ℕ) (u : Tallied) → Counted H′ P (tallyAll (varsNamed P names) (tallied 0 H P)) u
+  pub fit-counted : (H′ : List ℕ) (u : Tallied) → Counted H′ P (tallyAll (varsNamed P references) (tallied 0 H P)) u
       → Counted H′ P (tallyAll (varsNamed P (nodesOf roots)) []) u
   fit-counted H′ u c = subst (λ (gs : List Tally). Counted H′ P gs u) (λ i. tallyAll (varsNamed P (e i)) (rows-none H P z .1 i)) c
 
@@ -214,13 +214,13 @@ module _ {ws P : List ℕ} {roots : List Root} (f : Known ws P roots) (H : List 
       record { known = f; rows-are = d .0; tallies-are = d .1; total-small = s .0; rows-few = s .1 }
 
 -- A term has at most three words.
-width-few : (b : Bool) → widthOf b ≤ 3
+width-few : (b : Bool) → termWidth b ≤ 3
 width-few false = omega arith
 width-few true = omega arith
 
 -- The rows are counted.
 module _ {ws P : List ℕ} {roots : List Root} {n : ℕ} {H : List ℕ} (r : Rowed ws P roots n H) where
-  pub fit-room : (b : Bool) {w : ℕ} → w ≡ widthOf b → (4 * n ≤ length H) × (n ≤ 16777216) × (sum (column 3 n H) ≤ 16777216) × (w ≤ 3)
+  pub fit-room : (b : Bool) {w : ℕ} → w ≡ termWidth b → (4 * n ≤ length H) × (n ≤ 16777216) × (sum (column 3 n H) ≤ 16777216) × (w ≤ 3)
   fit-room b e =
       let t = total-is n H P (r .rows-are) in
       let s = r .total-small in
@@ -228,19 +228,19 @@ module _ {ws P : List ℕ} {roots : List Root} {n : ℕ} {H : List ℕ} (r : Row
 
   sizes : (b : Bool)
       → (length (headers 0 0 (groupsOf ws roots)) ≡ 4 * n) × (length (variables (groupsOf ws roots)) ≡ sum (column 2 n H))
-      × (length (terms (termOf b) (groupsOf ws roots)) ≡ widthOf b * sum (column 3 n H))
+      × (length (terms (termOf b) (groupsOf ws roots)) ≡ termWidth b * sum (column 3 n H))
   sizes b =
       let l = sym (tallied-length n H P) ∙ ap length (r .tallies-are) in
       let h = headers-size (r .known) in
       let k = counted-are (r .known) ∙ sym (r .tallies-are) in (
         omega arith,
         ap length (sym (vars-are (groupsOf ws roots)) ∙ ap varsIn k) ∙ sym (vars-total n H P (r .rows-are)),
-        terms-count b (groupsOf ws roots) ∙ ap (λ (l : List Tally). widthOf b * total l) k
-            ∙ ap (λ (k : ℕ). widthOf b * k) (sym (total-is n H P (r .rows-are))),
+        terms-count b (groupsOf ws roots) ∙ ap (λ (l : List Tally). termWidth b * talliedTotal l) k
+            ∙ ap (λ (k : ℕ). termWidth b * k) (sym (total-is n H P (r .rows-are))),
       )
 
-  module _ (b : Bool) {w : ℕ} (q : w ≡ widthOf b) (W T : List ℕ) (u : Grouped) (m : Measured n w (sum (column 2 n H)) (sum (column 3 n H)) (length W) (length T) u) where
-    measured-as : {v : Grouped} → u ≡ v → Measured n (widthOf b) (sum (column 2 n H)) (sum (column 3 n H)) (length W) (length T) v
+  module _ (b : Bool) {w : ℕ} (q : w ≡ termWidth b) (W T : List ℕ) (u : Grouped) (m : Measured n w (sum (column 2 n H)) (sum (column 3 n H)) (length W) (length T) u) where
+    measured-as : {v : Grouped} → u ≡ v → Measured n (termWidth b) (sum (column 2 n H)) (sum (column 3 n H)) (length W) (length T) v
     measured-as {v} e =
         subst (λ (w : ℕ). Measured n w (sum (column 2 n H)) (sum (column 3 n H)) (length W) (length T) v) q
         (subst (Measured n w (sum (column 2 n H)) (sum (column 3 n H)) (length W) (length T)) e m)
@@ -252,7 +252,7 @@ module _ {ws P : List ℕ} {roots : List Root} {n : ℕ} {H : List ℕ} (r : Row
     pub fit-short : {k : ℕ} → u ≡ Short k → Laid (termOf b) (groupsOf ws roots) H W T u
     fit-short {k} e = subst (Laid (termOf b) (groupsOf ws roots) H W T) (sym e) (go (measured-as e))
       where
-        go : ((k ≡ 2) × (length W < sum (column 2 n H))) ⊎ ((k ≡ 3) × (sum (column 2 n H) ≤ length W) × (length T < widthOf b * sum (column 3 n H)))
+        go : ((k ≡ 2) × (length W < sum (column 2 n H))) ⊎ ((k ≡ 3) × (sum (column 2 n H) ≤ length W) × (length T < termWidth b * sum (column 3 n H)))
             → Laid (termOf b) (groupsOf ws roots) H W T (Short k)
         go (inl h) =
             let s = sizes b in
@@ -269,8 +269,8 @@ module _ {ws P : List ℕ} {roots : List Root} {n : ℕ} {H : List ℕ} (r : Row
             )
 
 pub fit-terms : {ws P : List ℕ} {roots : List Root} {b : Bool} {n : ℕ} {H W T : List ℕ} {c : Lengths} → Fits ws P roots b n H W T c
-    → widthOf b * total (tallied n H P) ≤ length T
-fit-terms {ws} {P} {roots} {b} {n} {H} {W} {T} g = subst (λ (k : ℕ). widthOf b * k ≤ length T) (total-is n H P (g .rowed .rows-are)) (g .measured .4)
+    → termWidth b * talliedTotal (tallied n H P) ≤ length T
+fit-terms {ws} {P} {roots} {b} {n} {H} {W} {T} g = subst (λ (k : ℕ). termWidth b * k ≤ length T) (total-is n H P (g .rowed .rows-are)) (g .measured .4)
 
 -- The terms are placed.
 module _ {ws P : List ℕ} {roots : List Root} {b : Bool} {n : ℕ} {H W T : List ℕ} {c : Lengths} {H₁ T₁ : List ℕ}
@@ -278,8 +278,8 @@ module _ {ws P : List ℕ} {roots : List Root} {b : Bool} {n : ℕ} {H W T : Lis
   abbrev r : Rowed ws P roots n H
   r = g .fits .rowed
 
-  room-now : Room (tallied n H P) (items (listOf P) roots)
-  room-now = λ v. subst (λ (l : List Tally). length (select v (items (listOf P) roots)) ≤ countOf v l) (sym (r .tallies-are)) (room-is (r .known) v)
+  room-now : RoomForTerms (tallied n H P) (items (listOf P) roots)
+  room-now = λ v. subst (λ (l : List Tally). length (select v (items (listOf P) roots)) ≤ talliedCount v l) (sym (r .tallies-are)) (room-is (r .known) v)
 
   pub fit-place : ToPlaceRoots b n H₁ P T₁ roots
   fit-place = record {
@@ -291,10 +291,10 @@ module _ {ws P : List ℕ} {roots : List Root} {b : Bool} {n : ℕ} {H W T : Lis
     placed-now : Placing b (tallied n H P) n H₂ P T₂ (items (listOf P) roots)
     placed-now = p (tallied n H P) [] (g .placing) room-now
 
-    pub fit-finish : Rows n H₂ P × (n ≤ 16777216) × (total (tallied n H₂ P) ≤ 16777216) × (length (varsIn (tallied n H₂ P)) ≤ length W)
+    pub fit-finish : Rows n H₂ P × (n ≤ 16777216) × (talliedTotal (tallied n H₂ P) ≤ 16777216) × (length (varsIn (tallied n H₂ P)) ≤ length W)
     fit-finish =
         let t = placed-now .tallies-are in
-        let a = ap total t in
+        let a = ap talliedTotal t in
         let d = ap (λ (l : List Tally). length (varsIn l)) t in
         let v = vars-total n H P (r .rows-are) in
         let s = r .total-small in
@@ -302,23 +302,23 @@ module _ {ws P : List ℕ} {roots : List Root} {b : Bool} {n : ℕ} {H W T : Lis
 
     -- All is written.
     pub fit-written : (H₃ W₃ : List ℕ) → length H₃ ≡ length H → length W₃ ≡ length W → length T₂ ≡ length T
-        → Front (headersOf 0 0 (tallied n H₂ P)) H₃ → Front (varsIn (tallied n H₂ P)) W₃ → Laid (termOf b) (groupsOf ws roots) H₃ W₃ T₂ (Written c)
+        → Front (talliedHeaders 0 0 (tallied n H₂ P)) H₃ → Front (varsIn (tallied n H₂ P)) W₃ → Laid (termOf b) (groupsOf ws roots) H₃ W₃ T₂ (Written c)
     fit-written H₃ W₃ lh lv lt x y =
         let s = sizes r b in
         let o = r .rows-are .room in
         let h = g .fits .measured in
         let gs : List Group = groupsOf ws roots in
         let t : tallied n H₂ P ≡ map counted gs = placed-now .tallies-are ∙ r .tallies-are ∙ sym (counted-are (r .known)) in
-        let hs = ap (headersOf 0 0) t ∙ headers-are 0 0 gs in
+        let hs = ap (talliedHeaders 0 0) t ∙ headers-are 0 0 gs in
         let vw = ap varsIn t ∙ vars-are gs in
-        let ts : placed (termOf b) (widthOf b) (tallied n H P) (items (listOf P) roots) ≡ terms (termOf b) gs =
-        ap (λ (l : List Tally). placed (termOf b) (widthOf b) l (items (listOf P) roots)) (r .tallies-are ∙ sym (counted-are (r .known)) ∙ ap (map counted) (groups-are (r .known)))
-        ∙ placed-all (termOf b) (widthOf b) (term-wide b) (gathered (items (listOf P) roots)) (items (listOf P) roots) (gathered-whole (items (listOf P) roots))
+        let ts : placed (termOf b) (termWidth b) (tallied n H P) (items (listOf P) roots) ≡ terms (termOf b) gs =
+        ap (λ (l : List Tally). placed (termOf b) (termWidth b) l (items (listOf P) roots)) (r .tallies-are ∙ sym (counted-are (r .known)) ∙ ap (map counted) (groups-are (r .known)))
+        ∙ placed-all (termOf b) (termWidth b) (term-wide b) (gathered (items (listOf P) roots)) (items (listOf P) roots) (gathered-whole (items (listOf P) roots))
         ∙ ap (terms (termOf b)) (sym (groups-are (r .known))) in (
           short-none (termOf b) gs (length H₃) (length W₃) (length T₂) (omega (arith, s .0)) (omega (arith, s .1, h .3)) (omega (arith, s .2, h .4)),
           subst (λ (w : List ℕ). Front w H₃) hs x,
           subst (λ (w : List ℕ). Front w W₃) vw y,
-          subst (λ (w : List ℕ). Front w T₂) ts (padded-starts (placed (termOf b) (widthOf b) (tallied n H P) (items (listOf P) roots)) T₂ (placed-now .terms-are)),
+          subst (λ (w : List ℕ). Front w T₂) ts (padded-starts (placed (termOf b) (termWidth b) (tallied n H P) (items (listOf P) roots)) T₂ (placed-now .terms-are)),
           h .0 ∙ sym (s .0),
           h .1 ∙ sym (s .1),
           h .2 ∙ sym (s .2),

@@ -8,11 +8,11 @@ use lib.Seq.{drop-cons}
 use Rattle.slices.proofs.Lists.{flat-append}
 use Rattle.semantics.specs.Lists.{All}
 use Rattle.records.specs.declared.Interaction.{Interaction}
-use Rattle.records.specs.Access.{recordsOf, part, eachWords, RootsInside, AllRootsInside}
-use Rattle.records.proofs.Takings.{Taken, taken-words, taken-names}
+use Rattle.records.specs.Access.{recordsOf, wordsFrom, eachWords, RootsInside, AllRootsInside}
+use Rattle.records.proofs.Takings.{Taken, taken-words, taken-references}
 use Rattle.group.specs.declared.Tallied.{Tallied}
 use Rattle.group.specs.declared.Tallied.the-variants.{Headers, Full}
-use Rattle.group.specs.Grouped.{tallyAll, total, tallied, Rows, Counted, nonZero, listOf, InPool, varsNamed}
+use Rattle.group.specs.Grouped.{tallyAll, talliedTotal, tallied, Rows, Counted, nonZero, listOf, InPool, varsNamed}
 use Rattle.grouping.specs.Families.{ToTally, interactionIn}
 use Rattle.group.proofs.Tallies.{tallyAll-append, tallyAll-grows, total-all}
 use Rattle.group.proofs.PoolLists.{nonZero-length}
@@ -27,7 +27,7 @@ all-back Q (x ∷ xs) ys h = all-back Q xs ys (h .1)
 
 -- The next of the words that a loop goes through, and the end.
 pub part-next : (ws : List ℕ) (at count j : ℕ) → j < count → at + count ≤ length ws
-    → part (at + j) (count - j) ws ≡ getD ws (at + j) 0 ∷ part (at + (j + 1)) (count - (j + 1)) ws
+    → wordsFrom (at + j) (count - j) ws ≡ getD ws (at + j) 0 ∷ wordsFrom (at + (j + 1)) (count - (j + 1)) ws
 part-next ws at count j h l =
     let k : count - j ≡ suc (count - (j + 1)) = omega arith in
     let e : suc (at + j) ≡ at + (j + 1) = omega arith in
@@ -35,16 +35,16 @@ part-next ws at count j h l =
     ∙ ap (take (suc (count - (j + 1)))) (drop-cons ws (at + j) 0 (omega arith))
     ∙ ap (λ (n : ℕ). getD ws (at + j) 0 ∷ take (count - (j + 1)) (drop n ws)) e
 
-pub part-first : (ws : List ℕ) (at count : ℕ) → part (at + 0) (count - 0) ws ≡ part at count ws
+pub part-first : (ws : List ℕ) (at count : ℕ) → wordsFrom (at + 0) (count - 0) ws ≡ wordsFrom at count ws
 part-first ws at count =
     let a : at + 0 ≡ at = omega arith in
     let b : count - 0 ≡ count = omega arith in
-    λ i. part (a i) (b i) ws
+    λ i. wordsFrom (a i) (b i) ws
 
-pub part-one : (ws : List ℕ) (at : ℕ) → at < length ws → part at 1 ws ≡ getD ws at 0 ∷ []
+pub part-one : (ws : List ℕ) (at : ℕ) → at < length ws → wordsFrom at 1 ws ≡ getD ws at 0 ∷ []
 part-one ws at h = ap (take 1) (drop-cons ws at 0 h)
 
-pub part-end : (ws : List ℕ) (at count j : ℕ) → count ≤ j → part (at + j) (count - j) ws ≡ []
+pub part-end : (ws : List ℕ) (at count j : ℕ) → count ≤ j → wordsFrom (at + j) (count - j) ws ≡ []
 part-end ws at count j h = let z : count - j ≡ 0 = omega arith in ap (λ (n : ℕ). take n (drop (at + j) ws)) z
 
 -- The interactions that a loop has not passed yet: those from `from` on.
@@ -70,7 +70,7 @@ module _ {ws : List ℕ} {count from i : ℕ} (g : Rest ws count from i) (h : i 
     inside = subst (λ (a : ℕ). AllRootsInside (length (recordsOf ws)) ws a (count - (i + 1))) (sym e) (now .1);
   }
 
--- The names of the next interaction, and the end.
+-- The references of the next interaction, and the end.
 pub each-next : (one : ℕ → List ℕ) (ws : List ℕ) (from count i from′ : ℕ) → i < count → from′ ≡ interactionIn ws from .next
     → eachWords one ws from (count - i) ≡ one from ++ eachWords one ws from′ (count - (i + 1))
 unfolding eachWords
@@ -105,43 +105,43 @@ module _ (P : List ℕ) where
       omega arith
 
 -- While lists are counted: those of `left` are still to count.
-pub record NamesLeft (H₀ : List ℕ) (n : ℕ) (P names H : List ℕ) (rows : ℕ) (left : List ℕ) : Type 0 where
+pub record NamesLeft (H₀ : List ℕ) (n : ℕ) (P references H : List ℕ) (rows : ℕ) (left : List ℕ) : Type 0 where
   pub ready : ToTally rows H P left
   pub long : length H ≡ length H₀
-  pub same : tallyAll (varsNamed P left) (tallied rows H P) ≡ tallyAll (varsNamed P names) (tallied n H₀ P)
+  pub same : tallyAll (varsNamed P left) (tallied rows H P) ≡ tallyAll (varsNamed P references) (tallied n H₀ P)
 
-pub names-start : {H : List ℕ} {n : ℕ} {P names left : List ℕ} → ToTally n H P names → left ≡ names → NamesLeft H n P names H n left
-names-start {H} {n} {P} {names} t e = subst (NamesLeft H n P names H n) (sym e) (record { ready = t; long = refl; same = refl })
+pub references-start : {H : List ℕ} {n : ℕ} {P references left : List ℕ} → ToTally n H P references → left ≡ references → NamesLeft H n P references H n left
+references-start {H} {n} {P} {references} t e = subst (NamesLeft H n P references H n) (sym e) (record { ready = t; long = refl; same = refl })
 
-module _ {H₀ : List ℕ} {n : ℕ} {P names H : List ℕ} {rows : ℕ} {left : List ℕ} (g : NamesLeft H₀ n P names H rows left) where
-  pub names-done : left ≡ [] → Counted H P (tallyAll (varsNamed P names) (tallied n H₀ P)) (Headers rows)
+module _ {H₀ : List ℕ} {n : ℕ} {P references H : List ℕ} {rows : ℕ} {left : List ℕ} (g : NamesLeft H₀ n P references H rows left) where
+  pub references-done : left ≡ [] → Counted H P (tallyAll (varsNamed P references) (tallied n H₀ P)) (Headers rows)
   unfolding varsNamed flatMap tallyAll
-  names-done e = (g .ready .rows-are, sym (ap (λ (l : List ℕ). tallyAll (varsNamed P l) (tallied rows H P)) e) ∙ g .same)
+  references-done e = (g .ready .rows-are, sym (ap (λ (l : List ℕ). tallyAll (varsNamed P l) (tallied rows H P)) e) ∙ g .same)
 
   module _ (xs ys : List ℕ) (e : left ≡ xs ++ ys) where
     lists-are : All (InPool P) (xs ++ ys)
     lists-are = subst (All (InPool P)) e (g .ready .lists)
 
-    pub names-next : ToTally rows H P xs
-    names-next =
+    pub references-next : ToTally rows H P xs
+    references-next =
         let s = g .ready .small in
         let l = ap length e ∙ length-append xs ys in
         record { rows-are = g .ready .rows-are; lists = all-front (InPool P) xs ys lists-are; small = omega arith }
 
-    both : tallyAll (varsNamed P ys) (tallyAll (varsNamed P xs) (tallied rows H P)) ≡ tallyAll (varsNamed P names) (tallied n H₀ P)
+    both : tallyAll (varsNamed P ys) (tallyAll (varsNamed P xs) (tallied rows H P)) ≡ tallyAll (varsNamed P references) (tallied n H₀ P)
     both =
         sym (tallyAll-append (varsNamed P xs) (varsNamed P ys) (tallied rows H P))
         ∙ ap (λ (l : List (List ℕ)). tallyAll l (tallied rows H P)) (sym (vars-append P xs ys) ∙ ap (varsNamed P) (sym e))
         ∙ g .same
 
-    -- What counting the next names answers.
+    -- What counting the next references answers.
     module _ (H′ : List ℕ) (u : Tallied) (c : Counted H′ P (tallyAll (varsNamed P xs) (tallied rows H P)) u) where
-      pub names-more : length H′ ≡ length H → {k : ℕ} → u ≡ Headers k → NamesLeft H₀ n P names H′ k ys
-      names-more z q =
+      pub references-more : length H′ ≡ length H → {k : ℕ} → u ≡ Headers k → NamesLeft H₀ n P references H′ k ys
+      references-more z q =
           let d = subst (Counted H′ P (tallyAll (varsNamed P xs) (tallied rows H P))) q c in
           let s = g .ready .small in
           let l = ap length e ∙ length-append xs ys in
-          let t = ap total (d .1) ∙ total-all (varsNamed P xs) (tallied rows H P) in
+          let t = ap talliedTotal (d .1) ∙ total-all (varsNamed P xs) (tallied rows H P) in
           let v = vars-length P xs (all-front (InPool P) xs ys lists-are) in
           record {
             ready = record { rows-are = d .0; lists = all-back (InPool P) xs ys lists-are; small = omega arith };
@@ -150,8 +150,8 @@ module _ {H₀ : List ℕ} {n : ℕ} {P names H : List ℕ} {rows : ℕ} {left :
           }
 
       -- However much more comes, the slice stays too short.
-      pub names-full : u ≡ Full → Counted H′ P (tallyAll (varsNamed P names) (tallied n H₀ P)) Full
-      names-full q =
+      pub references-full : u ≡ Full → Counted H′ P (tallyAll (varsNamed P references) (tallied n H₀ P)) Full
+      references-full q =
           let d = subst (Counted H′ P (tallyAll (varsNamed P xs) (tallied rows H P))) q c in
           let w = tallyAll-grows (varsNamed P ys) (tallyAll (varsNamed P xs) (tallied rows H P)) in
           let b = ap length both in
@@ -160,25 +160,25 @@ module _ {H₀ : List ℕ} {n : ℕ} {P names H : List ℕ} {rows : ℕ} {left :
 -- The words from `at` on name the records; j of them are passed.
 pub record NamesAt (ws : List ℕ) (at count : ℕ) (H₀ : List ℕ) (n : ℕ) (P H : List ℕ) (rows j : ℕ) : Type 0 where
   pub upto : j ≤ count
-  pub left : NamesLeft H₀ n P (part at count ws) H rows (part (at + j) (count - j) ws)
+  pub left : NamesLeft H₀ n P (wordsFrom at count ws) H rows (wordsFrom (at + j) (count - j) ws)
 
-pub at-start : {ws : List ℕ} {at count : ℕ} {H : List ℕ} {n : ℕ} {P : List ℕ} → ToTally n H P (part at count ws) → NamesAt ws at count H n P H n 0
-at-start {ws} {at} {count} t = record { upto = omega arith; left = names-start t (part-first ws at count) }
+pub at-start : {ws : List ℕ} {at count : ℕ} {H : List ℕ} {n : ℕ} {P : List ℕ} → ToTally n H P (wordsFrom at count ws) → NamesAt ws at count H n P H n 0
+at-start {ws} {at} {count} t = record { upto = omega arith; left = references-start t (part-first ws at count) }
 
 module _ {ws : List ℕ} {at count : ℕ} {H₀ : List ℕ} {n : ℕ} {P H : List ℕ} {rows j : ℕ} (g : NamesAt ws at count H₀ n P H rows j) where
-  pub at-done : count ≤ j → Counted H P (tallyAll (varsNamed P (part at count ws)) (tallied n H₀ P)) (Headers rows)
-  at-done h = names-done (g .left) (part-end ws at count j h)
+  pub at-done : count ≤ j → Counted H P (tallyAll (varsNamed P (wordsFrom at count ws)) (tallied n H₀ P)) (Headers rows)
+  at-done h = references-done (g .left) (part-end ws at count j h)
 
   module _ (h : j < count) (l : at + count ≤ length ws) {r : ℕ} (e : r ≡ getD ws (at + j) 0) where
     abbrev rest : List ℕ
-    rest = part (at + (j + 1)) (count - (j + 1)) ws
+    rest = wordsFrom (at + (j + 1)) (count - (j + 1)) ws
 
-    next-is : part (at + j) (count - j) ws ≡ (r ∷ []) ++ rest
+    next-is : wordsFrom (at + j) (count - j) ws ≡ (r ∷ []) ++ rest
     next-is = part-next ws at count j h l ∙ ap (λ (x : ℕ). x ∷ rest) (sym e)
 
-    pub at-ready : Rows rows H P × InPool P r × (total (tallied rows H P) + length (listOf P r) ≤ 4294967295)
+    pub at-ready : Rows rows H P × InPool P r × (talliedTotal (tallied rows H P) + length (listOf P r) ≤ 4294967295)
     at-ready =
-        let t = names-next (g .left) (r ∷ []) rest next-is in
+        let t = references-next (g .left) (r ∷ []) rest next-is in
         let s = t .small in
         let f = t .lists .0 .few in
         (t .rows-are, t .lists .0, omega arith)
@@ -188,10 +188,10 @@ module _ {ws : List ℕ} {at count : ℕ} {H₀ : List ℕ} {n : ℕ} {P H : Lis
       named = subst (λ (v : List (List ℕ)). Counted H′ P (tallyAll v (tallied rows H P)) u) (sym (vars-one P r)) c
 
       pub at-more : length H′ ≡ length H → {k : ℕ} → u ≡ Headers k → NamesAt ws at count H₀ n P H′ k (j + 1)
-      at-more z q = record { upto = omega arith; left = names-more (g .left) (r ∷ []) rest next-is H′ u named z q }
+      at-more z q = record { upto = omega arith; left = references-more (g .left) (r ∷ []) rest next-is H′ u named z q }
 
-      pub at-full : u ≡ Full → Counted H′ P (tallyAll (varsNamed P (part at count ws)) (tallied n H₀ P)) Full
-      at-full q = names-full (g .left) (r ∷ []) rest next-is H′ u named q
+      pub at-full : u ≡ Full → Counted H′ P (tallyAll (varsNamed P (wordsFrom at count ws)) (tallied n H₀ P)) Full
+      at-full q = references-full (g .left) (r ∷ []) rest next-is H′ u named q
 
 -- The same for interactions: `one` is what is taken of each, and i of them are passed.
 pub record EachAt (one : ℕ → List ℕ) (ws : List ℕ) (at count : ℕ) (H₀ : List ℕ) (n : ℕ) (P H : List ℕ) (rows from i : ℕ) : Type 0 where
@@ -200,28 +200,28 @@ pub record EachAt (one : ℕ → List ℕ) (ws : List ℕ) (at count : ℕ) (H�
 
 pub each-start : {one : ℕ → List ℕ} {ws : List ℕ} {at count : ℕ} {H : List ℕ} {n : ℕ} {P : List ℕ}
     → AllRootsInside (length (recordsOf ws)) ws at count → ToTally n H P (eachWords one ws at count) → EachAt one ws at count H n P H n at 0
-each-start {one} {ws} {at} {count} h t = record { rest = rest-start h; left = names-start t (each-first one ws at count) }
+each-start {one} {ws} {at} {count} h t = record { rest = rest-start h; left = references-start t (each-first one ws at count) }
 
 module _ {one : ℕ → List ℕ} {ws : List ℕ} {at count : ℕ} {H₀ : List ℕ} {n : ℕ} {P H : List ℕ} {rows from i : ℕ} (g : EachAt one ws at count H₀ n P H rows from i) where
   pub each-done : count ≤ i → Counted H P (tallyAll (varsNamed P (eachWords one ws at count)) (tallied n H₀ P)) (Headers rows)
-  each-done h = names-done (g .left) (each-end one ws from count i h)
+  each-done h = references-done (g .left) (each-end one ws from count i h)
 
   module _ (h : i < count) {place size : Interaction → ℕ} (t : Taken one ws place size) {x : Interaction} (e : x ≡ interactionIn ws from) where
     abbrev behind : List ℕ
     behind = eachWords one ws (x .next) (count - (i + 1))
 
-    next-each : eachWords one ws from (count - i) ≡ part (place x) (size x) ws ++ behind
+    next-each : eachWords one ws from (count - i) ≡ wordsFrom (place x) (size x) ws ++ behind
     next-each = each-next one ws from count i (x .next) h (ap (λ (y : Interaction). y .next) e) ∙ ap (λ (l : List ℕ). l ++ behind) (sym (taken-words t e))
 
-    pub each-ready : (place x + size x ≤ length ws) × ToTally rows H P (part (place x) (size x) ws)
-    each-ready = (taken-names t e (rest-next (g .rest) h) .inside, names-next (g .left) (part (place x) (size x) ws) behind next-each)
+    pub each-ready : (place x + size x ≤ length ws) × ToTally rows H P (wordsFrom (place x) (size x) ws)
+    each-ready = (taken-references t e (rest-next (g .rest) h) .inside, references-next (g .left) (wordsFrom (place x) (size x) ws) behind next-each)
 
-    module _ (H′ : List ℕ) (u : Tallied) (c : Counted H′ P (tallyAll (varsNamed P (part (place x) (size x) ws)) (tallied rows H P)) u) where
+    module _ (H′ : List ℕ) (u : Tallied) (c : Counted H′ P (tallyAll (varsNamed P (wordsFrom (place x) (size x) ws)) (tallied rows H P)) u) where
       pub each-more : length H′ ≡ length H → {k : ℕ} → u ≡ Headers k → EachAt one ws at count H₀ n P H′ k (x .next) (i + 1)
       each-more z q = record {
         rest = rest-more (g .rest) h (ap (λ (y : Interaction). y .next) e);
-        left = names-more (g .left) (part (place x) (size x) ws) behind next-each H′ u c z q;
+        left = references-more (g .left) (wordsFrom (place x) (size x) ws) behind next-each H′ u c z q;
       }
 
       pub each-full : u ≡ Full → Counted H′ P (tallyAll (varsNamed P (eachWords one ws at count)) (tallied n H₀ P)) Full
-      each-full q = names-full (g .left) (part (place x) (size x) ws) behind next-each H′ u c q
+      each-full q = references-full (g .left) (wordsFrom (place x) (size x) ws) behind next-each H′ u c q

@@ -15,12 +15,12 @@ use Rattle.semantics.specs.Monomial.{Monomial}
 use Rattle.semantics.specs.Group.{Root, labelled, constraintRoots, countRoots, fieldRoots, Item, itemsOf, items}
 use Rattle.semantics.specs.Lists.{All}
 use Rattle.records.specs.declared.Interaction as places
-use Rattle.records.specs.Access.{recordsOf, constraintsAt, interactionsAt, part, countAt, fieldsAt, countWords, fieldWords, RootsInside, AllRootsInside}
+use Rattle.records.specs.Access.{recordsOf, constraintsAt, interactionsAt, wordsFrom, countAt, fieldsAt, countWords, fieldWords, RootsInside, AllRootsInside}
 use Rattle.records.proofs.Reading.{count-word, message-is, next-stands, first-stands, counts-small, constraints-are, constraints-inside, interactions-stand}
 use Rattle.records.proofs.Reading.{interactions-inside, counts-are, fields-are}
 use Rattle.records.proofs.Steps.{inside}
 use Rattle.semantics.proofs.Demands as demands
-use Rattle.group.specs.Grouped.{Room, listOf, InPool, itemsAt, Placing, ToPlace, Places, varsNamed}
+use Rattle.group.specs.Grouped.{RoomForTerms, listOf, InPool, itemsAt, Placing, ToPlace, Places, varsNamed}
 use Rattle.grouping.specs.declared.families.Family.{Family}
 use Rattle.grouping.specs.declared.families.Family.the-variants.{Constraints, Counts, Fields}
 use Rattle.grouping.specs.Families.{rootsOf, nodesOf, constraintRoot, fieldRoot, interactionIn, eachRoots, countRootAt, fieldRootsAt, ToPlaceRoots}
@@ -29,7 +29,7 @@ use Rattle.group.proofs.Placements.{room-front}
 use Rattle.group.proofs.PoolLists.{items-vars}
 use Rattle.grouping.proofs.Finished.{items-label}
 use Rattle.grouping.proofs.NamedLists.{all-front, all-back, part-next, part-first, part-one, part-end, Rest, rest-start, rest-next, rest-more}
-use Rattle.records.proofs.Takings.{Taken, count-taken, fields-taken, taken-words, taken-names}
+use Rattle.records.proofs.Takings.{Taken, count-taken, fields-taken, taken-words, taken-references}
 
 module _ (list : ℕ → List Monomial) where
   pub items-append : (rs ss : List Root) → items list (rs ++ ss) ≡ items list rs ++ items list ss
@@ -56,7 +56,7 @@ pub places-both : (b : Bool) (n : ℕ) (P H T H′ T′ H″ T″ : List ℕ) (t
     → Places b n P H T H″ T″ (ts ++ us)
 places-both b n P H T H′ T′ H″ T″ ts us f g gs done p r =
     let e = append-assoc done ts us in
-    let q : Room gs ((done ++ ts) ++ us) = subst (Room gs) (sym e) r in
+    let q : RoomForTerms gs ((done ++ ts) ++ us) = subst (RoomForTerms gs) (sym e) r in
     subst (Placing b gs n H″ P T″) e (g gs (done ++ ts) (f gs done p (room-front gs (done ++ ts) us q)) q)
 
 -- While terms are placed: those of the roots `left` are still to place.
@@ -87,14 +87,14 @@ module _ {b : Bool} {n : ℕ} {P H₀ T₀ : List ℕ} {roots : List Root} {H T 
     lists-are : All (λ (r : Root). InPool P (r .node)) (xs ++ ys)
     lists-are = subst (All (λ (r : Root). InPool P (r .node))) e (g .ready .lists)
 
-    room-both : Room (g .ready .to-place .gs) ((g .ready .to-place .done ++ items (listOf P) xs) ++ items (listOf P) ys)
+    room-both : RoomForTerms (g .ready .to-place .gs) ((g .ready .to-place .done ++ items (listOf P) xs) ++ items (listOf P) ys)
     room-both =
-        subst (Room (g .ready .to-place .gs))
+        subst (RoomForTerms (g .ready .to-place .gs))
         (ap (λ (l : List Item). g .ready .to-place .done ++ l) items-are
         ∙ sym (append-assoc (g .ready .to-place .done) (items (listOf P) xs) (items (listOf P) ys)))
         (g .ready .to-place .room)
 
-    room-first : Room (g .ready .to-place .gs) (g .ready .to-place .done ++ items (listOf P) xs)
+    room-first : RoomForTerms (g .ready .to-place .gs) (g .ready .to-place .done ++ items (listOf P) xs)
     room-first = room-front (g .ready .to-place .gs) (g .ready .to-place .done ++ items (listOf P) xs) (items (listOf P) ys) room-both
 
     pub roots-next : ToPlaceRoots b n H P T xs
@@ -127,10 +127,10 @@ module _ {b : Bool} {n : ℕ} {P H₀ T₀ : List ℕ} {roots : List Root} {H T 
 -- The words from `at` on name the records of roots, one each; j of them are passed.
 pub record RootsAt (f : ℕ → ℕ → Root) (b : Bool) (ws : List ℕ) (at count n : ℕ) (P H₀ T₀ H T : List ℕ) (j : ℕ) : Type 0 where
   pub upto : j ≤ count
-  pub left : RootsLeft b n P H₀ T₀ (labelled (λ i c. f i c ∷ []) 0 (part at count ws)) H T (labelled (λ i c. f i c ∷ []) j (part (at + j) (count - j) ws))
+  pub left : RootsLeft b n P H₀ T₀ (labelled (λ i c. f i c ∷ []) 0 (wordsFrom at count ws)) H T (labelled (λ i c. f i c ∷ []) j (wordsFrom (at + j) (count - j) ws))
 
 pub roots-at-start : {f : ℕ → ℕ → Root} {b : Bool} {ws : List ℕ} {at count n : ℕ} {P H T : List ℕ}
-    → ToPlaceRoots b n H P T (labelled (λ i c. f i c ∷ []) 0 (part at count ws)) → RootsAt f b ws at count n P H T H T 0
+    → ToPlaceRoots b n H P T (labelled (λ i c. f i c ∷ []) 0 (wordsFrom at count ws)) → RootsAt f b ws at count n P H T H T 0
 roots-at-start {f} {b} {ws} {at} {count} t = record {
   upto = omega arith;
   left = roots-start t (ap (labelled (λ i c. f i c ∷ []) 0) (part-first ws at count));
@@ -140,19 +140,19 @@ module _ {f : ℕ → ℕ → Root} {b : Bool} {ws : List ℕ} {at count n : ℕ
   abbrev rootsFrom : ℕ → List ℕ → List Root
   rootsFrom j xs = labelled (λ i c. f i c ∷ []) j xs
 
-  pub roots-at-done : count ≤ j → Places b n P H₀ T₀ H T (items (listOf P) (rootsFrom 0 (part at count ws)))
+  pub roots-at-done : count ≤ j → Places b n P H₀ T₀ H T (items (listOf P) (rootsFrom 0 (wordsFrom at count ws)))
   unfolding labelled
   roots-at-done h = roots-done (g .left) (ap (rootsFrom j) (part-end ws at count j h))
 
   module _ (h : j < count) (l : at + count ≤ length ws) {r : ℕ} (e : r ≡ getD ws (at + j) 0) where
     abbrev rest : List Root
-    rest = rootsFrom (j + 1) (part (at + (j + 1)) (count - (j + 1)) ws)
+    rest = rootsFrom (j + 1) (wordsFrom (at + (j + 1)) (count - (j + 1)) ws)
 
-    next-is : rootsFrom j (part (at + j) (count - j) ws) ≡ (f j r ∷ []) ++ rest
+    next-is : rootsFrom j (wordsFrom (at + j) (count - j) ws) ≡ (f j r ∷ []) ++ rest
     unfolding labelled
     next-is =
-        ap (rootsFrom j) (part-next ws at count j h l ∙ ap (λ (x : ℕ). x ∷ part (at + (j + 1)) (count - (j + 1)) ws) (sym e))
-        ∙ ap (λ (k : ℕ). f j r ∷ rootsFrom k (part (at + (j + 1)) (count - (j + 1)) ws)) (sym (add-one j))
+        ap (rootsFrom j) (part-next ws at count j h l ∙ ap (λ (x : ℕ). x ∷ wordsFrom (at + (j + 1)) (count - (j + 1)) ws) (sym e))
+        ∙ ap (λ (k : ℕ). f j r ∷ rootsFrom k (wordsFrom (at + (j + 1)) (count - (j + 1)) ws)) (sym (add-one j))
 
     one-is : items (listOf P) (f j r ∷ []) ≡ itemsAt (f j r .index) (f j r .field) (listOf P (f j r .node))
     one-is = items-one (listOf P) (f j r)
@@ -169,17 +169,17 @@ module _ {f : ℕ → ℕ → Root} {b : Bool} {ws : List ℕ} {at count n : ℕ
       left = roots-more (g .left) (f j r ∷ []) rest next-is lh lt (subst (Places b n P H T H′ T′) (sym one-is) p);
     }
 
--- The roots of an interaction: `one` gives them from the names that are taken of it.
+-- The roots of an interaction: `one` gives them from the references that are taken of it.
 pub record TakenRoots (one : ℕ → ℕ → List Root) (ws : List ℕ) (place size : places.Interaction → ℕ) : Type 0 where
-  pub names : ℕ → List ℕ
-  pub taken : Taken names ws place size
-  pub roots : (i at : ℕ) → RootsInside (length (recordsOf ws)) ws at → one i at ≡ labelled (fieldRoot i) 0 (names at)
+  pub references : ℕ → List ℕ
+  pub taken : Taken references ws place size
+  pub roots : (i at : ℕ) → RootsInside (length (recordsOf ws)) ws at → one i at ≡ labelled (fieldRoot i) 0 (references at)
 
 -- Of a count, and of the fields.
 pub count-root-taken : (ws : List ℕ) → TakenRoots (countRootAt ws) ws (λ (x : places.Interaction). x .count) (λ (x : places.Interaction). 1)
 unfolding labelled
 count-root-taken ws = record {
-  names = countAt ws;
+  references = countAt ws;
   taken = count-taken ws;
   roots = λ i at h.
       let l = count-taken ws .inside at h .inside in
@@ -187,7 +187,7 @@ count-root-taken ws = record {
 }
 
 pub field-roots-taken : (ws : List ℕ) → TakenRoots (fieldRootsAt ws) ws (λ (x : places.Interaction). x .fields) (λ (x : places.Interaction). x .message)
-field-roots-taken ws = record { names = fieldsAt ws; taken = fields-taken ws; roots = λ i at h. refl }
+field-roots-taken ws = record { references = fieldsAt ws; taken = fields-taken ws; roots = λ i at h. refl }
 
 -- The roots of interactions; i of them are passed.
 pub record EachRoots (one : ℕ → ℕ → List Root) (b : Bool) (ws : List ℕ) (at count n : ℕ) (P H₀ T₀ H T : List ℕ) (from i : ℕ) : Type 0 where
@@ -210,7 +210,7 @@ module _ {one : ℕ → ℕ → List Root} {b : Bool} {ws : List ℕ} {at count 
 
   module _ (h : i < count) {place size : places.Interaction → ℕ} (t : TakenRoots one ws place size) {x : places.Interaction} (e : x ≡ interactionIn ws from) where
     abbrev now : List Root
-    now = labelled (fieldRoot i) 0 (part (place x) (size x) ws)
+    now = labelled (fieldRoot i) 0 (wordsFrom (place x) (size x) ws)
 
     abbrev behind : List Root
     behind = eachRoots one ws (i + 1) (x .next) (count - (i + 1))
@@ -226,7 +226,7 @@ module _ {one : ℕ → ℕ → List Root} {b : Bool} {ws : List ℕ} {at count 
         ∙ (λ z. now-is z ++ eachRoots one ws (sym (add-one i) z) (sym (ap (λ (y : places.Interaction). y .next) e) z) (count - (i + 1)))
 
     pub each-roots-ready : (place x + size x ≤ length ws) × ToPlaceRoots b n H P T now
-    each-roots-ready = (taken-names (t .taken) e (rest-next (g .rest) h) .inside, roots-next (g .left) now behind next-each)
+    each-roots-ready = (taken-references (t .taken) e (rest-next (g .rest) h) .inside, roots-next (g .left) now behind next-each)
 
     pub each-roots-more : {H′ T′ : List ℕ} → length H′ ≡ length H → length T′ ≡ length T → Places b n P H T H′ T′ (items (listOf P) now)
         → EachRoots one b ws at count n P H₀ T₀ H′ T′ (x .next) (i + 1)
@@ -247,7 +247,7 @@ module _ (rest ws : List ℕ) (one : ℕ → ℕ → List Root) (f : ℕ → Int
       λ k. same i at x (flatMap interactionWords xs ++ rest) g k ++ ih k
 
 module _ (ws : List ℕ) (checked : check prime ws ≡ good (readSheet ws)) where
-  pub constraint-roots : constraintRoots (readSheet ws) ≡ labelled constraintRoot 0 (part (constraintsAt ws) (length (readSheet ws .constraints)) ws)
+  pub constraint-roots : constraintRoots (readSheet ws) ≡ labelled constraintRoot 0 (wordsFrom (constraintsAt ws) (length (readSheet ws .constraints)) ws)
   unfolding constraintRoots
   constraint-roots = ap (labelled constraintRoot 0) (sym (constraints-are ws checked))
 
@@ -267,7 +267,7 @@ module _ (ws : List ℕ) (checked : check prime ws ≡ good (readSheet ws)) wher
 
 -- The records of a family's roots, as the words name them.
 module _ (ws : List ℕ) (checked : check prime ws ≡ good (readSheet ws)) where
-  pub constraint-nodes : nodesOf (constraintRoots (readSheet ws)) ≡ part (constraintsAt ws) (length (readSheet ws .constraints)) ws
+  pub constraint-nodes : nodesOf (constraintRoots (readSheet ws)) ≡ wordsFrom (constraintsAt ws) (length (readSheet ws .constraints)) ws
   unfolding nodesOf
   constraint-nodes = demands.constraint-nodes (readSheet ws) ∙ sym (constraints-are ws checked)
 
@@ -296,11 +296,11 @@ module _ (ws : List ℕ) (checked : check prime ws ≡ good (readSheet ws)) wher
         (omega arith, omega (arith, counts-small ws checked .1))
 
     module _ {f : Family} (k : f ≡ Constraints) where
-      pub constraint-names : part at count ws ≡ nodesOf (rootsOf f (readSheet ws))
-      constraint-names = (λ i. part (a i) (c i) ws) ∙ sym (constraint-nodes ws checked) ∙ ap nodesOf (roots-as ws k)
+      pub constraint-references : wordsFrom at count ws ≡ nodesOf (rootsOf f (readSheet ws))
+      constraint-references = (λ i. wordsFrom (a i) (c i) ws) ∙ sym (constraint-nodes ws checked) ∙ ap nodesOf (roots-as ws k)
 
-      pub constraint-labelled : labelled constraintRoot 0 (part at count ws) ≡ rootsOf f (readSheet ws)
-      constraint-labelled = (λ i. labelled constraintRoot 0 (part (a i) (c i) ws)) ∙ sym (constraint-roots ws checked) ∙ roots-as ws k
+      pub constraint-labelled : labelled constraintRoot 0 (wordsFrom at count ws) ≡ rootsOf f (readSheet ws)
+      constraint-labelled = (λ i. labelled constraintRoot 0 (wordsFrom (a i) (c i) ws)) ∙ sym (constraint-roots ws checked) ∙ roots-as ws k
 
   -- The same for the interactions.
   module _ {at count : ℕ} (a : at ≡ interactionsAt ws) (c : count ≡ length (readSheet ws .interactions)) where
@@ -312,15 +312,15 @@ module _ (ws : List ℕ) (checked : check prime ws ≡ good (readSheet ws)) wher
     )
 
     module _ {f : Family} (k : f ≡ Counts) where
-      pub count-names : countWords ws at count ≡ nodesOf (rootsOf f (readSheet ws))
-      count-names = (λ i. countWords ws (a i) (c i)) ∙ sym (count-nodes ws checked) ∙ ap nodesOf (roots-as ws k)
+      pub count-references : countWords ws at count ≡ nodesOf (rootsOf f (readSheet ws))
+      count-references = (λ i. countWords ws (a i) (c i)) ∙ sym (count-nodes ws checked) ∙ ap nodesOf (roots-as ws k)
 
       pub count-labelled : eachRoots (countRootAt ws) ws 0 at count ≡ rootsOf f (readSheet ws)
       count-labelled = (λ i. eachRoots (countRootAt ws) ws 0 (a i) (c i)) ∙ sym (count-roots ws checked) ∙ roots-as ws k
 
     module _ {f : Family} (k : f ≡ Fields) where
-      pub field-names : fieldWords ws at count ≡ nodesOf (rootsOf f (readSheet ws))
-      field-names = (λ i. fieldWords ws (a i) (c i)) ∙ sym (field-nodes ws checked) ∙ ap nodesOf (roots-as ws k)
+      pub field-references : fieldWords ws at count ≡ nodesOf (rootsOf f (readSheet ws))
+      field-references = (λ i. fieldWords ws (a i) (c i)) ∙ sym (field-nodes ws checked) ∙ ap nodesOf (roots-as ws k)
 
       pub field-labelled : eachRoots (fieldRootsAt ws) ws 0 at count ≡ rootsOf f (readSheet ws)
       field-labelled = (λ i. eachRoots (fieldRootsAt ws) ws 0 (a i) (c i)) ∙ sym (field-roots ws checked) ∙ roots-as ws k

@@ -19,7 +19,7 @@ use Rattle.grouping.specs.declared.Grouped.{Grouped}
 use Rattle.grouping.specs.declared.Grouped.the-variants.{Written, Short}
 use Rattle.grouping.specs.declared.families.Family.{Family}
 use Rattle.grouping.specs.declared.families.Family.the-variants.{Constraints, Counts, Fields}
-use Rattle.group.specs.Grouped.{total, tallied, Rows, listOf, InPool, ToPlace}
+use Rattle.group.specs.Grouped.{talliedTotal, tallied, Rows, listOf, InPool, ToPlace}
 
 -- The roots of a family, and whether its terms are those of interactions.
 abbrev pub rootsOf : Family → Sheet → List Root
@@ -37,10 +37,10 @@ unfoldable pub nodesOf : List Root → List ℕ
 nodesOf rs = map (λ (r : Root). r .node) rs
 
 -- What counting the lists of these records asks.
-pub record ToTally (n : ℕ) (headers pool names : List ℕ) : Type 0 where
+pub record ToTally (n : ℕ) (headers pool references : List ℕ) : Type 0 where
   pub rows-are : Rows n headers pool
-  pub lists : All (InPool pool) names
-  pub small : total (tallied n headers pool) + 256 * length names ≤ 4294967295
+  pub lists : All (InPool pool) references
+  pub small : talliedTotal (tallied n headers pool) + 256 * length references ≤ 4294967295
 
 -- The root of constraint j, and of field j of interaction i.
 abbrev pub constraintRoot : (j c : ℕ) → List Root

@@ -8,8 +8,8 @@ ghost use Rattle.semantics.specs.Answer.{good};
 ghost use Rattle.semantics.specs.Check.{primeOf, readSheet, check};
 ghost use Rattle.semantics.specs.Group.{labelled, items};
 ghost use Rattle.semantics.specs.Call.{zeros};
-ghost use Rattle.records.specs.Access.{recordsOf, part, countWords, fieldWords, AllRootsInside};
-ghost use Rattle.group.specs.Grouped.{tallyAll, tallied, Counted, listOf, varsNamed, widthOf, Places};
+ghost use Rattle.records.specs.Access.{recordsOf, wordsFrom, countWords, fieldWords, AllRootsInside};
+ghost use Rattle.group.specs.Grouped.{tallyAll, tallied, Counted, listOf, varsNamed, termWidth, Places};
 ghost use Rattle.grouping.specs.Families.{ToTally, constraintRoot, fieldRoot, eachRoots, countRootAt, fieldRootsAt, ToPlaceRoots, Grouping, rootsOf, isInteraction, nodesOf};
 use group::Tallied;
 use group::place;
@@ -23,7 +23,7 @@ pub enum Family {
 
 // How many words a family's terms have.
 pub fn width_of(family: Family) -> usize
-    ensures { λ r. ⌜ r ≡ widthOf (isInteraction family) ⌝ }
+    ensures { λ r. ⌜ r ≡ termWidth (isInteraction family) ⌝ }
 {
     match family {
         Family::Constraints => 2,
@@ -33,7 +33,7 @@ pub fn width_of(family: Family) -> usize
 }
 
 // Counts the lists of the records that the words from `at` on name.
-fn tally_names(
+fn tally_references(
     sheet: &[u32],
     at: usize,
     count: usize,
@@ -41,9 +41,9 @@ fn tally_names(
     n: usize,
     pool: &[u32],
 ) -> Tallied
-    requires { ⌜ (at + count ≤ length (now sheet)) × ToTally n (now headers) (now pool) (part at count (now sheet)) ⌝ }
+    requires { ⌜ (at + count ≤ length (now sheet)) × ToTally n (now headers) (now pool) (wordsFrom at count (now sheet)) ⌝ }
     ensures { λ r. ⌜ Counted (now (headers .exit)) (now (pool .entry))
-        (tallyAll (varsNamed (now (pool .entry)) (part at count (now (sheet .entry))))
+        (tallyAll (varsNamed (now (pool .entry)) (wordsFrom at count (now (sheet .entry))))
         (tallied n (now (headers .entry)) (now (pool .entry)))) r ⌝ }
 {
     let mut rows = n;
@@ -80,7 +80,7 @@ fn tally_counts(
     let mut i: usize = 0;
     while i < count {
         let x = records::interaction_at(sheet, from);
-        let answer = tally_names(sheet, x.count, 1, headers, rows, pool);
+        let answer = tally_references(sheet, x.count, 1, headers, rows, pool);
         let Tallied::Headers(next) = answer else {
             return Tallied::Full;
         };
@@ -111,7 +111,7 @@ fn tally_fields(
     let mut i: usize = 0;
     while i < count {
         let x = records::interaction_at(sheet, from);
-        let answer = tally_names(sheet, x.fields, x.message, headers, rows, pool);
+        let answer = tally_references(sheet, x.fields, x.message, headers, rows, pool);
         let Tallied::Headers(next) = answer else {
             return Tallied::Full;
         };
@@ -133,10 +133,10 @@ fn place_constraints(
     terms: &mut [u32],
 )
     requires { ⌜ (at + count ≤ length (now sheet)) × (count ≤ 4294967295)
-        × ToPlaceRoots false n (now headers) (now pool) (now terms) (labelled constraintRoot 0 (part at count (now sheet))) ⌝ }
+        × ToPlaceRoots false n (now headers) (now pool) (now terms) (labelled constraintRoot 0 (wordsFrom at count (now sheet))) ⌝ }
     ensures { λ _. ⌜ Places false n (now (pool .entry)) (now (headers .entry)) (now (terms .entry))
         (now (headers .exit)) (now (terms .exit))
-        (items (listOf (now (pool .entry))) (labelled constraintRoot 0 (part at count (now (sheet .entry))))) ⌝ }
+        (items (listOf (now (pool .entry))) (labelled constraintRoot 0 (wordsFrom at count (now (sheet .entry))))) ⌝ }
 {
     let mut j: usize = 0;
     while j < count {
@@ -147,7 +147,7 @@ fn place_constraints(
 }
 
 // Places the terms of the records that the words from `at` on name: the fields of interaction `index`, or its count.
-fn place_names(
+fn place_references(
     sheet: &[u32],
     at: usize,
     count: usize,
@@ -158,10 +158,10 @@ fn place_names(
     terms: &mut [u32],
 )
     requires { ⌜ (at + count ≤ length (now sheet)) × (count ≤ 4294967295)
-        × ToPlaceRoots true n (now headers) (now pool) (now terms) (labelled (fieldRoot index) 0 (part at count (now sheet))) ⌝ }
+        × ToPlaceRoots true n (now headers) (now pool) (now terms) (labelled (fieldRoot index) 0 (wordsFrom at count (now sheet))) ⌝ }
     ensures { λ _. ⌜ Places true n (now (pool .entry)) (now (headers .entry)) (now (terms .entry))
         (now (headers .exit)) (now (terms .exit))
-        (items (listOf (now (pool .entry))) (labelled (fieldRoot index) 0 (part at count (now (sheet .entry))))) ⌝ }
+        (items (listOf (now (pool .entry))) (labelled (fieldRoot index) 0 (wordsFrom at count (now (sheet .entry))))) ⌝ }
 {
     let mut j: usize = 0;
     while j < count {
@@ -192,7 +192,7 @@ fn place_counts(
     let mut i: usize = 0;
     while i < count {
         let x = records::interaction_at(sheet, from);
-        place_names(sheet, x.count, 1, i as u32, headers, n, pool, terms);
+        place_references(sheet, x.count, 1, i as u32, headers, n, pool, terms);
         from = x.next;
         i += 1;
     }
@@ -219,7 +219,7 @@ fn place_fields(
     let mut i: usize = 0;
     while i < count {
         let x = records::interaction_at(sheet, from);
-        place_names(
+        place_references(
             sheet,
             x.fields,
             x.message,
@@ -244,7 +244,7 @@ pub fn tally_family(sheet: &[u32], family: Family, headers: &mut [u32], pool: &[
         Family::Constraints => {
             let at = records::constraints_at(sheet);
             let count = records::num_constraints(sheet);
-            tally_names(sheet, at, count, headers, 0, pool)
+            tally_references(sheet, at, count, headers, 0, pool)
         }
         Family::Counts => {
             let at = records::interactions_at(sheet);

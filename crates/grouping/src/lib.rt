@@ -5,7 +5,7 @@ ghost use Prim.Native.Nat.{_*_, _≤_};
 ghost use lib.ListN.{length};
 ghost use Rattle.semantics.specs.Check.{readSheet};
 ghost use Rattle.semantics.specs.Group.{constraintRoots, countRoots, fieldRoots, constraintTerm, interactionTerm};
-ghost use Rattle.group.specs.Grouped.{tallied, total, Rows, column, sum, termOf, widthOf, Placing, varsIn, headersOf};
+ghost use Rattle.group.specs.Grouped.{tallied, talliedTotal, Rows, column, sum, termOf, termWidth, Placing, varsIn, talliedHeaders};
 ghost use Rattle.grouping.specs.Families.{rootsOf, isInteraction, Measured, Front, Grouping, Laid, groupsOf};
 
 mod families;
@@ -51,9 +51,9 @@ fn room_for(headers: &[u32], n: usize, width: usize, variables: usize, terms: us
 
 // Makes the slices ready for terms.
 fn start_groups(headers: &mut [u32], n: usize, pool: &[u32], terms: &mut [u32])
-    requires { ⌜ Rows n (now headers) (now pool) × (total (tallied n (now headers) (now pool)) ≤ 16777216) ⌝ }
+    requires { ⌜ Rows n (now headers) (now pool) × (talliedTotal (tallied n (now headers) (now pool)) ≤ 16777216) ⌝ }
     ensures { λ _. ⌜ ((b : Bool)
-        → widthOf b * total (tallied n (now (headers .entry)) (now (pool .entry))) ≤ length (now (terms .entry))
+        → termWidth b * talliedTotal (tallied n (now (headers .entry)) (now (pool .entry))) ≤ length (now (terms .entry))
         → Placing b (tallied n (now (headers .entry)) (now (pool .entry))) n
         (now (headers .exit)) (now (pool .entry)) (now (terms .exit)) []) ⌝ }
 {
@@ -63,9 +63,9 @@ fn start_groups(headers: &mut [u32], n: usize, pool: &[u32], terms: &mut [u32])
 
 // Writes the variables of the rows, and the offsets.
 fn finish_groups(headers: &mut [u32], n: usize, pool: &[u32], variables: &mut [u32])
-    requires { ⌜ Rows n (now headers) (now pool) × (n ≤ 16777216) × (total (tallied n (now headers) (now pool)) ≤ 16777216)
+    requires { ⌜ Rows n (now headers) (now pool) × (n ≤ 16777216) × (talliedTotal (tallied n (now headers) (now pool)) ≤ 16777216)
         × (length (varsIn (tallied n (now headers) (now pool))) ≤ length (now variables)) ⌝ }
-    ensures { λ _. ⌜ Front (headersOf 0 0 (tallied n (now (headers .entry)) (now (pool .entry)))) (now (headers .exit))
+    ensures { λ _. ⌜ Front (talliedHeaders 0 0 (tallied n (now (headers .entry)) (now (pool .entry)))) (now (headers .exit))
         × Front (varsIn (tallied n (now (headers .entry)) (now (pool .entry)))) (now (variables .exit)) ⌝ }
 {
     place::write_variables(headers, n, pool, variables);

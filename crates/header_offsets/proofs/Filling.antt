@@ -7,7 +7,7 @@ use native.Mathlib.Omega.{arith}
 use lib.ListN.{length, getD, set, take, drop, length-set, drop-of-length-le}
 use lib.Seq.{take-suc-set, take-all, drop-set-lt, drop-cons}
 use Rattle.header_offsets.specs.declared.MonomialHeader.{MonomialHeader}
-use Rattle.header_offsets.specs.Headers.{numVars, numTerms, total, offsetAt, withOffsets, noHeader}
+use Rattle.header_offsets.specs.Headers.{numVars, numTerms, columnTotal, offsetAt, withOffsets, noHeader}
 
 -- The headers hs while they are passed: vars and terms are the totals before header i.
 pub record Filling (hs : List MonomialHeader) (v t : ℕ) : Type 0 where
@@ -18,17 +18,17 @@ pub record Filling (hs : List MonomialHeader) (v t : ℕ) : Type 0 where
   pub inside : i ≤ length hs
   pub len : length ys ≡ length hs
   pub whole : take i ys ++ withOffsets vars terms (drop i ys) ≡ withOffsets v t hs
-  pub vars-fit : vars + total numVars (drop i ys) ≤ 4294967295
-  pub terms-fit : terms + total numTerms (drop i ys) ≤ 4294967295
+  pub vars-fit : vars + columnTotal numVars (drop i ys) ≤ 4294967295
+  pub terms-fit : terms + columnTotal numTerms (drop i ys) ≤ 4294967295
 
 -- The total from header i on is header i's number and the total behind it.
 total-from : (number : MonomialHeader → ℕ) (ys : List MonomialHeader) (i : ℕ) → i < length ys
-    → total number (drop i ys) ≡ number (getD ys i noHeader) + total number (drop (suc i) ys)
-unfolding total
-total-from number ys i h = ap (total number) (drop-cons ys i noHeader h)
+    → columnTotal number (drop i ys) ≡ number (getD ys i noHeader) + columnTotal number (drop (suc i) ys)
+unfolding columnTotal
+total-from number ys i h = ap (columnTotal number) (drop-cons ys i noHeader h)
 
 module _ (hs : List MonomialHeader) (v t : ℕ) where
-  abbrev pub start : v + total numVars hs ≤ 4294967295 → t + total numTerms hs ≤ 4294967295 → Filling hs v t
+  abbrev pub start : v + columnTotal numVars hs ≤ 4294967295 → t + columnTotal numTerms hs ≤ 4294967295 → Filling hs v t
   start a b = record { i = 0; ys = hs; vars = v; terms = t; inside = zero-le; len = refl; whole = refl; vars-fit = a; terms-fit = b }
 
   -- Header i, and the same at its offsets.
@@ -65,10 +65,10 @@ module _ (hs : List MonomialHeader) (v t : ℕ) where
         ∙ ap (λ (k : List MonomialHeader). k ++ rest) (take-suc-set (g .ys) (g .i) (filled g) within) ∙ append-assoc front (filled g ∷ []) rest
         ∙ e)
 
-    pub vars-left : g .vars + numVars (here g) + total numVars (drop (g .i + 1) (next-list g)) ≤ 4294967295
+    pub vars-left : g .vars + numVars (here g) + columnTotal numVars (drop (g .i + 1) (next-list g)) ≤ 4294967295
     vars-left = rw drop-next (let f = g .vars-fit in omega (arith, total-from numVars (g .ys) (g .i) within))
 
-    pub terms-left : g .terms + numTerms (here g) + total numTerms (drop (g .i + 1) (next-list g)) ≤ 4294967295
+    pub terms-left : g .terms + numTerms (here g) + columnTotal numTerms (drop (g .i + 1) (next-list g)) ≤ 4294967295
     terms-left = rw drop-next (let f = g .terms-fit in omega (arith, total-from numTerms (g .ys) (g .i) within))
 
     pub next-inside : g .i + 1 ≤ length hs

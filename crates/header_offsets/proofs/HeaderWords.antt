@@ -11,7 +11,7 @@ use Rattle.slices.specs.Rows.{rows}
 use Rattle.slices.proofs.Puts.{put-none, put-behind, stores-put}
 use Rattle.slices.proofs.Rows.{rows-length, rows-split}
 use Rattle.header_offsets.specs.declared.MonomialHeader.{MonomialHeader}
-use Rattle.header_offsets.specs.Headers.{noHeader, headerIn, headersIn, wordsOf}
+use Rattle.header_offsets.specs.Headers.{noHeader, headerIn, headersIn, headerWords}
 
 -- A header by its words.
 pub header-read : (ws : List ℕ) (at : ℕ)
@@ -26,8 +26,8 @@ header-read ws at =
 -- The words of a header stored.
 pub header-stored : (ws : List ℕ) (at : ℕ) (h : MonomialHeader) → at + 4 ≤ length ws
     → set (set (set (set ws at (h .«var_offset»)) (at + 1) (h .«term_offset»)) (at + 2) (h .«num_vars»)) (at + 3) (h .«num_terms»)
-    ≡ take at ws ++ (wordsOf (h ∷ []) ++ drop (at + 4) ws)
-unfolding wordsOf
+    ≡ take at ws ++ (headerWords (h ∷ []) ++ drop (at + 4) ws)
+unfolding headerWords
 header-stored ws at h l = stores-put ws at (h .«var_offset») (h .«term_offset» ∷ h .«num_vars» ∷ h .«num_terms» ∷ []) l
 
 -- Headers are rows of four words.
@@ -53,13 +53,13 @@ in-append i k ws =
     in-rows (i + k) ws ∙ ap (map headerIn) (rows-split 4 i k ws) ∙ map-append headerIn (rows 4 i ws) (rows 4 k (drop (4 * i) ws))
     ∙ λ j. sym (in-rows i ws) j ++ sym (in-rows k (drop (4 * i) ws)) j
 
-pub words-length : (hs : List MonomialHeader) → length (wordsOf hs) ≡ 4 * length hs
-unfolding wordsOf
+pub words-length : (hs : List MonomialHeader) → length (headerWords hs) ≡ 4 * length hs
+unfolding headerWords
 words-length [] = refl
 words-length (h ∷ hs) = omega (arith, words-length hs)
 
-pub words-append : (xs ys : List MonomialHeader) → wordsOf (xs ++ ys) ≡ wordsOf xs ++ wordsOf ys
-unfolding wordsOf
+pub words-append : (xs ys : List MonomialHeader) → headerWords (xs ++ ys) ≡ headerWords xs ++ headerWords ys
+unfolding headerWords
 words-append [] ys = refl
 words-append (x ∷ xs) ys =
     ap (λ (r : List ℕ). x .«var_offset» ∷ x .«term_offset» ∷ x .«num_vars» ∷ x .«num_terms» ∷ r) (words-append xs ys)
@@ -91,25 +91,25 @@ module _ (ws : List ℕ) (j : ℕ) (hs : List MonomialHeader) (e : Taken ws j hs
 
 -- While headers are put back: the words of the first j.
 abbrev pub Put : (ws₀ : List ℕ) (at : ℕ) (hs : List MonomialHeader) (j : ℕ) (ws : List ℕ) → Type 0
-Put ws₀ at hs j ws = ws ≡ put ws₀ at (wordsOf (take j hs))
+Put ws₀ at hs j ws = ws ≡ put ws₀ at (headerWords (take j hs))
 
 pub none-put : (ws : List ℕ) (at : ℕ) (hs : List MonomialHeader) → Put ws at hs 0 ws
-unfolding wordsOf
+unfolding headerWords
 none-put ws at hs = sym (put-none ws at)
 
 module _ (ws₀ : List ℕ) (at : ℕ) (hs : List MonomialHeader) (j : ℕ) (ws : List ℕ) (p : Put ws₀ at hs j ws) where
-  first-words : j ≤ length hs → length (wordsOf (take j hs)) ≡ 4 * j
+  first-words : j ≤ length hs → length (headerWords (take j hs)) ≡ 4 * j
   first-words l = words-length (take j hs) ∙ ap (λ (n : ℕ). 4 * n) (length-take-le j hs l)
 
   pub one-put : j < length hs → at + 4 * (j + 1) ≤ length ws₀ → (ws′ : List ℕ)
-      → ws′ ≡ take (at + 4 * j) ws ++ (wordsOf (getD hs j noHeader ∷ []) ++ drop (at + 4 * j + 4) ws) → Put ws₀ at hs (j + 1) ws′
-  unfolding wordsOf
+      → ws′ ≡ take (at + 4 * j) ws ++ (headerWords (getD hs j noHeader ∷ []) ++ drop (at + 4 * j + 4) ws) → Put ws₀ at hs (j + 1) ws′
+  unfolding headerWords
   one-put l r ws′ e =
-      let h : List ℕ = wordsOf (getD hs j noHeader ∷ []) in
-      let n : length (wordsOf (take j hs)) ≡ 4 * j = first-words (omega arith) in
-      let w : wordsOf (take j hs) ++ h ≡ wordsOf (take (j + 1) hs) =
-      sym (ap (λ (i : ℕ). wordsOf (take i hs)) (add-one j) ∙ ap wordsOf (take-suc hs j noHeader l) ∙ words-append (take j hs) (getD hs j noHeader ∷ [])) in
-      e ∙ put-behind ws₀ ws at (wordsOf (take j hs)) p (at + 4 * j) (omega arith) h (omega arith) ∙ ap (put ws₀ at) w
+      let h : List ℕ = headerWords (getD hs j noHeader ∷ []) in
+      let n : length (headerWords (take j hs)) ≡ 4 * j = first-words (omega arith) in
+      let w : headerWords (take j hs) ++ h ≡ headerWords (take (j + 1) hs) =
+      sym (ap (λ (i : ℕ). headerWords (take i hs)) (add-one j) ∙ ap headerWords (take-suc hs j noHeader l) ∙ words-append (take j hs) (getD hs j noHeader ∷ [])) in
+      e ∙ put-behind ws₀ ws at (headerWords (take j hs)) p (at + 4 * j) (omega arith) h (omega arith) ∙ ap (put ws₀ at) w
 
-  pub all-put : j ≤ length hs → ws ≡ take at ws₀ ++ (wordsOf (take j hs) ++ drop (at + 4 * j) ws₀)
-  all-put l = p ∙ ap (λ (n : ℕ). take at ws₀ ++ (wordsOf (take j hs) ++ drop (at + n) ws₀)) (first-words l)
+  pub all-put : j ≤ length hs → ws ≡ take at ws₀ ++ (headerWords (take j hs) ++ drop (at + 4 * j) ws₀)
+  all-put l = p ∙ ap (λ (n : ℕ). take at ws₀ ++ (headerWords (take j hs) ++ drop (at + n) ws₀)) (first-words l)

@@ -11,9 +11,9 @@ abbrev pub numTerms : MonomialHeader → ℕ
 numTerms h = h .«num_terms»
 
 -- The total of a number over some headers.
-unfoldable pub total : (number : MonomialHeader → ℕ) → List MonomialHeader → ℕ
-total number [] = 0
-total number (h ∷ hs) = number h + total number hs
+unfoldable pub columnTotal : (number : MonomialHeader → ℕ) → List MonomialHeader → ℕ
+columnTotal number [] = 0
+columnTotal number (h ∷ hs) = number h + columnTotal number hs
 
 -- A header at the offsets v and t.
 abbrev pub offsetAt : (v t : ℕ) → MonomialHeader → MonomialHeader
@@ -37,10 +37,10 @@ unfoldable pub headersIn : (n : ℕ) (words : List ℕ) → List MonomialHeader
 headersIn zero ws = []
 headersIn (suc n) ws = headerIn ws ∷ headersIn n (drop 4 ws)
 
-unfoldable pub wordsOf : List MonomialHeader → List ℕ
-wordsOf [] = []
-wordsOf (h ∷ hs) = h .«var_offset» ∷ h .«term_offset» ∷ numVars h ∷ numTerms h ∷ wordsOf hs
+unfoldable pub headerWords : List MonomialHeader → List ℕ
+headerWords [] = []
+headerWords (h ∷ hs) = h .«var_offset» ∷ h .«term_offset» ∷ numVars h ∷ numTerms h ∷ headerWords hs
 
 -- The words with the offsets of the first n headers.
 unfoldable pub filledWords : (n : ℕ) (words : List ℕ) → List ℕ
-filledWords n ws = wordsOf (withOffsets 0 0 (headersIn n ws)) ++ drop (4 * n) ws
+filledWords n ws = headerWords (withOffsets 0 0 (headersIn n ws)) ++ drop (4 * n) ws

@@ -1,7 +1,7 @@
 // The offsets of monomial headers.
 ghost use mathlib.Core.Path.{_≡_};
 ghost use Prim.Native.Nat.{_+_, _≤_};
-ghost use Rattle.header_offsets.specs.Headers.{numVars, numTerms, total, withOffsets};
+ghost use Rattle.header_offsets.specs.Headers.{numVars, numTerms, columnTotal, withOffsets};
 
 pub mod words;
 
@@ -16,7 +16,8 @@ pub struct MonomialHeader {
 
 // Both offsets of each header become the totals over the headers before it, counted on from those given.
 pub fn fill_offsets(headers: &mut [MonomialHeader], var_offset: u32, term_offset: u32)
-    requires { ⌜ («var_offset» + total numVars (now headers) ≤ 4294967295) × («term_offset» + total numTerms (now headers) ≤ 4294967295) ⌝ }
+    requires { ⌜ («var_offset» + columnTotal numVars (now headers) ≤ 4294967295)
+        × («term_offset» + columnTotal numTerms (now headers) ≤ 4294967295) ⌝ }
     ensures { λ _. ⌜ now (headers .exit) ≡ withOffsets «var_offset» «term_offset» (now (headers .entry)) ⌝ }
 {
     let mut vars = var_offset;
@@ -38,7 +39,7 @@ pub fn fill_sixteen(
     var_offset: u32,
     term_offset: u32,
 ) -> [MonomialHeader; 16]
-    requires { ⌜ («var_offset» + total numVars headers ≤ 4294967295) × («term_offset» + total numTerms headers ≤ 4294967295) ⌝ }
+    requires { ⌜ («var_offset» + columnTotal numVars headers ≤ 4294967295) × («term_offset» + columnTotal numTerms headers ≤ 4294967295) ⌝ }
     ensures { λ r. ⌜ r ≡ withOffsets «var_offset» «term_offset» headers ⌝ }
 {
     let mut filled = headers;

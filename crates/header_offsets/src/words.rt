@@ -4,7 +4,7 @@ ghost use mathlib.Core.Path.{_≡_};
 ghost use mathlib.Core.List.{[], _∷_, _++_};
 ghost use Prim.Native.Nat.{_+_, _*_, _-_, _≤_, min};
 ghost use lib.ListN.{length, take, drop, replicate};
-ghost use Rattle.header_offsets.specs.Headers.{numVars, numTerms, total, noHeader, headerIn, headersIn, wordsOf, filledWords};
+ghost use Rattle.header_offsets.specs.Headers.{numVars, numTerms, columnTotal, noHeader, headerIn, headersIn, headerWords, filledWords};
 
 fn at_most_sixteen(n: usize) -> usize
     ensures { λ r. ⌜ r ≡ min n 16 ⌝ }
@@ -27,7 +27,7 @@ fn header_at(words: &[u32], at: usize) -> MonomialHeader
 
 fn put_header(words: &mut [u32], at: usize, header: MonomialHeader)
     requires { ⌜ at + 4 ≤ length (now words) ⌝ }
-    ensures { λ _. ⌜ now (words .exit) ≡ take at (now (words .entry)) ++ (wordsOf (header ∷ []) ++ drop (at + 4) (now (words .entry))) ⌝ }
+    ensures { λ _. ⌜ now (words .exit) ≡ take at (now (words .entry)) ++ (headerWords (header ∷ []) ++ drop (at + 4) (now (words .entry))) ⌝ }
 {
     words[at] = header.var_offset;
     words[at + 1] = header.term_offset;
@@ -59,7 +59,7 @@ fn take_headers(words: &[u32], at: usize, k: usize) -> [MonomialHeader; 16]
 fn put_headers(words: &mut [u32], at: usize, k: usize, headers: [MonomialHeader; 16])
     requires { ⌜ (k ≤ 16) × (at + 4 * k ≤ length (now words)) ⌝ }
     ensures { λ _. ⌜ now (words .exit)
-        ≡ take at (now (words .entry)) ++ (wordsOf (take k headers) ++ drop (at + 4 * k) (now (words .entry))) ⌝ }
+        ≡ take at (now (words .entry)) ++ (headerWords (take k headers) ++ drop (at + 4 * k) (now (words .entry))) ⌝ }
 {
     let mut j: usize = 0;
     while j < k {
@@ -70,8 +70,8 @@ fn put_headers(words: &mut [u32], at: usize, k: usize, headers: [MonomialHeader;
 
 // Both offsets of the first n headers become the totals over the headers before each, sixteen headers at a time.
 pub fn fill_words(words: &mut [u32], n: usize)
-    requires { ⌜ (4 * n ≤ length (now words)) × (total numVars (headersIn n (now words)) ≤ 4294967295)
-        × (total numTerms (headersIn n (now words)) ≤ 4294967295) ⌝ }
+    requires { ⌜ (4 * n ≤ length (now words)) × (columnTotal numVars (headersIn n (now words)) ≤ 4294967295)
+        × (columnTotal numTerms (headersIn n (now words)) ≤ 4294967295) ⌝ }
     ensures { λ _. ⌜ now (words .exit) ≡ filledWords n (now (words .entry)) ⌝ }
 {
     let mut vars: u32 = 0;

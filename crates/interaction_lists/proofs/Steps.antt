@@ -17,7 +17,7 @@ use Rattle.records.specs.Access.{counts, fields, recordsOf}
 use Rattle.answers.specs.declared.Refusal.{Refusal}
 use Rattle.expand.specs.declared.Expanded.{Expanded}
 use Rattle.expand.specs.declared.Expanded.the-variants as expanded
-use Rattle.expand.specs.Walking.{Holds, Expands}
+use Rattle.expand.specs.Walking.{PoolHolds, Expands}
 use Rattle.grouping.specs.declared.Grouped.{Grouped}
 use Rattle.grouping.specs.declared.Grouped.the-variants as grouped
 use Rattle.grouping.specs.Families.{groupsOf, Laid}
@@ -26,7 +26,7 @@ use Rattle.interaction_lists.specs.declared.InteractionLists.{Interactio
 use Rattle.interaction_lists.specs.declared.InteractionLists.the-variants as interaction
 use Rattle.grouping.proofs.Slices.{later-none, later-short, first-none, first-short}
 use Rattle.grouping.specs.declared.Lengths.{Lengths}
-use Rattle.constraint_lists.specs.Lists.{tooShort, expansionOf, refusalOf, shortOf}
+use Rattle.constraint_lists.specs.Lists.{tooShort, expansionOf, expandedRefusal, shortOf}
 use Rattle.interaction_lists.specs.Lists.{interactionAnswer, BothInside}
 
 -- Both families of the interactions.
@@ -180,16 +180,16 @@ module _ (ws : List ℕ) (work pool : ℕ) (lent : List ℕ) where
 
     module _ (room : 2 * length (sh .records) ≤ pool) where
       pub interactions-refused : (w : Expanded) (q v₁ : Refusal) (pool′ : List ℕ) → length pool′ ≡ pool → Expands ws pool′ w all
-          → w ≡ expanded.Refused v₁ → q ≡ refusalOf w → refused (q .number) (q .place) ≡ wholeCall
+          → w ≡ expanded.Refused v₁ → q ≡ expandedRefusal w → refused (q .number) (q .place) ≡ wholeCall
       interactions-refused w q v₁ pool′ e f g r =
           let x : expandAll prime (recordsOf ws) (length pool′) all ≡ refused (v₁ .number) (v₁ .place) =
           subst (λ (u : Expanded). Expands ws pool′ u all) g f in
-          let y : q ≡ v₁ = r ∙ ap refusalOf g in
+          let y : q ≡ v₁ = r ∙ ap expandedRefusal g in
           (λ i. refused (y i .number) (y i .place))
           ∙ walk-refused work pool lent rootsOf (interactionOutputs prime) numbers sh enough room (v₁ .number) (v₁ .place)
           (sym same-walk ∙ subst (λ (n : ℕ). expandAll prime (recordsOf ws) n all ≡ refused (v₁ .number) (v₁ .place)) e x)
 
-      pub interactions-walked : (used : ℕ) (pool′ : List ℕ) → length pool′ ≡ pool → Holds ws all pool′ used
+      pub interactions-walked : (used : ℕ) (pool′ : List ℕ) → length pool′ ≡ pool → PoolHolds ws all pool′ used
           → fitted (interactionOutputs prime sh) lent (numbers sh) ≡ wholeCall
       interactions-walked used pool′ e holds =
           walk-done work pool lent rootsOf (interactionOutputs prime) numbers sh enough room used

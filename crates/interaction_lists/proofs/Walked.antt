@@ -20,7 +20,7 @@ use Rattle.records.proofs.Steps.{inside}
 use Rattle.expand.specs.declared.Expanded.{Expanded}
 use Rattle.expand.specs.declared.Expanded.the-variants.{Used, Refused}
 use Rattle.answers.specs.declared.Refusal.{Refusal}
-use Rattle.expand.specs.Walking.{Holds, Expands, Walking}
+use Rattle.expand.specs.Walking.{PoolHolds, Expands, ExpandWalking}
 use Rattle.expand.proofs.Far.{far-none, far-refused, far-more, far-walking}
 use Rattle.grouping.specs.Families.{Grouping}
 use Rattle.constraint_lists.proofs.Walked.{grouping-of}
@@ -59,25 +59,25 @@ module _ (ws : List ℕ) (checked : check prime ws ≡ good (readSheet ws)) wher
   named-below-both = append-below (length (recordsOf ws)) (counts xs) (fields xs) counts-below fields-below
 
   -- One list of roots after another.
-  module _ (work pool : List ℕ) (used : ℕ) (p : Walking ws work pool used) (front-roots back-roots : List ℕ) (below : Below (length (recordsOf ws)) front-roots)
-      (work₁ pool₁ : List ℕ) (u : Expanded) (f : Visiting ws front-roots (λ (d : List ℕ). Holds ws d pool used) (Expands ws pool₁ u)) where
-    pub first-refused : (v : Refusal) → u ≡ Refused v → Visiting ws (front-roots ++ back-roots) (λ (d : List ℕ). Holds ws d pool used) (Expands ws pool₁ u)
+  module _ (work pool : List ℕ) (used : ℕ) (p : ExpandWalking ws work pool used) (front-roots back-roots : List ℕ) (below : Below (length (recordsOf ws)) front-roots)
+      (work₁ pool₁ : List ℕ) (u : Expanded) (f : Visiting ws front-roots (λ (d : List ℕ). PoolHolds ws d pool used) (Expands ws pool₁ u)) where
+    pub first-refused : (v : Refusal) → u ≡ Refused v → Visiting ws (front-roots ++ back-roots) (λ (d : List ℕ). PoolHolds ws d pool used) (Expands ws pool₁ u)
     first-refused v e = far-refused ws work pool used p [] work pool used (far-none ws work pool used p) front-roots work₁ pool₁ u f v e back-roots (front-roots ++ back-roots) refl
 
     module _ (n : ℕ) (e : u ≡ Used n) where
-      pub second-walking : length work₁ ≡ length work → length pool₁ ≡ length pool → Walking ws work₁ pool₁ n
+      pub second-walking : length work₁ ≡ length work → length pool₁ ≡ length pool → ExpandWalking ws work₁ pool₁ n
       second-walking lw lp =
           far-walking ws work pool used p front-roots work₁ pool₁ n
           (far-more ws work pool used p [] work pool used (far-none ws work pool used p) front-roots work₁ pool₁ u f below lw lp n e)
 
-      pub both-walked : (pool₂ : List ℕ) (u₂ : Expanded) → Visiting ws back-roots (λ (d : List ℕ). Holds ws d pool₁ n) (Expands ws pool₂ u₂)
-          → Visiting ws (front-roots ++ back-roots) (λ (d : List ℕ). Holds ws d pool used) (Expands ws pool₂ u₂)
+      pub both-walked : (pool₂ : List ℕ) (u₂ : Expanded) → Visiting ws back-roots (λ (d : List ℕ). PoolHolds ws d pool₁ n) (Expands ws pool₂ u₂)
+          → Visiting ws (front-roots ++ back-roots) (λ (d : List ℕ). PoolHolds ws d pool used) (Expands ws pool₂ u₂)
       both-walked pool₂ u₂ g =
-          visiting-both ws checked front-roots back-roots below (λ (d : List ℕ). Holds ws d pool used) (λ (d : List ℕ). Holds ws d pool₁ n) (Expands ws pool₂ u₂)
-          (subst (λ (x : Expanded). Visiting ws front-roots (λ (d : List ℕ). Holds ws d pool used) (Expands ws pool₁ x)) e f) g
+          visiting-both ws checked front-roots back-roots below (λ (d : List ℕ). PoolHolds ws d pool used) (λ (d : List ℕ). PoolHolds ws d pool₁ n) (Expands ws pool₂ u₂)
+          (subst (λ (x : Expanded). Visiting ws front-roots (λ (d : List ℕ). PoolHolds ws d pool used) (Expands ws pool₁ x)) e f) g
 
   -- The lists of all counts and fields stand in the pool.
-  module _ (pool : List ℕ) (used : ℕ) (holds : Holds ws (order (recordsOf ws) (counts xs ++ fields xs)) pool used) where
+  module _ (pool : List ℕ) (used : ℕ) (holds : PoolHolds ws (order (recordsOf ws) (counts xs ++ fields xs)) pool used) where
     pub counts-grouping : Grouping ws pool (countRoots (readSheet ws))
     counts-grouping =
         grouping-of ws checked (counts xs ++ fields xs) named-below-both pool used holds (countRoots (readSheet ws))

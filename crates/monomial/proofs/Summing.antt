@@ -8,7 +8,7 @@ use lib.ListN.{length, getD, drop}
 use Rattle.semantics.specs.Arithmetic.{prime}
 use Rattle.semantics.specs.Monomial.{Monomial, negMonomial, insertMonomial}
 use Rattle.semantics.proofs.Combining.{asc-insert}
-use Rattle.monomial.specs.Words.{readMonomial, listIn, held, insertAll, signed, Fits, ListFits, Summed}
+use Rattle.monomial.specs.Words.{readMonomial, listIn, held, insertAll, negatedIf, Fits, ListFits, Summed}
 use Rattle.monomial.proofs.Canons.{sum-nil, sum-cons, fits-insert, fits-negative}
 use Rattle.monomial.proofs.ListLaws.{varsIn, left-cons, left-rest, left-all, none-left}
 use Rattle.monomial.proofs.Sizes.{held-zero}
@@ -58,15 +58,15 @@ abbrev pub signOf : Bool → Monomial → Monomial
 signOf true m = negMonomial prime m
 signOf false m = m
 
-pub signed-map : (b : Bool) (ms : List Monomial) → signed b ms ≡ map (signOf b) ms
+pub signed-map : (b : Bool) (ms : List Monomial) → negatedIf b ms ≡ map (signOf b) ms
 signed-map true ms = refl
 signed-map false [] = refl
 signed-map false (m ∷ ms) = ap (λ (l : List Monomial). m ∷ l) (signed-map false ms)
 
-pub signed-one : (b : Bool) (x m : Monomial) → (x ∷ []) ≡ signed b (m ∷ []) → x ≡ signOf b m
+pub signed-one : (b : Bool) (x m : Monomial) → (x ∷ []) ≡ negatedIf b (m ∷ []) → x ≡ signOf b m
 signed-one b x m e = ap (λ (l : List Monomial). getD l 0 x) (e ∙ signed-map b (m ∷ []))
 
-pub one-signed : (b s : Bool) (x m : Monomial) → b ≡ s → x ≡ signOf s m → (x ∷ []) ≡ signed b (m ∷ [])
+pub one-signed : (b s : Bool) (x m : Monomial) → b ≡ s → x ≡ signOf s m → (x ∷ []) ≡ negatedIf b (m ∷ [])
 one-signed b s x m e f = ap (λ (y : Monomial). y ∷ []) (f ∙ ap (λ (t : Bool). signOf t m) (sym e)) ∙ sym (signed-map b (m ∷ []))
 
 pub fits-sign : (b : Bool) (m : Monomial) → Fits m → Fits (signOf b m)

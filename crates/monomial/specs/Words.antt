@@ -70,9 +70,9 @@ pub record Summed (count : ℕ) (work : List ℕ) : Type 0 where
   pub fit : All Fits (held count work)
 
 -- The right list of a difference is negated.
-abbrev pub signed : Bool → List semantics.Monomial → List semantics.Monomial
-signed true ms = map (negMonomial prime) ms
-signed false ms = ms
+abbrev pub negatedIf : Bool → List semantics.Monomial → List semantics.Monomial
+negatedIf true ms = map (negMonomial prime) ms
+negatedIf false ms = ms
 
 -- One monomial after another is summed into a list.
 unfoldable pub insertAll : List semantics.Monomial → List semantics.Monomial → List semantics.Monomial

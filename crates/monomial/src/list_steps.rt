@@ -5,7 +5,7 @@ ghost use Prim.Native.Nat.{_+_, _*_, _-_, _≤_, min};
 ghost use lib.ListN.{length, getD, take, drop};
 ghost use Rattle.semantics.specs.Arithmetic.{prime};
 ghost use Rattle.semantics.specs.Monomial.{mulMonomial};
-ghost use Rattle.monomial.specs.Words.{monomialOf, readMonomial, held, listIn, longestOf, insertAll, signed, Fits, ListFits, Summed};
+ghost use Rattle.monomial.specs.Words.{monomialOf, readMonomial, held, listIn, longestOf, insertAll, negatedIf, Fits, ListFits, Summed};
 use crate::Monomial;
 use crate::lists::combine_like_terms;
 use crate::multiply;
@@ -74,7 +74,7 @@ pub fn write_row(work: &[u32], from: usize, n: usize, out: &mut [u32], at: usize
 
 // A monomial of the right list of a difference is negated.
 pub fn with_sign(m: Monomial, negated: bool) -> Monomial
-    ensures { λ x. ⌜ ((monomialOf x ∷ []) ≡ signed negated (monomialOf m ∷ [])) × (x .count ≡ m .count) ⌝ }
+    ensures { λ x. ⌜ ((monomialOf x ∷ []) ≡ negatedIf negated (monomialOf m ∷ [])) × (x .count ≡ m .count) ⌝ }
 {
     if negated {
         return negative(m);

@@ -7,7 +7,7 @@ ghost use Rattle.semantics.specs.Arithmetic.{prime};
 ghost use Rattle.semantics.specs.Monomial.{negMonomial, products, insertMonomial};
 ghost use Rattle.semantics.specs.Expand.{listSize};
 ghost use Rattle.semantics.specs.Lists.{All};
-ghost use Rattle.monomial.specs.Words.{monomialOf, held, listIn, listWords, longestOf, insertAll, signed, Fits, ListFits, Summed};
+ghost use Rattle.monomial.specs.Words.{monomialOf, held, listIn, listWords, longestOf, insertAll, negatedIf, Fits, ListFits, Summed};
 use crate::Monomial;
 use crate::list_steps::combine_row;
 use crate::list_steps::monomial_in;
@@ -49,7 +49,7 @@ pub fn combine_list(
     negated: bool,
 ) -> usize
     requires { ⌜ (count + n ≤ 256) × Summed count (now work) × ListFits (now pool) at n ⌝ }
-    ensures { λ r. ⌜ (held r (now (work .exit)) ≡ insertAll (signed negated (listIn (now (pool .entry)) at n)) (held count (now (work .entry))))
+    ensures { λ r. ⌜ (held r (now (work .exit)) ≡ insertAll (negatedIf negated (listIn (now (pool .entry)) at n)) (held count (now (work .entry))))
         × (r ≤ count + n) ⌝ }
 {
     let mut total = count;

@@ -16,7 +16,7 @@ use Rattle.semantics.proofs.Graphs.{Done, Good, build-good}
 use Rattle.records.specs.Access.{recordsOf}
 use Rattle.records.specs.Orders.{Order}
 use Rattle.records.proofs.Steps.{inside}
-use Rattle.nodes.specs.Memory.{mark, builtOf, Holds}
+use Rattle.nodes.specs.Memory.{mark, builtOf, GraphHolds}
 use Rattle.nodes.proofs.Marks.{tabulate-length, tabulate-from, mark-new, mark-old, mark-is}
 
 module _ (ws : List ℕ) (checked : check prime ws ≡ good (readSheet ws)) where
@@ -41,7 +41,7 @@ module _ (ws : List ℕ) (checked : check prime ws ≡ good (readSheet ws)) wher
       omega (arith, kept done o .few)
 
 -- The mark of a record, from scratch.
-module _ (ws done scratch out : List ℕ) (n : ℕ) (h : Holds ws done scratch out n) where
+module _ (ws done scratch out : List ℕ) (n : ℕ) (h : GraphHolds ws done scratch out n) where
   pub scratch-length : length scratch ≡ length (recordsOf ws)
   scratch-length = ap length (h .scratch-is) ∙ tabulate-length 0 (length (recordsOf ws)) (mark done (builtOf ws done))
 

@@ -28,7 +28,7 @@ nodesOut lent ns = padded (zeros 4 ++ flatMap recordWords ns) lent
 unfoldable pub builtOf : List ℕ → List ℕ → Built
 builtOf ws done = build (primeOf ws) (recordsOf ws) done
 
-pub record Holds (ws done scratch out : List ℕ) (n : ℕ) : Type 0 where
+pub record GraphHolds (ws done scratch out : List ℕ) (n : ℕ) : Type 0 where
   pub scratch-is : scratch ≡ tabulate 0 (length (recordsOf ws)) (mark done (builtOf ws done))
   pub out-is : out ≡ nodesOut (length out) (builtOf ws done .nodes)
   pub count-is : n ≡ length (builtOf ws done .nodes)

@@ -26,7 +26,7 @@ use Rattle.packing.specs.declared.leaf.LeafRead.the-variants as read
 use Rattle.packing.specs.declared.Record.{Record}
 use Rattle.packing.specs.declared.Unpacked.{Unpacked}
 use Rattle.packing.specs.declared.Unpacked.the-variants as unpacked′
-use Rattle.packing.specs.Leaves.{leafRecord, leafChecked, leafAnswer, refusalOf, wordsRecord, unpackedOutcome}
+use Rattle.packing.specs.Leaves.{leafRecord, leafChecked, leafAnswer, leafRefusal, wordsRecord, unpackedOutcome}
 
 -- ---- the words of a leaf
 -- where the tests of a, b, c and d stop
@@ -75,11 +75,11 @@ leaf-said l p e = ap leafAnswer p ∙ sym (leaf-checked l) ∙ ap leafChecked e
 
 -- by the leaf that was read
 module _ (r : sheet.Record) {w : LeafRead} (answer : leafAnswer w ≡ leafChecked r) where
-  pub pack-refused : {f g : Refusal} → w ≡ read.Refused f → g ≡ refusalOf w → packedOutcome (packed′.Refused g) ≡ packCall r
+  pub pack-refused : {f g : Refusal} → w ≡ read.Refused f → g ≡ leafRefusal w → packedOutcome (packed′.Refused g) ≡ packCall r
   unfolding packCall pack andThen leafChecked
   pack-refused {g} p q =
       outcome-is (packed′.Refused g)
-      (ap (λ (x : Refusal). refused (x .number) (x .place)) (q ∙ ap refusalOf p)
+      (ap (λ (x : Refusal). refused (x .number) (x .place)) (q ∙ ap leafRefusal p)
       ∙ ap (λ (x : Answer sheet.Record). andThen x packRecord) (sym (ap leafAnswer p) ∙ answer))
 
   pub pack-said : {l m : Leaf} → w ≡ read.Said l → l ≡ m → variableCall (leafRecord m) ≡ packCall r

@@ -40,9 +40,9 @@ wrongAt place = read.Refused (record { number = 5; place = place })
 abbrev pub saidOf : Entry → (column : ℕ) → LeafRead
 saidOf e d = read.Said (Variable (variableOf e d))
 
-abbrev pub refusalOf : LeafRead → Refusal
-refusalOf (read.Said l) = record { number = 0; place = 0 }
-refusalOf (read.Refused r) = r
+abbrev pub leafRefusal : LeafRead → Refusal
+leafRefusal (read.Said l) = record { number = 0; place = 0 }
+leafRefusal (read.Refused r) = r
 
 abbrev pub wordsRecord : Record → sheet.Record
 wordsRecord w = recordOf (w .kind) (w .a) (w .b) (w .c) (w .d)

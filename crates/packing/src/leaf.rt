@@ -5,7 +5,7 @@ use symbolic_variable::SymbolicVariable;
 ghost use mathlib.Core.Path.{_≡_};
 ghost use Prim.Native.Nat.{_≤_};
 ghost use Rattle.semantics.specs.Sheet.{recordOf};
-ghost use Rattle.packing.specs.Leaves.{leafAnswer, leafChecked, wrongAt, saidOf, refusalOf};
+ghost use Rattle.packing.specs.Leaves.{leafAnswer, leafChecked, wrongAt, saidOf, leafRefusal};
 
 pub enum Leaf {
     Variable(SymbolicVariable),
@@ -108,7 +108,7 @@ pub fn leaf_of(kind: u32, a: u32, b: u32, c: u32, d: u32) -> LeafRead
 }
 
 pub fn refusal_of(read: LeafRead) -> Refusal
-    ensures { λ r. ⌜ r ≡ refusalOf read ⌝ }
+    ensures { λ r. ⌜ r ≡ leafRefusal read ⌝ }
 {
     match read {
         LeafRead::Refused(refusal) => refusal,

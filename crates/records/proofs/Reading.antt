@@ -15,8 +15,8 @@ use Rattle.semantics.proofs.Encoding.{head-limits, check-sound, sheet-back}
 use Rattle.semantics.proofs.Access.{spare, words-are, words-count, count-words, constraint-word, interactions-from}
 use Rattle.semantics.proofs.Members.{mem-getD}
 use Rattle.semantics.proofs.GraphSheets.{named-below, interaction-facts}
-use Rattle.records.specs.Access.{rootsOf, roots, counts, fields, recordsOf, constraintsAt, interactionsAt, part, messageLength, eachWords, countAt}
-use Rattle.records.specs.Access.{fieldsAt, rootWords, countWords, fieldWords, NamesInside, AllRootsInside}
+use Rattle.records.specs.Access.{referencesOf, references, counts, fields, recordsOf, constraintsAt, interactionsAt, wordsFrom, messageLength, eachWords, countAt}
+use Rattle.records.specs.Access.{fieldsAt, rootWords, countWords, fieldWords, ReferencesInside, AllRootsInside}
 use Rattle.records.proofs.Steps.{inside}
 
 -- The sheet that was found is the one that the words read as.
@@ -57,7 +57,7 @@ module _ (ws : List ℕ) (at : ℕ) (x : Interaction) (tail : List ℕ) (e : dro
   unfolding interactionWords
   message-is = (λ i. take (length-is i) (rest-of 4 i)) ∙ take-append-seam (x .message) tail
 
-  pub both-are : fieldsAt ws at ++ countAt ws at ≡ rootsOf x
+  pub both-are : fieldsAt ws at ++ countAt ws at ≡ referencesOf x
   both-are = λ i. message-is i ++ count-is i
 
   wide : length (interactionWords x) ≡ 4 + messageLength ws at
@@ -100,8 +100,8 @@ module _ (rest : List ℕ) (ws : List ℕ) where
       λ i. same at x tail g i ++ ih i
 
   module _ (at : ℕ) (xs : List Interaction) (e : drop at ws ≡ flatMap interactionWords xs ++ rest) where
-    pub roots-are : rootWords ws at (length xs) ≡ roots xs
-    roots-are = each-are (λ (a : ℕ). fieldsAt ws a ++ countAt ws a) rootsOf (both-are ws) at xs e
+    pub roots-are : rootWords ws at (length xs) ≡ references xs
+    roots-are = each-are (λ (a : ℕ). fieldsAt ws a ++ countAt ws a) referencesOf (both-are ws) at xs e
 
     pub counts-are : countWords ws at (length xs) ≡ counts xs
     counts-are = each-are (countAt ws) (λ (x : Interaction). x .count ∷ []) (count-is ws) at xs e
@@ -109,7 +109,7 @@ module _ (rest : List ℕ) (ws : List ℕ) where
     pub fields-are : fieldWords ws at (length xs) ≡ fields xs
     fields-are = each-are (fieldsAt ws) (λ (x : Interaction). x .message) (message-is ws) at xs e
 
--- The names are records below a bound.
+-- The references are records below a bound.
 pub roots-inside : (bound : ℕ) (rest : List ℕ) (ws : List ℕ) (at : ℕ) (xs : List Interaction) → drop at ws ≡ flatMap interactionWords xs ++ rest
     → (k : ℕ) → Each (λ i. GoodInteraction bound) k xs → AllRootsInside bound ws at (length xs)
 roots-inside bound rest ws at [] e k g = tt
@@ -142,7 +142,7 @@ module _ (ws : List ℕ) (h : check prime ws ≡ good (readSheet ws)) where
   pub counts-small : (length (recordsOf ws) ≤ 4096) × (length (readSheet ws .constraints) ≤ 1024) × (length (readSheet ws .interactions) ≤ 1024)
   counts-small = head-limits (readSheet ws) (inside ws h .head)
 
-  pub constraints-are : part (constraintsAt ws) (length (readSheet ws .constraints)) ws ≡ readSheet ws .constraints
+  pub constraints-are : wordsFrom (constraintsAt ws) (length (readSheet ws .constraints)) ws ≡ readSheet ws .constraints
   constraints-are =
       let front : List ℕ = headWords (readSheet ws) ++ flatMap recordWords (readSheet ws .records) in
       let cs : List ℕ = readSheet ws .constraints in
@@ -155,7 +155,7 @@ module _ (ws : List ℕ) (h : check prime ws ≡ good (readSheet ws)) where
   pub places-small : (constraintsAt ws ≤ 20484) × (interactionsAt ws ≤ 21508)
   places-small = let r = records-limit (length (recordsOf ws)) (counts-small .0) in (r, omega (arith, counts-small))
 
-  pub constraints-inside : NamesInside ws (constraintsAt ws) (length (readSheet ws .constraints))
+  pub constraints-inside : ReferencesInside ws (constraintsAt ws) (length (readSheet ws .constraints))
   constraints-inside = record {
     inside = omega (arith, words-count prime ws (readSheet ws) h);
     below = λ j l.

@@ -10,7 +10,7 @@ use Rattle.semantics.specs.Check.{readSheet, check}
 use Rattle.semantics.specs.Walk.{Below, childrenAt, foldLeft, visit}
 use Rattle.semantics.proofs.Walks.{visit-fuel}
 use Rattle.semantics.proofs.Members.{mem-here, mem-there, not-in, append-below}
-use Rattle.records.specs.Access.{recordsOf, part, messageLength, eachWords, countAt, fieldsAt, NamesInside, RootsInside, AllRootsInside}
+use Rattle.records.specs.Access.{recordsOf, wordsFrom, messageLength, eachWords, countAt, fieldsAt, ReferencesInside, RootsInside, AllRootsInside}
 use Rattle.records.specs.Orders.{Order, Visiting}
 use Rattle.records.proofs.Steps.{child-low, order-visit}
 use Rattle.records.proofs.Parts.{part-more, part-below}
@@ -55,49 +55,49 @@ module _ (ws : List ℕ) where
         subst Q (visit-fuel ch (child-low ws checked) (suc r) E done r (omega arith) l) (f done q h)
 
     -- One more record that a word names.
-    pub visiting-name : (at count j : ℕ) → NamesInside ws at count → j < count → (r : ℕ) → r ≡ getD ws (at + j) 0 → (P Q R : List ℕ → Type 0)
-        → Visiting ws (part at j ws) P Q → ((done : List ℕ) → Order ws done → Q done → R (visit ch (suc r) done r)) → Visiting ws (part at (j + 1) ws) P R
+    pub visiting-name : (at count j : ℕ) → ReferencesInside ws at count → j < count → (r : ℕ) → r ≡ getD ws (at + j) 0 → (P Q R : List ℕ → Type 0)
+        → Visiting ws (wordsFrom at j ws) P Q → ((done : List ℕ) → Order ws done → Q done → R (visit ch (suc r) done r)) → Visiting ws (wordsFrom at (j + 1) ws) P R
     visiting-name at count j named l r e P Q R f g =
         let b : r < E = subst (λ (x : ℕ). x < E) (sym e) (named .below j l) in
-        let more : part at (j + 1) ws ≡ part at j ws ++ (r ∷ []) = part-more ws at j (omega (arith, named .inside)) ∙ ap (λ (x : ℕ). part at j ws ++ (x ∷ [])) (sym e) in
-        let below : Below E (part at j ws) = part-below E ws at j (omega (arith, named .inside)) (λ i k. named .below i (omega arith)) in
-        subst (λ (xs : List ℕ). Visiting ws xs P R) (sym more) (visiting-both (part at j ws) (r ∷ []) below P Q R f (visiting-one r b Q R g))
+        let more : wordsFrom at (j + 1) ws ≡ wordsFrom at j ws ++ (r ∷ []) = part-more ws at j (omega (arith, named .inside)) ∙ ap (λ (x : ℕ). wordsFrom at j ws ++ (x ∷ [])) (sym e) in
+        let below : Below E (wordsFrom at j ws) = part-below E ws at j (omega (arith, named .inside)) (λ i k. named .below i (omega arith)) in
+        subst (λ (xs : List ℕ). Visiting ws xs P R) (sym more) (visiting-both (wordsFrom at j ws) (r ∷ []) below P Q R f (visiting-one r b Q R g))
 
-  pub names-below : (a n : ℕ) → NamesInside ws a n → Below E (part a n ws)
-  names-below a n h = part-below E ws a n (h .inside) (h .below)
+  pub references-below : (a n : ℕ) → ReferencesInside ws a n → Below E (wordsFrom a n ws)
+  references-below a n h = part-below E ws a n (h .inside) (h .below)
 
-  -- The first of some names.
-  pub names-fewer : (a n j : ℕ) → j ≤ n → NamesInside ws a n → NamesInside ws a j
-  names-fewer a n j l h = record { inside = omega (arith, h .inside); below = λ i k. h .below i (omega arith) }
+  -- The first of some references.
+  pub references-fewer : (a n j : ℕ) → j ≤ n → ReferencesInside ws a n → ReferencesInside ws a j
+  references-fewer a n j l h = record { inside = omega (arith, h .inside); below = λ i k. h .below i (omega arith) }
 
 -- The records that one interaction names.
 module _ (ws : List ℕ) (at : ℕ) (inside : RootsInside (length (recordsOf ws)) ws at) where
-  pub message-inside : (len : ℕ) → len ≡ messageLength ws at → NamesInside ws (at + 4) len
+  pub message-inside : (len : ℕ) → len ≡ messageLength ws at → ReferencesInside ws (at + 4) len
   message-inside len e = record {
     inside = omega (arith, inside .inside);
     below = λ j l. inside .message j (omega arith);
   }
 
-  pub count-inside : NamesInside ws (at + 2) 1
+  pub count-inside : ReferencesInside ws (at + 2) 1
   count-inside = record {
     inside = omega (arith, inside .inside);
     below = λ j l. let z : at + 2 + j ≡ at + 2 = omega arith in subst (λ (k : ℕ). getD ws k 0 < length (recordsOf ws)) (sym z) (inside .count);
   }
 
   pub count-below : Below (length (recordsOf ws)) (countAt ws at)
-  count-below = names-below ws (at + 2) 1 count-inside
+  count-below = references-below ws (at + 2) 1 count-inside
 
   pub fields-below : Below (length (recordsOf ws)) (fieldsAt ws at)
-  fields-below = names-below ws (at + 4) (messageLength ws at) (message-inside (messageLength ws at) refl)
+  fields-below = references-below ws (at + 4) (messageLength ws at) (message-inside (messageLength ws at) refl)
 
   pub roots-below : Below (length (recordsOf ws)) (fieldsAt ws at ++ countAt ws at)
   roots-below = append-below (length (recordsOf ws)) (fieldsAt ws at) (countAt ws at) fields-below count-below
 
--- The interactions that a loop has passed: `names` is what was taken of them, and the interactions from `from` on are left.
-pub record Passed (one : ℕ → List ℕ) (ws : List ℕ) (at count from i : ℕ) (names : List ℕ) : Type 0 where
+-- The interactions that a loop has passed: `references` is what was taken of them, and the interactions from `from` on are left.
+pub record Passed (one : ℕ → List ℕ) (ws : List ℕ) (at count from i : ℕ) (references : List ℕ) : Type 0 where
   pub i-le : i ≤ count
-  pub below : Below (length (recordsOf ws)) names
-  pub whole : names ++ eachWords one ws from (count - i) ≡ eachWords one ws at count
+  pub below : Below (length (recordsOf ws)) references
+  pub whole : references ++ eachWords one ws from (count - i) ≡ eachWords one ws at count
   pub left : AllRootsInside (length (recordsOf ws)) ws from (count - i)
 
 module _ (one : ℕ → List ℕ) (ws : List ℕ) (at count : ℕ) where
@@ -112,12 +112,12 @@ module _ (one : ℕ → List ℕ) (ws : List ℕ) (at count : ℕ) where
       all : count - 0 ≡ count
       all = omega arith
 
-  module _ (from i : ℕ) (names : List ℕ) (h : Passed one ws at count from i names) where
-    pub passed-done : count ≤ i → names ≡ eachWords one ws at count
+  module _ (from i : ℕ) (references : List ℕ) (h : Passed one ws at count from i references) where
+    pub passed-done : count ≤ i → references ≡ eachWords one ws at count
     unfolding eachWords
     passed-done l =
         let z : count - i ≡ 0 = omega arith in
-        sym (append-nil names) ∙ ap (λ (k : ℕ). names ++ eachWords one ws from k) (sym z) ∙ h .whole
+        sym (append-nil references) ∙ ap (λ (k : ℕ). references ++ eachWords one ws from k) (sym z) ∙ h .whole
 
     module _ (l : i < count) where
       more : count - i ≡ suc (count - (i + 1))
@@ -130,15 +130,15 @@ module _ (one : ℕ → List ℕ) (ws : List ℕ) (at count : ℕ) where
       passed-next = left-now .0
 
       pub passed-more : Below (length (recordsOf ws)) (one from) → (from′ : ℕ) → from′ ≡ from + (4 + messageLength ws from)
-          → Passed one ws at count from′ (i + 1) (names ++ one from)
+          → Passed one ws at count from′ (i + 1) (references ++ one from)
       unfolding eachWords
       passed-more b from′ e = record {
         i-le = omega arith;
-        below = append-below (length (recordsOf ws)) names (one from) (h .below) b;
+        below = append-below (length (recordsOf ws)) references (one from) (h .below) b;
         whole =
-            append-assoc names (one from) (eachWords one ws from′ (count - (i + 1)))
-            ∙ ap (λ (a : ℕ). names ++ (one from ++ eachWords one ws a (count - (i + 1)))) e
-            ∙ ap (λ (j : ℕ). names ++ eachWords one ws from j) (sym more)
+            append-assoc references (one from) (eachWords one ws from′ (count - (i + 1)))
+            ∙ ap (λ (a : ℕ). references ++ (one from ++ eachWords one ws a (count - (i + 1)))) e
+            ∙ ap (λ (j : ℕ). references ++ eachWords one ws from j) (sym more)
             ∙ h .whole;
         left = subst (λ (a : ℕ). AllRootsInside (length (recordsOf ws)) ws a (count - (i + 1))) (sym e) (left-now .1);
       }

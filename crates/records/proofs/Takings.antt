@@ -4,13 +4,13 @@ use mathlib.Core.List.{List}
 use Prim.Native.Nat.{ℕ}
 use lib.ListN.{length}
 use Rattle.records.specs.declared.Interaction.{Interaction}
-use Rattle.records.specs.Access.{recordsOf, part, messageLength, interactionFrom, countAt, fieldsAt, NamesInside, RootsInside}
+use Rattle.records.specs.Access.{recordsOf, wordsFrom, messageLength, interactionFrom, countAt, fieldsAt, ReferencesInside, RootsInside}
 use Rattle.records.proofs.Rooting.{count-inside, message-inside}
 
 -- So many words of it from a place on, which name records.
 pub record Taken (one : ℕ → List ℕ) (ws : List ℕ) (place size : Interaction → ℕ) : Type 0 where
-  pub words : (at : ℕ) → let x = interactionFrom at (messageLength ws at) in one at ≡ part (place x) (size x) ws
-  pub inside : (at : ℕ) → RootsInside (length (recordsOf ws)) ws at → let x = interactionFrom at (messageLength ws at) in NamesInside ws (place x) (size x)
+  pub words : (at : ℕ) → let x = interactionFrom at (messageLength ws at) in one at ≡ wordsFrom (place x) (size x) ws
+  pub inside : (at : ℕ) → RootsInside (length (recordsOf ws)) ws at → let x = interactionFrom at (messageLength ws at) in ReferencesInside ws (place x) (size x)
 
 pub count-taken : (ws : List ℕ) → Taken (countAt ws) ws (λ (x : Interaction). x .count) (λ (x : Interaction). 1)
 count-taken ws = record { words = λ at. refl; inside = λ at h. count-inside ws at h }
@@ -21,8 +21,8 @@ fields-taken ws = record { words = λ at. refl; inside = λ at h. message-inside
 -- The same, of the interaction in hand.
 module _ {one : ℕ → List ℕ} {ws : List ℕ} {place size : Interaction → ℕ} (t : Taken one ws place size) {from : ℕ} {x : Interaction}
     (e : x ≡ interactionFrom from (messageLength ws from)) where
-  pub taken-words : part (place x) (size x) ws ≡ one from
-  taken-words = ap (λ (y : Interaction). part (place y) (size y) ws) e ∙ sym (t .words from)
+  pub taken-words : wordsFrom (place x) (size x) ws ≡ one from
+  taken-words = ap (λ (y : Interaction). wordsFrom (place y) (size y) ws) e ∙ sym (t .words from)
 
-  pub taken-names : RootsInside (length (recordsOf ws)) ws from → NamesInside ws (place x) (size x)
-  taken-names h = subst (λ (y : Interaction). NamesInside ws (place y) (size y)) (sym e) (t .inside from h)
+  pub taken-references : RootsInside (length (recordsOf ws)) ws from → ReferencesInside ws (place x) (size x)
+  taken-references h = subst (λ (y : Interaction). ReferencesInside ws (place y) (size y)) (sym e) (t .inside from h)

@@ -28,8 +28,8 @@ abbrev pub interactionsAt : List ℕ → ℕ
 interactionsAt ws = constraintsAt ws + length (readSheet ws .constraints)
 
 -- The words from `at` on that name records.
-abbrev pub part : (at count : ℕ) → List ℕ → List ℕ
-part at count ws = take count (drop at ws)
+abbrev pub wordsFrom : (at count : ℕ) → List ℕ → List ℕ
+wordsFrom at count ws = take count (drop at ws)
 
 -- The message length of the interaction that stands at `at`.
 abbrev pub messageLength : List ℕ → ℕ → ℕ
@@ -39,17 +39,17 @@ messageLength ws at = getD ws (at + 3) 0
 abbrev pub interactionFrom : (at message : ℕ) → places.Interaction
 interactionFrom at message = record { count = at + 2; length = at + 3; fields = at + 4; message = message; next = at + (4 + message) }
 
--- The names that n interactions from `at` on have, one interaction after the other; `one` is what is taken of each.
+-- The references that n interactions from `at` on have, one interaction after the other; `one` is what is taken of each.
 unfoldable pub eachWords : (one : ℕ → List ℕ) (ws : List ℕ) (at n : ℕ) → List ℕ
 eachWords one ws at zero = []
 eachWords one ws at (suc n) = one at ++ eachWords one ws (at + (4 + messageLength ws at)) n
 
 -- The count of the interaction at `at`, and its fields.
 abbrev pub countAt : (ws : List ℕ) (at : ℕ) → List ℕ
-countAt ws at = part (at + 2) 1 ws
+countAt ws at = wordsFrom (at + 2) 1 ws
 
 abbrev pub fieldsAt : (ws : List ℕ) (at : ℕ) → List ℕ
-fieldsAt ws at = part (at + 4) (messageLength ws at) ws
+fieldsAt ws at = wordsFrom (at + 4) (messageLength ws at) ws
 
 -- The records that interactions name: the fields of each before its count; the counts alone; the fields alone.
 abbrev pub rootWords : (ws : List ℕ) (at n : ℕ) → List ℕ
@@ -62,7 +62,7 @@ abbrev pub fieldWords : (ws : List ℕ) (at n : ℕ) → List ℕ
 fieldWords ws at n = eachWords (fieldsAt ws) ws at n
 
 -- The words from `at` on name records.
-pub record NamesInside (ws : List ℕ) (at count : ℕ) : Type 0 where
+pub record ReferencesInside (ws : List ℕ) (at count : ℕ) : Type 0 where
   pub inside : at + count ≤ length ws
   pub below : (j : ℕ) → j < count → getD ws (at + j) 0 < length (recordsOf ws)
 
@@ -77,11 +77,11 @@ AllRootsInside bound ws at zero = Unit {0}
 AllRootsInside bound ws at (suc n) = RootsInside bound ws at × AllRootsInside bound ws (at + (4 + messageLength ws at)) n
 
 -- The records that interactions name: the fields of each before its count; the counts alone; the fields alone.
-abbrev pub rootsOf : semantics.Interaction → List ℕ
-rootsOf x = x .message ++ (x .count ∷ [])
+abbrev pub referencesOf : semantics.Interaction → List ℕ
+referencesOf x = x .message ++ (x .count ∷ [])
 
-abbrev pub roots : List semantics.Interaction → List ℕ
-roots xs = flatMap rootsOf xs
+abbrev pub references : List semantics.Interaction → List ℕ
+references xs = flatMap referencesOf xs
 
 abbrev pub counts : List semantics.Interaction → List ℕ
 counts xs = flatMap (λ (x : semantics.Interaction). x .count ∷ []) xs

@@ -11,7 +11,7 @@ use lib.Seq.{take-append-seam, drop-append-seam, drop-at, drop-drop}
 use borrow.Author.Tests.{eqb-true, leb-true}
 use Rattle.semantics.specs.Answer.{Answer, good, refused}
 use Rattle.semantics.specs.Sheet.{Record, Interaction, Sheet, Inside, Each, GoodRecord, GoodInteraction, recordWords, interactionWords, headWords, encode}
-use Rattle.semantics.specs.Sheet.{lengthOf, place, table, row, fits, recordTests, interactionTests, headTests, names, passes}
+use Rattle.semantics.specs.Sheet.{lengthOf, place, table, row, fits, recordTests, interactionTests, headTests, refers, passes}
 use Rattle.semantics.specs.Check.{Scan, reading, stopped, scanWords, scanPart, scanParts, scanSpare, scanSheet, readRecord, readRecords, readInteraction}
 use Rattle.semantics.specs.Check.{readInteractions, readSheet, judged, check}
 use Rattle.semantics.proofs.Basics.{and-true, true-and, cond-true, tests}
@@ -267,7 +267,7 @@ scan-spare-only (suc room) (reading i (w ∷ ws)) j vs h =
 
 -- A sheet inside the limits is read over up to its interactions, and up to what stands behind it.
 module _ (p : ℕ) (s : Sheet) (h : Inside p s) (vs : List ℕ) where
-  pub scan-to-interactions : scanWords 6 (replicate (length (s .constraints)) (names (length (s .records))))
+  pub scan-to-interactions : scanWords 6 (replicate (length (s .constraints)) (refers (length (s .records))))
       (scanParts 5 (recordTests p) (length (s .records)) 0 (scanWords 3 headTests (reading 0 (encode s ++ vs))))
       ≡ reading (place 5 (length (s .records)) + length (s .constraints)) (flatMap interactionWords (s .interactions) ++ vs)
   unfolding headWords
@@ -275,17 +275,17 @@ module _ (p : ℕ) (s : Sheet) (h : Inside p s) (vs : List ℕ) where
       ap (λ (ws : List ℕ). scanC (scanR (scanWords 3 headTests (reading 0 ws)))) (words-then s vs)
       ∙ ap (λ (t : Scan). scanC (scanR t)) (scan-words 3 headTests (headWords s) _ 0 (h .head))
       ∙ ap scanC (scan-records p 5 0 (s .records) _ _ (h .records))
-      ∙ scan-words 6 (replicate (length (s .constraints)) (names (length (s .records)))) (s .constraints) _ _ (h .constraints)
+      ∙ scan-words 6 (replicate (length (s .constraints)) (refers (length (s .records)))) (s .constraints) _ _ (h .constraints)
       ∙ ap (λ (n : ℕ). reading n (flatMap interactionWords (s .interactions) ++ vs)) (omega (arith, records-end (s .records)))
     where
       scanR : Scan → Scan
       scanR t = scanParts 5 (recordTests p) (length (s .records)) 0 t
 
       scanC : Scan → Scan
-      scanC t = scanWords 6 (replicate (length (s .constraints)) (names (length (s .records)))) t
+      scanC t = scanWords 6 (replicate (length (s .constraints)) (refers (length (s .records)))) t
 
   pub scan-to-end : scanParts 6 (λ own. interactionTests (length (s .records))) (length (s .interactions)) 0
-      (scanWords 6 (replicate (length (s .constraints)) (names (length (s .records))))
+      (scanWords 6 (replicate (length (s .constraints)) (refers (length (s .records))))
       (scanParts 5 (recordTests p) (length (s .records)) 0 (scanWords 3 headTests (reading 0 (encode s ++ vs)))))
       ≡ reading (lengthOf s) vs
   scan-to-end =
@@ -337,7 +337,7 @@ assembled : (p : ℕ) (ws hs : List ℕ) (rs : List Record) (cs : List ℕ) (xs 
     → reading 0 ws ≡ reading i (hs ++ (flatMap recordWords rs ++ (cs ++ (flatMap interactionWords xs ++ vs))))
     → passes headTests hs ≡ true
     → length rs ≡ getD ws 1 0 → Each (GoodRecord p) 0 rs
-    → passes (replicate (getD ws 2 0) (names (getD ws 1 0))) cs ≡ true
+    → passes (replicate (getD ws 2 0) (refers (getD ws 1 0))) cs ≡ true
     → length xs ≡ getD ws 3 0 → Each (λ i. GoodInteraction (getD ws 1 0)) 0 xs
     → (s : Sheet) × Inside p s × (ws ≡ encode s ++ vs)
 unfolding headWords headTests
@@ -359,7 +359,7 @@ assembled p ws hs rs cs xs vs i e h lr gr gc lx gx = (
     at-head n l = ap (λ (us : Scan). getD (rest us) n 0) e ∙ List·getD-append hs _ 0 n (omega (arith, passes-length headTests hs h))
 
     lc : length cs ≡ getD ws 2 0
-    lc = passes-length _ cs gc ∙ length-replicate (getD ws 2 0) (names (getD ws 1 0))
+    lc = passes-length _ cs gc ∙ length-replicate (getD ws 2 0) (refers (getD ws 1 0))
 
     headed : hs ≡ headWords s
     headed =
@@ -374,7 +374,7 @@ scan-sheet-only p ws j vs h =
     let I : ℕ = getD ws 3 0 in
     let z = scan-spare-only 126 _ j vs h in
     let x = scan-parts-only interactionWords (λ own. interactionTests E) (interaction-same E) (interaction-only E) 6 I 0 _ (z .1) _ (z .3) in
-    let c = scan-words-only 6 (replicate (getD ws 2 0) (names E)) _ (x .1) _ (x .2) in
+    let c = scan-words-only 6 (replicate (getD ws 2 0) (refers E)) _ (x .1) _ (x .2) in
     let r = scan-parts-only recordWords (recordTests p) (record-same p) (record-only p) 5 E 0 _ (c .1) _ (c .2) in
     let f = scan-words-only 3 headTests (reading 0 ws) (r .1) _ (r .2) in
     let a = assembled p ws (f .0) (r .0) (c .0) (x .0) _ (f .1) (f .2) (f .3) (r .3) (r .4) (c .3) (x .3) (x .4) in

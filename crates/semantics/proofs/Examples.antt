@@ -6,7 +6,7 @@ use lib.ListN.{length, replicate}
 use Rattle.slices.specs.Rows.{rows}
 use Rattle.semantics.specs.Answer.{andThen}
 use Rattle.semantics.specs.Arithmetic.{prime, addM, subM, mulM, negM, signedOf}
-use Rattle.semantics.specs.Sheet.{Record, Sheet, recordOf, recordWords, interactionWords, headWords, encode, lengthOf, place, table, row, fits, recordTests, names, interactionTests, headTests}
+use Rattle.semantics.specs.Sheet.{Record, Sheet, recordOf, recordWords, interactionWords, headWords, encode, lengthOf, place, table, row, fits, recordTests, refers, interactionTests, headTests}
 use Rattle.semantics.specs.Check.{scanWords, scanPart, scanParts, scanSpare, scanSheet, readRecord, readRecords, readInteraction, readInteractions, readSheet, judged, check}
 use Rattle.semantics.specs.Block.{wordBytes, wordAt, wordsOf, total, checkWord, blockGood, badLength, readBlocks, blockBytes, firstWords, writeBlocks, blocksFor}
 use Rattle.semantics.specs.Packing.{packed, packFault, leafTests, packRecord, pack}
@@ -50,7 +50,7 @@ sheetOf rs cs = record { records = rs; constraints = cs; interactions = [] }
 -- The builder, lent what it asks for and three words more each.
 builds : List Record → List ℕ → Outcome
 unfolding sheetOf builderCall outcome onSheet needs result andThen zeros padded paddedAll check judged scanSheet scanWords scanPart scanParts
-    scanSpare recordTests interactionTests headTests names fits row table place readSheet readRecords readRecord readInteractions readInteraction
+    scanSpare recordTests interactionTests headTests refers fits row table place readSheet readRecords readRecord readInteractions readInteraction
     encode headWords recordWords interactionWords lengthOf flatMap graphOf built build addRecord takeIn pick nodeFor setNum intern find equalRecords
     addRule subRule negRule mulRule ifConstants isConst ifNeg graphRoots insertOnce sortedOnce renamed order visit foldLeft member children childrenAt
     recordAt nodeOf leafOf addM subM mulM negM

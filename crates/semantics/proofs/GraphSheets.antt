@@ -9,7 +9,7 @@ use lib.Dec.{ltb, leb}
 use lib.ListN.{length, getD, replicate, length-append, length-map}
 use borrow.Author.Tests.{ltb-true, ltb-false, leb-true, lt-ltb, le-leb}
 use Rattle.semantics.specs.Lists.{All, AscendBy}
-use Rattle.semantics.specs.Sheet.{Interaction, Sheet, interactionWords, headWords, lengthOf, place, names, interactionTests, headTests, passes, Each, Named, GoodInteraction, Inside}
+use Rattle.semantics.specs.Sheet.{Interaction, Sheet, interactionWords, headWords, lengthOf, place, refers, interactionTests, headTests, passes, Each, Named, GoodInteraction, Inside}
 use Rattle.semantics.specs.Value.{Leaf, valueAt}
 use Rattle.semantics.specs.Walk.{Mem, Below, order}
 use Rattle.semantics.specs.Graph.{graphRoots, built, insertOnce, sortedOnce, renamed, graphOf}
@@ -29,24 +29,24 @@ pub named-below : (n : ℕ) (ws : List ℕ) → Named n ws → Below n ws
 unfolding passes
 named-below n [] h x m = not-in x m
 named-below n (w ∷ ws) h x m =
-    let t = and-true (names n w) (passes (replicate (length ws) (names n)) ws) h in
+    let t = and-true (refers n w) (passes (replicate (length ws) (refers n)) ws) h in
     go (t .0) (named-below n ws (t .1) x) (mem-cases x w ws m)
   where
-    go : names n w ≡ true → (Mem x ws → x < n) → (x ≡ w) ⊎ Mem x ws → x < n
-    go e ih (inl q) = unfold names in (omega (arith, ltb-true w n e))
+    go : refers n w ≡ true → (Mem x ws → x < n) → (x ≡ w) ⊎ Mem x ws → x < n
+    go e ih (inl q) = unfold refers in (omega (arith, ltb-true w n e))
     go e ih (inr k) = ih k
 
 pub below-named : (n : ℕ) (ws : List ℕ) → Below n ws → Named n ws
 unfolding passes
 below-named n [] h = refl
 below-named n (w ∷ ws) h =
-    true-and (names n w) (passes (replicate (length ws) (names n)) ws) (unfold names in (lt-ltb w n (h w (mem-here w ws))))
+    true-and (refers n w) (passes (replicate (length ws) (refers n)) ws) (unfold refers in (lt-ltb w n (h w (mem-here w ws))))
     (below-named n ws (λ x m. h x (mem-there x w ws m)))
 
 -- What the tests of an interaction and of the head say.
 pub interaction-is : (n : ℕ) (x : Interaction)
     → passes (interactionTests n (interactionWords x)) (interactionWords x)
-    ≡ leb (x .bus) 65535 && (names n (x .count) && (leb (length (x .message)) 63 && passes (replicate (length (x .message)) (names n)) (x .message)))
+    ≡ leb (x .bus) 65535 && (refers n (x .count) && (leb (length (x .message)) 63 && passes (replicate (length (x .message)) (refers n)) (x .message)))
 unfolding interactionTests interactionWords passes
 interaction-is n x = refl
 
@@ -57,18 +57,18 @@ pub record InteractionFacts (n : ℕ) (x : Interaction) : Type 0 where
   pub message : Below n (x .message)
 
 pub interaction-facts : (n : ℕ) (x : Interaction) → GoodInteraction n x → InteractionFacts n x
-unfolding names
+unfolding refers
 interaction-facts n x h =
     let t = and-true (leb (x .bus) 65535) _ (sym (interaction-is n x) ∙ h) in
-    let u = and-true (names n (x .count)) _ (t .1) in
+    let u = and-true (refers n (x .count)) _ (t .1) in
     let v = and-true (leb (length (x .message)) 63) _ (u .1) in
     record { bus = leb-true _ _ (t .0); count = ltb-true _ _ (u .0); short = leb-true _ _ (v .0); message = named-below n (x .message) (v .1) }
 
 pub facts-good : (n : ℕ) (x : Interaction) → InteractionFacts n x → GoodInteraction n x
-unfolding names
+unfolding refers
 facts-good n x f =
     interaction-is n x
-    ∙ true-and (leb (x .bus) 65535) _ (le-leb _ _ (f .bus)) (true-and (names n (x .count)) _ (lt-ltb _ _ (f .count))
+    ∙ true-and (leb (x .bus) 65535) _ (le-leb _ _ (f .bus)) (true-and (refers n (x .count)) _ (lt-ltb _ _ (f .count))
     (true-and (leb (length (x .message)) 63) _ (le-leb _ _ (f .short)) (below-named n (x .message) (f .message))))
 
 pub head-is : (s : Sheet) → passes headTests (headWords s) ≡ leb (length (s .records)) 4096 && (leb (length (s .constraints)) 1024 && (leb (length (s .interactions)) 1024 && true))

@@ -6,7 +6,7 @@ use lib.Dec.{eqb}
 use lib.ListN.{getD, take, drop, replicate}
 use Rattle.semantics.specs.Arithmetic.{prime}
 use Rattle.semantics.specs.Answer.{Answer, good, refused}
-use Rattle.semantics.specs.Sheet.{Record, Interaction, Sheet, recordOf, place, recordTests, interactionTests, headTests, names}
+use Rattle.semantics.specs.Sheet.{Record, Interaction, Sheet, recordOf, place, recordTests, interactionTests, headTests, refers}
 
 -- So far: the index of the next word and the words from there on, or the refusal with its number and place.
 pub data Scan : Type 0 where
@@ -46,7 +46,7 @@ scanSheet p ws =
     let I : ℕ = getD ws 3 0 in
     scanSpare 126
     (scanParts 6 (λ own. interactionTests E) I 0
-    (scanWords 6 (replicate C (names E))
+    (scanWords 6 (replicate C (refers E))
     (scanParts 5 (recordTests p) E 0
     (scanWords 3 headTests (reading 0 ws)))))
 

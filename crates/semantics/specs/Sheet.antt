@@ -106,13 +106,13 @@ unfoldable pub recordTests : (p own : ℕ) → List ℕ → List (ℕ → Bool)
 recordTests p own ws = (λ w. leb 1 w && leb w 9) ∷ map (fits p own (getD ws 1 0)) (row (getD ws 0 0))
 
 -- A word that names one of n records.
-unfoldable pub names : ℕ → ℕ → Bool
-names n w = ltb w n
+unfoldable pub refers : ℕ → ℕ → Bool
+refers n w = ltb w n
 
 -- "bus (0 to 65,535), count weight (any), count's record, message length (0 to 63), then that many records"
 unfoldable pub interactionTests : (n : ℕ) → List ℕ → List (ℕ → Bool)
 interactionTests n ws =
-    (λ w. leb w 65535) ∷ (λ w. true) ∷ names n ∷ (λ w. leb w 63) ∷ replicate (getD ws 3 0) (names n)
+    (λ w. leb w 65535) ∷ (λ w. true) ∷ refers n ∷ (λ w. leb w 63) ∷ replicate (getD ws 3 0) (refers n)
 
 -- "form (1), E records (0 to 4,096), C constraints (0 to 1,024), I interactions (0 to 1,024)"
 unfoldable pub headTests : List (ℕ → Bool)
@@ -136,7 +136,7 @@ abbrev pub GoodRecord : (p own : ℕ) → Record → Type 0
 GoodRecord p own r = passes (recordTests p own (recordWords r)) (recordWords r) ≡ true
 
 abbrev pub Named : (n : ℕ) → List ℕ → Type 0
-Named n ws = passes (replicate (length ws) (names n)) ws ≡ true
+Named n ws = passes (replicate (length ws) (refers n)) ws ≡ true
 
 abbrev pub GoodInteraction : (n : ℕ) → Interaction → Type 0
 GoodInteraction n x = passes (interactionTests n (interactionWords x)) (interactionWords x) ≡ true

@@ -10,7 +10,7 @@ use lib.Dec.{leb}
 use lib.ListN.{length, getD, drop, replicate, drop-of-length-le}
 use lib.Seq.{drop-cons, getD-drop}
 use borrow.Author.Tests.{eq-eqb, ne-eqb, leb-true, lt-ltb, le-ltb}
-use Rattle.semantics.specs.Sheet.{Inside, encode, headWords, lengthOf, place, fits, row, recordTests, interactionTests, headTests, names}
+use Rattle.semantics.specs.Sheet.{Inside, encode, headWords, lengthOf, place, fits, row, recordTests, interactionTests, headTests, refers}
 use Rattle.semantics.specs.Answer.{good}
 use Rattle.semantics.specs.Sheet as semantics
 use Rattle.semantics.specs.Check.{Scan, reading, stopped, scanWords, scanPart, scanParts, scanSpare, scanSheet, readSheet, judged, check}
@@ -24,7 +24,7 @@ use Rattle.sheet.specs.declared.Checked.{Checked}
 use Rattle.sheet.specs.declared.Checked.the-variants.{Sheet}
 use Rattle.sheet.specs.declared.scan.Scanned.{Scanned}
 use Rattle.sheet.specs.declared.scan.Scanned.the-variants.{Next, Stop}
-use Rattle.sheet.specs.Scans.{scanOf, Ends, Reaches, refusedOf}
+use Rattle.sheet.specs.Scans.{scanOf, Ends, EndsAt, refusedOf}
 use Rattle.sheet.specs.Replies.{checkedOutcome}
 use Rattle.sheet.proofs.Answers.{told, check-told}
 
@@ -266,16 +266,16 @@ module _ {n : ℕ} {t : ℕ → Bool} {ws : List ℕ} {whole : Scan} {base count
         omega (arith, left .some, left .stands),
       )
 
-pub names-true : (n w x : ℕ) → x ≡ w → x < n → names n w ≡ true
-unfolding names
-names-true n w x e h = lt-ltb w n (omega arith)
+pub references-true : (n w x : ℕ) → x ≡ w → x < n → refers n w ≡ true
+unfolding refers
+references-true n w x e h = lt-ltb w n (omega arith)
 
-pub names-false : (n w x : ℕ) → x ≡ w → n ≤ x → names n w ≡ false
-unfolding names
-names-false n w x e h = le-ltb w n (omega arith)
+pub references-false : (n w x : ℕ) → x ≡ w → n ≤ x → refers n w ≡ false
+unfolding refers
+references-false n w x e h = le-ltb w n (omega arith)
 
-pub step-at : (k : ℕ) (r : Scanned) (n : ℕ) → Reaches k r → r ≡ Next n → n ≡ k
-step-at k r n h q = subst (Reaches k) q h
+pub step-at : (k : ℕ) (r : Scanned) (n : ℕ) → EndsAt k r → r ≡ Next n → n ≡ k
+step-at k r n h q = subst (EndsAt k) q h
 
 -- A scan that stands at `m`, `k` words behind `base`: the tests `ts` from there on give the whole.
 pub record Left (n : ℕ) (ts : List (ℕ → Bool)) (ws : List ℕ) (whole : Scan) (base k m : ℕ) : Type 0 where
@@ -285,7 +285,7 @@ pub record Left (n : ℕ) (ts : List (ℕ → Bool)) (ws : List ℕ) (whole : Sc
 
 -- One word of them is judged: that stops the whole, or the scan stands one word further.
 module _ {n : ℕ} {t : ℕ → Bool} {ts : List (ℕ → Bool)} {ws : List ℕ} {whole : Scan} {base k m : ℕ} (left : Left n (t ∷ ts) ws whole base k m)
-    (r : Scanned) (e : (scanOf ws r ≡ scanWords n (t ∷ []) (reading m (drop m ws))) × Ends ws r × Reaches (m + 1) r) where
+    (r : Scanned) (e : (scanOf ws r ≡ scanWords n (t ∷ []) (reading m (drop m ws))) × Ends ws r × EndsAt (m + 1) r) where
   left-step : Step (scanWords n ts) whole ws r
   left-step = step (e .0) (e .1) (sym (scan-more n t ts (reading m (drop m ws))) ∙ left .goes) (scan-stopped n ts)
 
@@ -301,11 +301,11 @@ module _ {n : ℕ} {t : ℕ → Bool} {ts : List (ℕ → Bool)} {ws : List ℕ}
 
 -- The tests of an interaction, in the order in which its words are judged.
 pub interaction-tests : (n : ℕ) (ws : List ℕ) (at : ℕ)
-    → scanWords 6 ((λ w. leb w 65535) ∷ (λ w. true) ∷ names n ∷ (λ w. leb w 63) ∷ replicate (getD ws (at + 3) 0) (names n)) (reading at (drop at ws))
+    → scanWords 6 ((λ w. leb w 65535) ∷ (λ w. true) ∷ refers n ∷ (λ w. leb w 63) ∷ replicate (getD ws (at + 3) 0) (refers n)) (reading at (drop at ws))
     ≡ scanPart 6 (interactionTests n) (reading at (drop at ws))
 unfolding scanPart interactionTests
 interaction-tests n ws at =
-    ap (λ (k : ℕ). scanWords 6 ((λ w. leb w 65535) ∷ (λ w. true) ∷ names n ∷ (λ w. leb w 63) ∷ replicate k (names n)) (reading at (drop at ws)))
+    ap (λ (k : ℕ). scanWords 6 ((λ w. leb w 65535) ∷ (λ w. true) ∷ refers n ∷ (λ w. leb w 63) ∷ replicate k (refers n)) (reading at (drop at ws)))
     (sym (getD-drop at ws 3 0))
 
 -- Spare words: the scan stands at `i`, `k` are judged, and those that are left give the whole.
@@ -349,8 +349,8 @@ module _ {ws : List ℕ} {whole : Scan} {k i : ℕ} (left : SpareLeft ws whole k
       at-end : (room : ℕ) → scanSpare room (reading i []) ≡ reading i []
       at-end room = refl
 
-pub stop-reaches : (k : ℕ) (r : Scanned) (v : Refusal) → r ≡ Stop v → Reaches k r
-stop-reaches k r v q = subst (Reaches k) (sym q) tt
+pub stop-reaches : (k : ℕ) (r : Scanned) (v : Refusal) → r ≡ Stop v → EndsAt k r
+stop-reaches k r v q = subst (EndsAt k) (sym q) tt
 
 -- Where a scan goes on.
 abbrev indexOf : Scan → ℕ
@@ -366,7 +366,7 @@ module _ (p : ℕ) (ws : List ℕ) where
   afterConstraints t = scanSpare 126 (scanParts 6 (λ own. interactionTests (getD ws 1 0)) (getD ws 3 0) 0 t)
 
   abbrev pub afterRecords : Scan → Scan
-  afterRecords t = afterConstraints (scanWords 6 (replicate (getD ws 2 0) (names (getD ws 1 0))) t)
+  afterRecords t = afterConstraints (scanWords 6 (replicate (getD ws 2 0) (refers (getD ws 1 0))) t)
 
   abbrev pub afterHead : Scan → Scan
   afterHead t = afterRecords (scanParts 5 (recordTests p) (getD ws 1 0) 0 t)
@@ -386,7 +386,7 @@ module _ (p : ℕ) (ws : List ℕ) where
   constraints-stay m k = ap (scanSpare 126) (parts-stopped 6 (λ own. interactionTests (getD ws 1 0)) (getD ws 3 0) 0 m k) ∙ interactions-stay m k
 
   pub records-stay : (m k : ℕ) → afterRecords (stopped m k) ≡ stopped m k
-  records-stay m k = ap afterConstraints (scan-stopped 6 (replicate (getD ws 2 0) (names (getD ws 1 0))) m k) ∙ constraints-stay m k
+  records-stay m k = ap afterConstraints (scan-stopped 6 (replicate (getD ws 2 0) (refers (getD ws 1 0))) m k) ∙ constraints-stay m k
 
   pub head-stays : (m k : ℕ) → afterHead (stopped m k) ≡ stopped m k
   head-stays m k = ap afterRecords (parts-stopped 5 (recordTests p) (getD ws 1 0) 0 m k) ∙ records-stay m k
@@ -405,7 +405,7 @@ module _ (p : ℕ) (ws : List ℕ) where
 
     -- The words are those of the sheet and zeros, so the head and the places are the sheet's.
     module _ (b : ℕ)
-        (at-b : reading b (drop b ws) ≡ scanWords 6 (replicate (getD ws 2 0) (names (getD ws 1 0)))
+        (at-b : reading b (drop b ws) ≡ scanWords 6 (replicate (getD ws 2 0) (refers (getD ws 1 0)))
         (scanParts 5 (recordTests p) (getD ws 1 0) 0 (scanWords 3 headTests (reading 0 ws))))
         (l : ℕ) (at-l : reading l (drop l ws) ≡ scanParts 6 (λ own. interactionTests (getD ws 1 0)) (getD ws 3 0) 0 (reading b (drop b ws))) where
       abbrev head : Head
@@ -426,11 +426,11 @@ module _ (p : ℕ) (ws : List ℕ) where
               let c₂ : getD ws 2 0 ≡ length (s .constraints) = ap (λ (u : List ℕ). getD u 2 0) w ∙ unfold encode headWords in refl in
               let c₃ : getD ws 3 0 ≡ length (s .interactions) = ap (λ (u : List ℕ). getD u 3 0) w ∙ unfold encode headWords in refl in
               let eb : b ≡ place 5 (length (s .records)) + length (s .constraints) =
-              ap indexOf (at-b ∙ (λ i. scanWords 6 (replicate (c₂ i) (names (c₁ i))) (scanParts 5 (recordTests p) (c₁ i) 0 (scanWords 3 headTests (reading 0 (w i)))))
+              ap indexOf (at-b ∙ (λ i. scanWords 6 (replicate (c₂ i) (refers (c₁ i))) (scanParts 5 (recordTests p) (c₁ i) 0 (scanWords 3 headTests (reading 0 (w i)))))
               ∙ scan-to-interactions p s h zs) in
               let el : l ≡ lengthOf s =
               ap indexOf (at-l ∙ ap (scanParts 6 (λ own. interactionTests (getD ws 1 0)) (getD ws 3 0) 0) at-b
               ∙ (λ i. scanParts 6 (λ own. interactionTests (c₁ i)) (c₃ i) 0
-              (scanWords 6 (replicate (c₂ i) (names (c₁ i))) (scanParts 5 (recordTests p) (c₁ i) 0 (scanWords 3 headTests (reading 0 (w i))))))
+              (scanWords 6 (replicate (c₂ i) (refers (c₁ i))) (scanParts 5 (recordTests p) (c₁ i) 0 (scanWords 3 headTests (reading 0 (w i))))))
               ∙ scan-to-end p s h zs) in
               λ i. checkedOutcome (Sheet (record { records = c₁ i; constraints = c₂ i; interactions = c₃ i; start = eb i; words = el i }))

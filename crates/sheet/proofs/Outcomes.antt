@@ -13,8 +13,8 @@ use Rattle.answers.specs.declared.Refusal.{Refusal}
 use Rattle.sheet.specs.declared.Checked.{Checked}
 use Rattle.sheet.specs.declared.Checked.the-variants as checked
 use Rattle.answers.specs.declared.Written.the-variants.{Words, Refused}
-use Rattle.answers.specs.Replies.{finished}
-use Rattle.sheet.specs.Replies.{checkedOutcome, refusalOf}
+use Rattle.answers.specs.Replies.{restZeroed}
+use Rattle.sheet.specs.Replies.{checkedOutcome, checkedRefusal}
 use Rattle.answers.proofs.Outcomes.{refused-outcome, words-outcome}
 use Rattle.sheet.proofs.Answers.{on-found, on-refused}
 
@@ -23,18 +23,18 @@ module _ (p : ℕ) (ws : List ℕ) (size : Sheet → ℕ) (made : Sheet → List
   abbrev writes : Sheet → Answer Result
   writes t = needs 15 (size t) n (result (made t ∷ []) [])
 
-  pub sheet-refused : {r : Checked} {v u : Refusal} → checkedOutcome r ≡ checkCall p ws → r ≡ checked.Refused v → u ≡ refusalOf r
-      → finished (Refused u) o ≡ outcome [] (n ∷ []) (onSheet p ws writes)
+  pub sheet-refused : {r : Checked} {v u : Refusal} → checkedOutcome r ≡ checkCall p ws → r ≡ checked.Refused v → u ≡ checkedRefusal r
+      → restZeroed (Refused u) o ≡ outcome [] (n ∷ []) (onSheet p ws writes)
   sheet-refused {v} e q f =
-      ap (λ (x : Refusal). finished (Refused x) o) (f ∙ ap refusalOf q) ∙ refused-outcome o l v ∙ ap (outcome [] (n ∷ [])) (on-refused p ws writes e q)
+      ap (λ (x : Refusal). restZeroed (Refused x) o) (f ∙ ap checkedRefusal q) ∙ refused-outcome o l v ∙ ap (outcome [] (n ∷ [])) (on-refused p ws writes e q)
 
   module _ {t : Sheet} (e : check p ws ≡ good t) {k : ℕ} (f : k ≡ size t) where
-    pub sheet-short : n < k → finished (Refused (record { number = 15; place = k })) o ≡ outcome [] (n ∷ []) (onSheet p ws writes)
+    pub sheet-short : n < k → restZeroed (Refused (record { number = 15; place = k })) o ≡ outcome [] (n ∷ []) (onSheet p ws writes)
     sheet-short h =
         refused-outcome o l (record { number = 15; place = k })
         ∙ ap (outcome [] (n ∷ [])) (ap (refused 15) f ∙ needs-short 15 (size t) n _ (omega arith) ∙ on-found p ws writes e)
 
-    pub sheet-written : k ≤ n → take k o ≡ made t → k ≡ length (made t) → finished (Words k) o ≡ outcome [] (n ∷ []) (onSheet p ws writes)
+    pub sheet-written : k ≤ n → take k o ≡ made t → k ≡ length (made t) → restZeroed (Words k) o ≡ outcome [] (n ∷ []) (onSheet p ws writes)
     sheet-written h w m =
         words-outcome o l k w m
         ∙ ap (outcome [] (n ∷ [])) (sym (needs-met 15 (size t) n (result (made t ∷ []) []) (omega arith)) ∙ on-found p ws writes e)

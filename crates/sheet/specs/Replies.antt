@@ -15,6 +15,6 @@ abbrev pub checkedOutcome : Checked → Outcome
 checkedOutcome r = record { reply = checkedReply r; slices = [] }
 
 -- The refusal of a sheet that was refused.
-abbrev pub refusalOf : Checked → Refusal
-refusalOf (checked.Refused r) = r
-refusalOf (checked.Sheet h) = record { number = 0; place = 0 }
+abbrev pub checkedRefusal : Checked → Refusal
+checkedRefusal (checked.Refused r) = r
+checkedRefusal (checked.Sheet h) = record { number = 0; place = 0 }

@@ -20,9 +20,9 @@ Ends ws (Next i) = i ≤ length ws
 Ends ws (Stop r) = Unit {0}
 
 -- The next word is the one at k.
-abbrev pub Reaches : ℕ → Scanned → Type 0
-Reaches k (Next i) = i ≡ k
-Reaches k (Stop r) = Unit {0}
+abbrev pub EndsAt : ℕ → Scanned → Type 0
+EndsAt k (Next i) = i ≡ k
+EndsAt k (Stop r) = Unit {0}
 
 -- The refusal of a step that stopped.
 abbrev pub refusedOf : Scanned → Checked

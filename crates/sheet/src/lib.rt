@@ -2,7 +2,7 @@
 ghost use mathlib.Core.Path.{_≡_};
 ghost use Rattle.semantics.specs.Check.{primeOf};
 ghost use Rattle.semantics.specs.Call.{checkCall};
-ghost use Rattle.sheet.specs.Replies.{checkedOutcome, refusalOf};
+ghost use Rattle.sheet.specs.Replies.{checkedOutcome, checkedRefusal};
 
 mod scan;
 
@@ -35,10 +35,10 @@ pub fn check_sheet(s: &[u32]) -> Checked
     let constraints = answers::wide(s[2]);
     let interactions = answers::wide(s[3]);
     let all_records = scan::check_records(s, first, records);
-    let Scanned::Next(names) = all_records else {
+    let Scanned::Next(references) = all_records else {
         return scan::refused(all_records);
     };
-    let all_constraints = scan::check_names(s, names, constraints, records);
+    let all_constraints = scan::check_references(s, references, constraints, records);
     let Scanned::Next(start) = all_constraints else {
         return scan::refused(all_constraints);
     };
@@ -61,7 +61,7 @@ pub fn check_sheet(s: &[u32]) -> Checked
 
 // The refusal of a sheet that was refused.
 pub fn refusal_of(checked: Checked) -> Refusal
-    ensures { λ r. ⌜ r ≡ refusalOf checked ⌝ }
+    ensures { λ r. ⌜ r ≡ checkedRefusal checked ⌝ }
 {
     match checked {
         Checked::Refused(r) => r,

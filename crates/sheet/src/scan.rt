@@ -6,9 +6,9 @@ ghost use Prim.Native.Nat.{_+_, _≤_};
 ghost use lib.Dec.{eqb, leb};
 ghost use lib.ListN.{length, drop, replicate};
 ghost use Rattle.semantics.specs.Arithmetic.{prime};
-ghost use Rattle.semantics.specs.Sheet.{fits, row, recordTests, interactionTests, headTests, names};
+ghost use Rattle.semantics.specs.Sheet.{fits, row, recordTests, interactionTests, headTests, refers};
 ghost use Rattle.semantics.specs.Check.{primeOf, reading, scanWords, scanPart, scanParts, scanSpare};
-ghost use Rattle.sheet.specs.Scans.{scanOf, Ends, Reaches, refusedOf};
+ghost use Rattle.sheet.specs.Scans.{scanOf, Ends, EndsAt, refusedOf};
 use crate::Checked;
 use answers::Refusal;
 
@@ -165,10 +165,10 @@ pub fn check_records(s: &[u32], at: usize, count: usize) -> Scanned
 }
 
 // Words that name records, of which there are `records`.
-pub fn check_names(s: &[u32], at: usize, count: usize, records: usize) -> Scanned
+pub fn check_references(s: &[u32], at: usize, count: usize, records: usize) -> Scanned
     requires { ⌜ at ≤ length (now s) ⌝ }
-    ensures { λ r. ⌜ (scanOf (now (s .entry)) r ≡ scanWords 6 (replicate count (names records)) (reading at (drop at (now (s .entry)))))
-        × Ends (now (s .entry)) r × Reaches (at + count) r ⌝ }
+    ensures { λ r. ⌜ (scanOf (now (s .entry)) r ≡ scanWords 6 (replicate count (refers records)) (reading at (drop at (now (s .entry)))))
+        × Ends (now (s .entry)) r × EndsAt (at + count) r ⌝ }
 {
     let mut i = at;
     let mut k = 0;
@@ -195,7 +195,7 @@ pub fn check_names(s: &[u32], at: usize, count: usize, records: usize) -> Scanne
 fn check_limit(s: &[u32], at: usize, number: u32, limit: u32) -> Scanned
     requires { ⌜ at ≤ length (now s) ⌝ }
     ensures { λ r. ⌜ (scanOf (now (s .entry)) r ≡ scanWords number ((λ w. leb w limit) ∷ []) (reading at (drop at (now (s .entry)))))
-        × Ends (now (s .entry)) r × Reaches (at + 1) r ⌝ }
+        × Ends (now (s .entry)) r × EndsAt (at + 1) r ⌝ }
 {
     if s.len() <= at {
         return Scanned::Stop(Refusal {
@@ -216,7 +216,7 @@ fn check_limit(s: &[u32], at: usize, number: u32, limit: u32) -> Scanned
 fn check_any(s: &[u32], at: usize) -> Scanned
     requires { ⌜ at ≤ length (now s) ⌝ }
     ensures { λ r. ⌜ (scanOf (now (s .entry)) r ≡ scanWords 6 ((λ w. true) ∷ []) (reading at (drop at (now (s .entry)))))
-        × Ends (now (s .entry)) r × Reaches (at + 1) r ⌝ }
+        × Ends (now (s .entry)) r × EndsAt (at + 1) r ⌝ }
 {
     if s.len() <= at {
         return Scanned::Stop(Refusal {
@@ -227,7 +227,7 @@ fn check_any(s: &[u32], at: usize) -> Scanned
     Scanned::Next(at + 1)
 }
 
-// An interaction: bus, weight, count, message length, then as many names as that says.
+// An interaction: bus, weight, count, message length, then as many references as that says.
 fn check_interaction(s: &[u32], at: usize, records: usize) -> Scanned
     requires { ⌜ at ≤ length (now s) ⌝ }
     ensures { λ r. ⌜ (scanOf (now (s .entry)) r ≡ scanPart 6 (interactionTests records) (reading at (drop at (now (s .entry)))))
@@ -241,7 +241,7 @@ fn check_interaction(s: &[u32], at: usize, records: usize) -> Scanned
     let Scanned::Next(two) = weight else {
         return weight;
     };
-    let count = check_names(s, two, 1, records);
+    let count = check_references(s, two, 1, records);
     let Scanned::Next(three) = count else {
         return count;
     };
@@ -249,7 +249,7 @@ fn check_interaction(s: &[u32], at: usize, records: usize) -> Scanned
     let Scanned::Next(four) = length else {
         return length;
     };
-    check_names(s, four, answers::wide(s[three]), records)
+    check_references(s, four, answers::wide(s[three]), records)
 }
 
 // The interactions, from the front.
@@ -300,7 +300,7 @@ pub fn check_spare(s: &[u32], at: usize) -> Scanned
 // The form is 1.
 fn check_form(s: &[u32]) -> Scanned
     ensures { λ r. ⌜ (scanOf (now (s .entry)) r ≡ scanWords 3 ((λ w. eqb w 1) ∷ []) (reading 0 (now (s .entry))))
-        × Ends (now (s .entry)) r × Reaches 1 r ⌝ }
+        × Ends (now (s .entry)) r × EndsAt 1 r ⌝ }
 {
     if s.len() <= 0 {
         return Scanned::Stop(Refusal {
@@ -319,7 +319,7 @@ fn check_form(s: &[u32]) -> Scanned
 
 // The head: form, records, constraints, interactions.
 pub fn check_head(s: &[u32]) -> Scanned
-    ensures { λ r. ⌜ (scanOf (now (s .entry)) r ≡ scanWords 3 headTests (reading 0 (now (s .entry)))) × Ends (now (s .entry)) r × Reaches 4 r ⌝ }
+    ensures { λ r. ⌜ (scanOf (now (s .entry)) r ≡ scanWords 3 headTests (reading 0 (now (s .entry)))) × Ends (now (s .entry)) r × EndsAt 4 r ⌝ }
 {
     let form = check_form(s);
     let Scanned::Next(one) = form else {

@@ -9,7 +9,7 @@ use Rattle.semantics.specs.Call.{Result, outcome, paddedAll, result, onSheet, c
 use Rattle.answers.specs.declared.Refusal.{Refusal}
 use Rattle.sheet.specs.declared.Checked.{Checked}
 use Rattle.sheet.specs.declared.Checked.the-variants.{Refused}
-use Rattle.sheet.specs.Replies.{checkedOutcome, refusalOf}
+use Rattle.sheet.specs.Replies.{checkedOutcome, checkedRefusal}
 use Rattle.sheet.proofs.Answers.{on-found, on-refused}
 use Rattle.answers.specs.declared.Counted.the-variants as counted
 use Rattle.answers.specs.Replies.{countedOutcome}
@@ -18,11 +18,11 @@ module _ (p : ℕ) (ws : List ℕ) (number : Sheet → ℕ) where
   abbrev handsBack : Sheet → Answer Result
   handsBack t = result [] (number t ∷ [])
 
-  pub counted-refused : {r : Checked} {v u : Refusal} → checkedOutcome r ≡ checkCall p ws → r ≡ Refused v → u ≡ refusalOf r
+  pub counted-refused : {r : Checked} {v u : Refusal} → checkedOutcome r ≡ checkCall p ws → r ≡ Refused v → u ≡ checkedRefusal r
       → countedOutcome (counted.Refused u) ≡ outcome [] [] (onSheet p ws handsBack)
   unfolding outcome
   counted-refused e q f =
-      ap (λ (x : Refusal). countedOutcome (counted.Refused x)) (f ∙ ap refusalOf q) ∙ ap (outcome [] []) (on-refused p ws handsBack e q)
+      ap (λ (x : Refusal). countedOutcome (counted.Refused x)) (f ∙ ap checkedRefusal q) ∙ ap (outcome [] []) (on-refused p ws handsBack e q)
 
   pub counted-found : {t : Sheet} {n : ℕ} → check p ws ≡ good t → n ≡ number t → countedOutcome (counted.Number n) ≡ outcome [] [] (onSheet p ws handsBack)
   unfolding outcome paddedAll result

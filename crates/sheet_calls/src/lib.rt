@@ -3,7 +3,7 @@ ghost use mathlib.Core.Path.{_≡_};
 ghost use lib.ListN.{length};
 ghost use Rattle.semantics.specs.Check.{primeOf};
 ghost use Rattle.semantics.specs.Call.{maxRotationCall, numConstraintsCall, conversionCall};
-ghost use Rattle.answers.specs.Replies.{writtenOutcome, finished, countedOutcome};
+ghost use Rattle.answers.specs.Replies.{writtenOutcome, restZeroed, countedOutcome};
 use answers::Counted;
 use answers::Refusal;
 use answers::Written;
@@ -35,7 +35,7 @@ pub fn num_constraints(s: &[u32]) -> Counted
 
 // The words of a sheet go to the front of the output.
 fn copy_sheet(s: &[u32], out: &mut [u32]) -> Written
-    ensures { λ r. ⌜ finished r (now (out .exit)) ≡ conversionCall (primeOf (now (s .entry))) (now (s .entry)) (length (now (out .entry))) ⌝ }
+    ensures { λ r. ⌜ restZeroed r (now (out .exit)) ≡ conversionCall (primeOf (now (s .entry))) (now (s .entry)) (length (now (out .entry))) ⌝ }
 {
     let checked = sheet::check_sheet(s);
     let Checked::Sheet(head) = checked else {

@@ -46,9 +46,9 @@ unfoldable pub rotateCall : Entry → (offset : ℕ) → Outcome
 rotateCall e k = outcome [] [] (andThen (entryRotated e k) (λ m. result [] (entryWords m)))
 
 -- The refusal of a rotation that was refused.
-abbrev pub refusalOf : Rotated → Refusal
-refusalOf (entry.To e) = record { number = 0; place = 0 }
-refusalOf (entry.Refused r) = r
+abbrev pub rotatedRefusal : Rotated → Refusal
+rotatedRefusal (entry.To e) = record { number = 0; place = 0 }
+rotatedRefusal (entry.Refused r) = r
 
 -- A variable that was rotated: its entry's three words, then its column.
 abbrev pub rotatedVariableReply : RotatedVariable → Reply

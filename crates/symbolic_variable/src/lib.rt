@@ -1,7 +1,7 @@
 // Entries and variables, as in symbolic_variable.rs.
 ghost use mathlib.Core.Path.{_≡_};
 ghost use Rattle.symbolic_variable.specs.Variable.{offsetMoved, variableOf, degreeMultiple};
-ghost use Rattle.symbolic_variable.specs.Replies.{offsetOutcome, offsetCall, sumAnswer, rotatedOutcome, rotateCall, refusalOf, rotatedVariableOutcome, rotateVariableCall};
+ghost use Rattle.symbolic_variable.specs.Replies.{offsetOutcome, offsetCall, sumAnswer, rotatedOutcome, rotateCall, rotatedRefusal, rotatedVariableOutcome, rotateVariableCall};
 use answers::Refusal;
 
 pub enum Entry {
@@ -57,7 +57,7 @@ const TOO_FAR: Refusal = Refusal {
 };
 
 fn refusal_of(rotated: Rotated) -> Refusal
-    ensures { λ r. ⌜ r ≡ refusalOf rotated ⌝ }
+    ensures { λ r. ⌜ r ≡ rotatedRefusal rotated ⌝ }
 {
     match rotated {
         Rotated::Refused(refusal) => refusal,

@@ -1,5 +1,5 @@
 use mathlib.Core.Path.{sym, ap}
-use Rattle.constraint_lists.specs.Lists.{refusalOf}
+use Rattle.constraint_lists.specs.Lists.{expandedRefusal}
 use borrow.Author.Needs.{needs}
 use Rattle.constraint_lists.proofs.refusal_of.Statement.{statement}
 use Rattle.constraint_lists.proofs.refusal_of.Tie as tie
@@ -14,7 +14,7 @@ returns : tie.Need-returns
 returns c = search needs
 
 returns-2 : tie.Need-returns-2
-returns-2 c = ap refusalOf (sym (c .enum-told .given .1))
+returns-2 c = ap expandedRefusal (sym (c .enum-told .given .1))
 
 pub refusal-of-spec : {M : Type 1} → statement M
 refusal-of-spec = tie.close (tie.spec enum-known-walked enum-told returns returns-2)

@@ -8,7 +8,7 @@ use Rattle.semantics.specs.Walk.{order}
 use Rattle.records.specs.Access.{recordsOf}
 use Rattle.expand.specs.Walking.{Expands}
 use Rattle.constraint_lists.specs.Lists.{CheckedSheet}
-use Rattle.constraint_lists.proofs.Walked.{walk-starts, walk-ends, names-there, names-are}
+use Rattle.constraint_lists.proofs.Walked.{walk-starts, walk-ends, references-there, references-are}
 use borrow.Author.Needs.{needs}
 use Rattle.constraint_lists.proofs.walk_constraints.Statement.{statement}
 use Rattle.constraint_lists.proofs.walk_constraints.Tie as tie
@@ -35,10 +35,10 @@ module _ (s : tie.Start) where
 abbrev zeroed : tie.After-constraints-at → tie.After-zero-all
 zeroed c = c .before .before .before
 
-abbrev expanded : tie.After-slice-known5 → tie.After-expand-names
+abbrev expanded : tie.After-slice-known5 → tie.After-expand-references
 expanded c = c .before .before .before .before
 
-abbrev located : tie.After-expand-names-arg2 → tie.After-constraints-at
+abbrev located : tie.After-expand-references-arg2 → tie.After-constraints-at
 located c = c .before .before
 
 mul-heads : tie.Need-mul-heads
@@ -56,15 +56,15 @@ zero-all-requires c κs = search needs
 constraints-at-requires : tie.Need-constraints-at-requires
 constraints-at-requires c κs = search needs
 
-expand-names-requires : tie.Need-expand-names-requires
-expand-names-requires c κs =
+expand-references-requires : tie.Need-expand-references-requires
+expand-references-requires c κs =
     let l = located c in
     let zero = zeroed l .zero-all in
     let s = start (zeroed l .before) in
     let a = s .args in (
       walk-starts (words s) (a .records) (sheet-is s .records-are) (zero .last .0) (rest s) (length (heads s)) (zero .ensures) (heads-long s)
           (sheet-is s .checked) (a .work .now) (s .pre .1),
-      names-there (words s) (a .records) (a .constraints) (s .pre .0 .0) (sheet-is s) (l .constraints-at .result) (l .constraints-at .ensures),
+      references-there (words s) (a .records) (a .constraints) (s .pre .0 .0) (sheet-is s) (l .constraints-at .result) (l .constraints-at .ensures),
     )
 
 same-length : tie.Need-same-length
@@ -75,14 +75,14 @@ same-length-2 c = search needs
 
 returns : tie.Need-returns
 returns c =
-    let expand = expanded c .expand-names in
+    let expand = expanded c .expand-references in
     let pool = expand .last .1 .1 .1 .1 .0 in
     let l = located (expanded c .before) in
     let zero = zeroed l .zero-all in
     let s = start (zeroed l .before) in
     let a = s .args in
-    subst (λ (names : List ℕ). Expands (words s) pool (expand .result) (order (recordsOf (words s)) names))
-    (names-are (words s) (a .records) (a .constraints) (s .pre .0 .0) (sheet-is s) (l .constraints-at .result) (l .constraints-at .ensures))
+    subst (λ (references : List ℕ). Expands (words s) pool (expand .result) (order (recordsOf (words s)) references))
+    (references-are (words s) (a .records) (a .constraints) (s .pre .0 .0) (sheet-is s) (l .constraints-at .result) (l .constraints-at .ensures))
     (walk-ends (words s) (a .records) (sheet-is s .records-are) (zero .last .0) (rest s) (length (heads s)) (zero .ensures) (heads-long s)
     _ pool (expand .result) (expand .ensures))
 
@@ -95,7 +95,7 @@ walk-constraints-spec =
     slice-aggregate-zero-all
     zero-all-requires
     constraints-at-requires
-    expand-names-requires
+    expand-references-requires
     same-length
     same-length-2
     returns)

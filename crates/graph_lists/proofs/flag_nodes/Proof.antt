@@ -1,10 +1,10 @@
--- The nodes of the names are flagged one after the other; the loop keeps that scratch is the table of marks with the nodes of the first j names flagged.
+-- The nodes of the references are flagged one after the other; the loop keeps that scratch is the table of marks with the nodes of the first j references flagged.
 use mathlib.Core.Path.{_≡_, ap, _∙_}
 use Prim.Native.Nat.{ℕ, _+_, _-_, _≤_, _<_}
 use native.Mathlib.Omega.{arith}
 use borrow.Author.Needs.{needs}
 use lib.ListN.{length}
-use Rattle.records.specs.Access.{part}
+use Rattle.records.specs.Access.{wordsFrom}
 use Rattle.nodes.specs.Memory.{tabulate}
 use Rattle.graph_lists.specs.Lists.{flagged, nodeNumbers, marksOf}
 use Rattle.graph_lists.proofs.Flags.{flagging-none, flagging-length, number-asks, number-is, number-inside, flagging-more}
@@ -13,7 +13,7 @@ use Rattle.graph_lists.proofs.flag_nodes.Tie as tie
 
 abbrev Inv-loop : tie.InvT-loop
 Inv-loop sheet at count scratch₀ j₀ scratch j =
-    (j ≤ count) × (scratch ≡ tabulate 0 (length scratch₀) (flagged (marksOf scratch₀) (nodeNumbers (marksOf scratch₀) (part at j sheet))))
+    (j ≤ count) × (scratch ≡ tabulate 0 (length scratch₀) (flagged (marksOf scratch₀) (nodeNumbers (marksOf scratch₀) (wordsFrom at j sheet))))
 
 abbrev μ-loop : tie.MeasureT-loop
 μ-loop sheet at count scratch₀ j₀ scratch j = count - j
@@ -84,7 +84,7 @@ returns c =
     let loop = c .before .loop in
     let f = marksOf (a .scratch .now) in
     let all : loop .j ≡ a .count = omega arith in
-    loop .inv .1 ∙ ap (λ (k : ℕ). tabulate 0 (length (a .scratch .now)) (flagged f (nodeNumbers f (part (a .at) k (a .sheet .now))))) all
+    loop .inv .1 ∙ ap (λ (k : ℕ). tabulate 0 (length (a .scratch .now)) (flagged f (nodeNumbers f (wordsFrom (a .at) k (a .sheet .now))))) all
 
 pub flag-nodes-spec : {M : Type 1} → statement M
 flag-nodes-spec =

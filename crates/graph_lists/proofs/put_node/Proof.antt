@@ -7,7 +7,7 @@ use lib.ListN.{length}
 use native.Mathlib.Nat.{add-zero}
 use borrow.Author.Tests.{not-true, not-false}
 use Rattle.slices.specs.Putting.{put}
-use Rattle.graph_lists.specs.Lists.{chosen, Wanted}
+use Rattle.graph_lists.specs.Lists.{oneIf, Wanted}
 use Rattle.slices.proofs.Puts.{put-none, put-one}
 use Rattle.graph_lists.proofs.put_node.Statement.{statement}
 use Rattle.graph_lists.proofs.put_node.Tie as tie
@@ -21,8 +21,8 @@ returns : tie.Need-returns
 returns c =
     let a = c .before .args in
     let e = not-true (a .wanted) (c .if1 .taken) in (
-      sym (ap (λ (b : Bool). put (a .out .now) (a .at) (chosen b (a .node))) e ∙ put-none (a .out .now) (a .at)),
-      sym (ap (λ (b : Bool). a .at + length (chosen b (a .node))) e ∙ add-zero (a .at)),
+      sym (ap (λ (b : Bool). put (a .out .now) (a .at) (oneIf b (a .node))) e ∙ put-none (a .out .now) (a .at)),
+      sym (ap (λ (b : Bool). a .at + length (oneIf b (a .node))) e ∙ add-zero (a .at)),
     )
 
 cast-out : tie.Need-cast-out
@@ -44,8 +44,8 @@ returns-2 : tie.Need-returns-2
 returns-2 c =
     let a = c .before .args in
     let e = not-false (a .wanted) (c .if1 .left) in (
-      put-one (a .out .now) (a .at) (a .node) (place-inside c) ∙ ap (λ (b : Bool). put (a .out .now) (a .at) (chosen b (a .node))) (sym e),
-      ap (λ (b : Bool). a .at + length (chosen b (a .node))) (sym e),
+      put-one (a .out .now) (a .at) (a .node) (place-inside c) ∙ ap (λ (b : Bool). put (a .out .now) (a .at) (oneIf b (a .node))) (sym e),
+      ap (λ (b : Bool). a .at + length (oneIf b (a .node))) (sym e),
     )
 
 pub put-node-spec : {M : Type 1} → statement M

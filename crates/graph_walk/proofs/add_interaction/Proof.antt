@@ -5,8 +5,8 @@ use Prim.Native.Nat.{ℕ, _<_}
 use lib.ListN.{length}
 use borrow.Author.Needs.{needs}
 use Rattle.semantics.specs.Walk.{Mem}
-use Rattle.records.specs.Access.{recordsOf, part, NamesInside}
-use Rattle.records.proofs.Rooting.{names-below}
+use Rattle.records.specs.Access.{recordsOf, wordsFrom, ReferencesInside}
+use Rattle.records.proofs.Rooting.{references-below}
 use Rattle.records.proofs.Interactions.{fields-named, count-named, roots-read}
 use Rattle.graph_walk.specs.Walking.{Walks}
 use Rattle.graph_walk.proofs.Rooting.{walking-after, walks-both}
@@ -17,36 +17,36 @@ use Rattle.graph_walk.proofs.add_interaction.Tie as tie
 abbrev start : tie.After-interaction-at → tie.Start
 start c = c .before .before .before .before
 
-abbrev is-read : tie.After-add-names → tie.After-interaction-at
+abbrev is-read : tie.After-add-references → tie.After-interaction-at
 is-read c = c .before .before .before
 
-abbrev fields-added : tie.After-add-names-arg4 → tie.After-add-names
+abbrev fields-added : tie.After-add-references-arg4 → tie.After-add-references
 fields-added c = c .before .before .before .before .before .before
 
-abbrev count-added : tie.After-slice-known6 → tie.After-add-names2
+abbrev count-added : tie.After-slice-known6 → tie.After-add-references2
 count-added c = c .before .before .before .before
 
 -- Its fields and its count name records.
 module _ (c : tie.After-interaction-at) where
-  fields : NamesInside (start c .args .sheet .now) (c .interaction-at .result .fields) (c .interaction-at .result .message)
+  fields : ReferencesInside (start c .args .sheet .now) (c .interaction-at .result .fields) (c .interaction-at .result .message)
   fields = fields-named (start c .args .sheet .now) (start c .args .at) (start c .pre .1) (c .interaction-at .result) (c .interaction-at .ensures)
 
-  count : NamesInside (start c .args .sheet .now) (c .interaction-at .result .count) 1
+  count : ReferencesInside (start c .args .sheet .now) (c .interaction-at .result .count) 1
   count = count-named (start c .args .sheet .now) (start c .args .at) (start c .pre .1) (c .interaction-at .result) (c .interaction-at .ensures)
 
-  fields-below : (x : ℕ) → Mem x (part (c .interaction-at .result .fields) (c .interaction-at .result .message) (start c .args .sheet .now))
+  fields-below : (x : ℕ) → Mem x (wordsFrom (c .interaction-at .result .fields) (c .interaction-at .result .message) (start c .args .sheet .now))
       → x < length (recordsOf (start c .args .sheet .now))
-  fields-below = names-below (start c .args .sheet .now) (c .interaction-at .result .fields) (c .interaction-at .result .message) fields
+  fields-below = references-below (start c .args .sheet .now) (c .interaction-at .result .fields) (c .interaction-at .result .message) fields
 
 interaction-at-requires : tie.Need-interaction-at-requires
 interaction-at-requires c κs = c .before .before .before .pre .1 .inside
 
-add-names-requires : tie.Need-add-names-requires
-add-names-requires c κs = let r = c .before .before in (start r .pre .0, fields r)
+add-references-requires : tie.Need-add-references-requires
+add-references-requires c κs = let r = c .before .before in (start r .pre .0, fields r)
 
-add-names-requires-2 : tie.Need-add-names-requires-2
-add-names-requires-2 c κs =
-    let v = fields-added c .add-names in
+add-references-requires-2 : tie.Need-add-references-requires-2
+add-references-requires-2 c κs =
+    let v = fields-added c .add-references in
     let r = is-read (fields-added c) in
     let a = start r .args in (
       walking-after (a .sheet .now) _ (fields-below r) (a .scratch .now) (a .out .now) (a .n) (v .last .1 .1 .1 .0) (v .last .1 .1 .1 .1 .0) (v .result)
@@ -62,9 +62,9 @@ same-length-2 c = search needs
 
 returns : tie.Need-returns
 returns c =
-    let w = count-added c .add-names2 in
+    let w = count-added c .add-references2 in
     let f = fields-added (count-added c .before) in
-    let v = f .add-names in
+    let v = f .add-references in
     let r = is-read f in
     let a = start r .args in
     let x = r .interaction-at in
@@ -78,8 +78,8 @@ add-interaction-spec =
     tie.close
     (tie.spec
     interaction-at-requires
-    add-names-requires
-    add-names-requires-2
+    add-references-requires
+    add-references-requires-2
     same-length
     same-length-2
     returns)

@@ -10,7 +10,7 @@ use Rattle.semantics.specs.Sheet.{Record}
 use Rattle.semantics.specs.Graph as graph
 use Rattle.records.specs.Access.{fiveWords}
 use Rattle.nodes.specs.Picks.{pickOf}
-use Rattle.nodes.specs.Memory.{builtOf, Holds}
+use Rattle.nodes.specs.Memory.{builtOf, GraphHolds}
 use Rattle.graph_walk.specs.Walking.{Adding, pickOfRecord}
 use Rattle.graph_walk.proofs.Steps as steps
 use Rattle.graph_walk.proofs.Adds.{record-few, in-scratch, present-few, made-few, room-more, search-inside, search-none, at-order}
@@ -121,7 +121,7 @@ returns c = λ done o new there h.
     let s = start (present c) in
     let a = s .args in
     let p = at-order (s .pre) done o new there h in
-    subst (λ (j : ℕ). Holds (a .sheet .now) (a .r ∷ done) (set (a .scratch .now) (a .r) j) (a .out .now) (a .n)) (omega arith)
+    subst (λ (j : ℕ). GraphHolds (a .sheet .now) (a .r ∷ done) (set (a .scratch .now) (a .r) j) (a .out .now) (a .n)) (omega arith)
     (steps.holds-present (a .sheet .now) done (a .scratch .now) (a .out .now) (a .n) h (a .r) (p .ready .inside) (c .before .k .given .0 .0) (sym (present-is c p)))
 
 same-length-3 : tie.Need-same-length-3
@@ -140,7 +140,7 @@ returns-2 c = λ done o new there h.
     let q = record-made (f .before) in
     let e = made-is (f .before) p in
     let i = v .ensures (builtOf (a .sheet .now) done .nodes) (h .out-is) (h .count-is) (search-none p q e _ (f .search-from .ensures)) in
-    subst (λ (j : ℕ). Holds (a .sheet .now) (a .r ∷ done) (set (a .scratch .now) (a .r) j) (v .last .0) (v .result .count)) (omega arith)
+    subst (λ (j : ℕ). GraphHolds (a .sheet .now) (a .r ∷ done) (set (a .scratch .now) (a .r) j) (v .last .0) (v .result .count)) (omega arith)
     (steps.holds-made (a .sheet .now) done (a .scratch .now) (a .out .now) (a .n) h (a .r) (p .ready .inside) q (sym e)
     (v .last .0) (v .result .index) (v .result .count) (v .kept .0) (i .0) (i .1) (i .2))
 

@@ -7,7 +7,7 @@ use native.Mathlib.Omega.{arith}
 use borrow.Author.Needs.{needs}
 use Rattle.records.specs.Orders.{Order, There}
 use Rattle.records.proofs.Visits.{record-inside}
-use Rattle.nodes.specs.Memory.{Holds}
+use Rattle.nodes.specs.Memory.{GraphHolds}
 use Rattle.graph_walk.proofs.Picking.{Reads, Picking, left-there, right-there, picks-flat, picks-neg, picks-two}
 use Rattle.graph_walk.proofs.pick_node.Statement.{statement}
 use Rattle.graph_walk.proofs.pick_node.Tie as tie
@@ -28,7 +28,7 @@ has-right c = c .before .before .before
 -- The record's words, and what is known for an order.
 module _ (c : tie.After-record-at) where
   picking : (done : List ℕ) → Order (start c .args .sheet .now) done → There (start c .args .sheet .now) (start c .args .r) done → (n : ℕ)
-      → Holds (start c .args .sheet .now) done (start c .args .scratch .now) (start c .args .out .now) n
+      → GraphHolds (start c .args .sheet .now) done (start c .args .scratch .now) (start c .args .out .now) n
       → let a = start c .args in Picking (a .sheet .now) (a .r) (c .record-at .result) done (a .scratch .now) (a .out .now) n
   picking done o there n h =
       let p = start c .pre .1 .ready in

@@ -2,7 +2,7 @@
 use mathlib.Core.List.{List}
 use native.Mathlib.Omega.{arith}
 use borrow.Author.Needs.{needs}
-use Rattle.group.specs.Grouped.{Tally, tallied, varsIn, headersOf}
+use Rattle.group.specs.Grouped.{Tally, tallied, varsIn, talliedHeaders}
 use Rattle.grouping.proofs.Finished.{total-is, vars-few, headers-filled, written-starts}
 use Rattle.grouping.proofs.Fitting.{padded-starts}
 use Rattle.grouping.proofs.finish_groups.Statement.{statement}
@@ -47,7 +47,7 @@ returns c =
     let s = entry w in
     let a = s .args in
     let p = s .pre in (
-      padded-starts (headersOf 0 0 (counted s)) (fill .last .0)
+      padded-starts (talliedHeaders 0 0 (counted s)) (fill .last .0)
           (headers-filled (a .n) (a .headers .now) (fill .last .0) (a .pool .now) (p .0) (fill .ensures .0) (fill .ensures .1) (fill .kept .0)),
       written-starts (varsIn (counted s)) (a .variables .now) (write .last .1 .1 .1 .0) (p .3) (write .kept .1 .1 .1 .0) (write .ensures),
     )

@@ -5,7 +5,7 @@ use Prim.Native.Nat.{ℕ, _*_, _≤_}
 use native.Mathlib.Omega.{arith}
 use borrow.Author.Needs.{needs}
 use lib.ListN.{length}
-use Rattle.group.specs.Grouped.{Tally, tallied, total, widthOf}
+use Rattle.group.specs.Grouped.{Tally, tallied, talliedTotal, termWidth}
 use Rattle.grouping.proofs.Finished.{placing-start, total-is, vacant-terms, zeros-again}
 use Rattle.grouping.proofs.start_groups.Statement.{statement}
 use Rattle.grouping.proofs.start_groups.Tie as tie
@@ -46,7 +46,7 @@ returns c =
     let T = zero .last .0 in
     let small = s .pre .1 in
     λ b h.
-    let room = subst (λ (k : ℕ). widthOf b * total (counted s) ≤ k) (sym (zero .kept .0)) h in
+    let room = subst (λ (k : ℕ). termWidth b * talliedTotal (counted s) ≤ k) (sym (zero .kept .0)) h in
     placing-start b (a .n) (a .headers .now) (begin .last .0) (a .pool .now) T (s .pre .0) (begin .ensures .0) (begin .ensures .1) (begin .kept .0)
     (vacant-terms b (counted s) T (zeros-again T (length (a .terms .now)) (zero .ensures)) room) (omega arith)
 

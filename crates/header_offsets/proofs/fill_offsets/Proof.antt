@@ -46,7 +46,7 @@ use denote.Triple.Table.{entered}
 use denote.Triple.Walked.{says, needs, Stays, stay-none, stay-slice, walkOf, AllGo, goes-none, goes-slice, Walks, ends-at, walked, walk-meets}
 use denote.Exit.{yes}
 use Rattle.header_offsets.specs.declared.MonomialHeader.{MonomialHeader}
-use Rattle.header_offsets.specs.Headers.{numVars, numTerms, total, withOffsets, noHeader}
+use Rattle.header_offsets.specs.Headers.{numVars, numTerms, columnTotal, withOffsets, noHeader}
 use Rattle.header_offsets.proofs.Filling as pass
 use Rattle.header_offsets.proofs.Filling.{Filling}
 use Rattle.header_offsets.proofs.MonomialHeader as header
@@ -251,7 +251,7 @@ module _ {M : Type 1} (𝓤 : URA M) (H : Heap 𝓤) (A : Atoms 𝓤) (W : Given
     turns : (g : Filling hs v t) → Sq W (At g) (runs (𝓣 .C) (𝓣 .Λ) En mirs.turn-1 (anyQ (Turn g)))
     turns g = record { prf = turn-by g (ltb (g .i) n) refl }
 
-  walk : (𝓣 : Tables 𝓤 H) → v + total numVars hs ≤ 4294967295 → t + total numTerms hs ≤ 4294967295
+  walk : (𝓣 : Tables 𝓤 H) → v + columnTotal numVars hs ≤ 4294967295 → t + columnTotal numTerms hs ≤ 4294967295
       → ent 𝓤 (onEntry 𝓤 H A f.signature (κ, tt) (q, tt) args vals) (WpFn 𝓤 H (𝓣 .C) (𝓣 .Λ) code.function (s ∷ vint w32 v ∷ vint w32 t ∷ []) Post)
   walk 𝓣 pv pt =
       qed W ((‵ (flft κ q) ⊛ ‵ ftrue) ∷ ‵ (owns (MutSlice (named 0) κ R ∷ u32 ∷ u32 ∷ []) args vals) ∷ []) ∵
@@ -275,7 +275,7 @@ module _ {M : Type 1} (𝓤 : URA M) (H : Heap 𝓤) (A : Atoms 𝓤) (W : Given
       walked 𝓤 H A f.ended stayed (f.clauses 𝓤 H A at-mem run) (WpFn 𝓤 H (𝓣 .C) (𝓣 .Λ) code.function)
       (λ κs. (slice-vals, (uint-vals w32, (uint-vals w32, tt)))) (λ κs. (mut-slice-tells (named 0) (κs .0) R, (uint-tells w32, (uint-tells w32, tt))))
       (λ κs qs bounds a g are.
-      needs 𝓤 ((a .1 .0 + total numVars (a .0 .now) ≤ 4294967295) × (a .1 .1 .0 + total numTerms (a .0 .now) ≤ 4294967295)) _ (λ pre.
+      needs 𝓤 ((a .1 .0 + columnTotal numVars (a .0 .now) ≤ 4294967295) × (a .1 .1 .0 + columnTotal numTerms (a .0 .now) ≤ 4294967295)) _ (λ pre.
       walk 𝓤 H A W at-mem run (κs .0) (qs .0) (a .0 .ptr .0) (a .0 .ptr .1) (a .0 .name) (a .0 .now) (a .1 .0) (a .1 .1 .0) (are .1 .0 .1) (are .1 .1 .0 .1) (are .0 .0 .1)
       𝓣 (pre .0) (pre .1)))
 

@@ -49,7 +49,7 @@ use denote.Triple.Table.{entered, cited}
 use denote.Triple.Walked.{says, needs, Stays, stay-none, walkOf, AllGo, goes-none, Walks, ends-at, walked, walk-meets}
 use denote.Exit.{yes}
 use Rattle.header_offsets.specs.declared.MonomialHeader.{MonomialHeader}
-use Rattle.header_offsets.specs.Headers.{numVars, numTerms, total, withOffsets}
+use Rattle.header_offsets.specs.Headers.{numVars, numTerms, columnTotal, withOffsets}
 use Rattle.header_offsets.proofs.MonomialHeader as header
 use Rattle.header_offsets.proofs.MonomialHeader.Laws as header-laws
 use Rattle.header_offsets.proofs.fill_offsets as fill
@@ -75,7 +75,7 @@ abbrev value : List MonomialHeader → Val
 value hs = only (spelled hs)
 
 abbrev Fits : (hs : List MonomialHeader) (v t : ℕ) → Type 0
-Fits hs v t = (v + total numVars hs ≤ 4294967295) × (t + total numTerms hs ≤ 4294967295)
+Fits hs v t = (v + columnTotal numVars hs ≤ 4294967295) × (t + columnTotal numTerms hs ≤ 4294967295)
 
 abbrev stayed : Stays (f.ended .signature .params) (f.ended .kept)
 stayed = (stay-none (λ _. Sixteen) yes, (stay-none (λ _. u32) yes, (stay-none (λ _. u32) yes, tt)))

@@ -10,7 +10,7 @@ use Rattle.semantics.specs.Walk.{order}
 use Rattle.records.specs.Access.{counts, fields, recordsOf}
 use Rattle.records.proofs.Reading.{counts-small}
 use Rattle.expand.specs.declared.Expanded.{Expanded}
-use Rattle.expand.specs.Walking.{Holds, Expands}
+use Rattle.expand.specs.Walking.{PoolHolds, Expands}
 use Rattle.interaction_lists.proofs.Walked.{counts-grouping, fields-grouping}
 use Rattle.interaction_lists.proofs.Steps.{work-refused, pool-refused, interactions-refused, interactions-walked}
 use borrow.Author.Needs.{needs}
@@ -66,7 +66,7 @@ module _ (c : tie.After-known-told) where
   abbrev used : ℕ
   used = c .before .walked .given .0 .0
 
-  all-held : Holds (words (entry walk)) (reached (entry walk)) (walked-pool walk) used
+  all-held : PoolHolds (words (entry walk)) (reached (entry walk)) (walked-pool walk) used
   all-held =
       subst (λ (u : Expanded). Expands (words (entry walk)) (walked-pool walk) u (reached (entry walk))) (c .before .walked .given .1)
       (walk .walk-interactions .ensures)

@@ -10,7 +10,7 @@ use Rattle.semantics.specs.Walk.{order}
 use Rattle.records.specs.Access.{counts, fields, recordsOf, AllRootsInside}
 use Rattle.records.specs.Orders.{Visiting}
 use Rattle.expand.specs.declared.Expanded.{Expanded}
-use Rattle.expand.specs.Walking.{Holds, Expands, Walking}
+use Rattle.expand.specs.Walking.{PoolHolds, Expands, ExpandWalking}
 use Rattle.constraint_lists.specs.Lists.{CheckedSheet}
 use Rattle.constraint_lists.proofs.Walked.{walk-starts, walk-ends}
 use Rattle.interaction_lists.proofs.Walked.{interactions-there, counts-there, fields-there, counts-below, first-refused, second-walking, both-walked}
@@ -59,9 +59,9 @@ module _ (c : tie.After-interactions-at) where
 
   abbrev Visited : (roots pool : List ℕ) (u : Expanded) → Type 0
   Visited roots pool u =
-      Visiting (words entry) roots (λ (d : List ℕ). Holds (words entry) d (front ++ rest entry) (heads entry)) (Expands (words entry) pool u)
+      Visiting (words entry) roots (λ (d : List ℕ). PoolHolds (words entry) d (front ++ rest entry) (heads entry)) (Expands (words entry) pool u)
 
-  walking : Walking (words entry) (entry .args .work .now) (front ++ rest entry) (heads entry)
+  walking : ExpandWalking (words entry) (entry .args .work .now) (front ++ rest entry) (heads entry)
   walking =
       walk-starts (words entry) (entry .args .records) (sheet-is entry .records-are) front (rest entry)
       (length (take (heads entry) (entry .args .pool .now))) (zeroed .zero-all .ensures) (heads-long entry)
@@ -179,7 +179,7 @@ returns-2 c =
     let s = origin e in
     let used = t .before .counted .given .0 .0 in
     let fields-visited =
-    subst (λ (r : List ℕ). Visiting (words s) r (λ (d : List ℕ). Holds (words s) d (counts-pool e) used) (Expands (words s) pool (expand .result)))
+    subst (λ (r : List ℕ). Visiting (words s) r (λ (d : List ℕ). PoolHolds (words s) d (counts-pool e) used) (Expands (words s) pool (expand .result)))
     (fields-there (words s) (sheet-is s .checked) (at l) (s .args .interactions) (l .interactions-at .ensures) (sheet-is s .interactions-are))
     (expand .ensures) in
     ends l _ pool (expand .result)

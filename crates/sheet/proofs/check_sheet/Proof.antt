@@ -7,7 +7,7 @@ use native.Mathlib.Omega.{arith}
 use borrow.Author.Needs.{needs}
 use lib.ListN.{length, getD, drop, replicate}
 use Rattle.semantics.specs.Arithmetic.{prime}
-use Rattle.semantics.specs.Sheet.{recordTests, interactionTests, names}
+use Rattle.semantics.specs.Sheet.{recordTests, interactionTests, refers}
 use Rattle.semantics.specs.Check.{Scan, reading, scanWords, scanParts, scanSheet}
 use Rattle.sheet.specs.Scans.{scanOf}
 use Rattle.sheet.specs.Replies.{checkedOutcome}
@@ -94,41 +94,41 @@ records-end c = c .before .all-records .given .0 .0
 abbrev sheet-of-records : tie.After-known-told2 → tie.After-wide3
 sheet-of-records c = records-checked c .before
 
-scanned-names : (c : tie.After-check-names) → let w = sheet (sheet-of-records (c .before)) in
-    scanOf w (c .check-names .result) ≡ scanWords 6 (replicate (getD w 2 0) (names (getD w 1 0))) (from w (records-end (c .before)))
-scanned-names c =
+scanned-references : (c : tie.After-check-references) → let w = sheet (sheet-of-records (c .before)) in
+    scanOf w (c .check-references .result) ≡ scanWords 6 (replicate (getD w 2 0) (refers (getD w 1 0))) (from w (records-end (c .before)))
+scanned-references c =
     let k = sheet-of-records (c .before) in
-    c .check-names .ensures .0 ∙ (λ i. scanWords 6 (replicate (constraints-are k i) (names (records-are k i))) (from (sheet k) (records-end (c .before))))
+    c .check-references .ensures .0 ∙ (λ i. scanWords 6 (replicate (constraints-are k i) (refers (records-are k i))) (from (sheet k) (records-end (c .before))))
 
-names-step : (c : tie.After-check-names) → SheetStep (afterConstraints prime) (sheet (sheet-of-records (c .before))) (c .check-names .result)
-names-step c =
+references-step : (c : tie.After-check-references) → SheetStep (afterConstraints prime) (sheet (sheet-of-records (c .before))) (c .check-references .result)
+references-step c =
     let k = c .before in
-    step (scanned-names c) (c .check-names .ensures .1)
+    step (scanned-references c) (c .check-references .ensures .1)
     (records-step (records-checked k) .goes (records-end k) (k .before .all-records .given .1)) (constraints-stay prime (sheet (sheet-of-records k)))
 
-abbrev names-checked : tie.After-known-told3 → tie.After-check-names
-names-checked c = c .before .before .before
+abbrev references-checked : tie.After-known-told3 → tie.After-check-references
+references-checked c = c .before .before .before
 
-abbrev names-end : tie.After-known-told3 → ℕ
-names-end c = c .before .all-constraints .given .0 .0
+abbrev references-end : tie.After-known-told3 → ℕ
+references-end c = c .before .all-constraints .given .0 .0
 
 -- The interactions.
-abbrev sheet-of-names : tie.After-known-told3 → tie.After-wide3
-sheet-of-names c = sheet-of-records (names-checked c .before)
+abbrev sheet-of-references : tie.After-known-told3 → tie.After-wide3
+sheet-of-references c = sheet-of-records (references-checked c .before)
 
-scanned-interactions : (c : tie.After-check-interactions) → let w = sheet (sheet-of-names (c .before)) in
-    scanOf w (c .check-interactions .result) ≡ scanParts 6 (λ own. interactionTests (getD w 1 0)) (getD w 3 0) 0 (from w (names-end (c .before)))
+scanned-interactions : (c : tie.After-check-interactions) → let w = sheet (sheet-of-references (c .before)) in
+    scanOf w (c .check-interactions .result) ≡ scanParts 6 (λ own. interactionTests (getD w 1 0)) (getD w 3 0) 0 (from w (references-end (c .before)))
 scanned-interactions c =
-    let k = sheet-of-names (c .before) in
+    let k = sheet-of-references (c .before) in
     c .check-interactions .ensures .0
-    ∙ (λ i. scanParts 6 (λ own. interactionTests (records-are k i)) (interactions-are k i) 0 (from (sheet k) (names-end (c .before))))
+    ∙ (λ i. scanParts 6 (λ own. interactionTests (records-are k i)) (interactions-are k i) 0 (from (sheet k) (references-end (c .before))))
 
 interactions-step : (c : tie.After-check-interactions)
-    → SheetStep (afterInteractions prime) (sheet (sheet-of-names (c .before))) (c .check-interactions .result)
+    → SheetStep (afterInteractions prime) (sheet (sheet-of-references (c .before))) (c .check-interactions .result)
 interactions-step c =
     let k = c .before in
     step (scanned-interactions c) (c .check-interactions .ensures .1)
-    (names-step (names-checked k) .goes (names-end k) (k .before .all-constraints .given .1)) (interactions-stay prime (sheet (sheet-of-names k)))
+    (references-step (references-checked k) .goes (references-end k) (k .before .all-constraints .given .1)) (interactions-stay prime (sheet (sheet-of-references k)))
 
 abbrev interactions-checked : tie.After-known-told4 → tie.After-check-interactions
 interactions-checked c = c .before .before .before
@@ -138,7 +138,7 @@ interactions-end c = c .before .all-interactions .given .0 .0
 
 -- The spare words: with them the sheet is scanned.
 abbrev sheet-of-interactions : tie.After-known-told4 → tie.After-wide3
-sheet-of-interactions c = sheet-of-names (interactions-checked c .before)
+sheet-of-interactions c = sheet-of-references (interactions-checked c .before)
 
 scanned-all : (c : tie.After-check-spare) → let w = sheet (sheet-of-interactions (c .before)) in scanOf w (c .check-spare .result) ≡ scanSheet prime w
 scanned-all c =
@@ -205,8 +205,8 @@ returns-2 c =
     let v = c .before .enum-told2 .given in
     refuses prime (sheet (a .before)) (a .check-records .result) (v .0 .0) _ (v .1) (records-step a .stops (v .0 .0) (v .1)) (c .refused2 .ensures)
 
-check-names-requires : tie.Need-check-names-requires
-check-names-requires c κs = records-step (records-checked c) .inside (records-end c) (c .before .all-records .given .1)
+check-references-requires : tie.Need-check-references-requires
+check-references-requires c κs = records-step (records-checked c) .inside (records-end c) (c .before .all-records .given .1)
 
 enum-known-all-constraints : tie.Need-enum-known-all-constraints
 enum-known-all-constraints c = search needs
@@ -217,18 +217,18 @@ enum-told-3 c = search needs
 refused-requires-3 : tie.Need-refused-requires-3
 refused-requires-3 c κs = search needs
 
-abbrev names-refused : tie.After-refused3 → tie.After-check-names
-names-refused c = c .before .before .before
+abbrev references-refused : tie.After-refused3 → tie.After-check-references
+references-refused c = c .before .before .before
 
 returns-3 : tie.Need-returns-3
 returns-3 c =
-    let a = names-refused c in
+    let a = references-refused c in
     let v = c .before .enum-told3 .given in
-    refuses prime (sheet (sheet-of-records (a .before))) (a .check-names .result) (v .0 .0) _ (v .1) (names-step a .stops (v .0 .0) (v .1))
+    refuses prime (sheet (sheet-of-records (a .before))) (a .check-references .result) (v .0 .0) _ (v .1) (references-step a .stops (v .0 .0) (v .1))
     (c .refused3 .ensures)
 
 check-interactions-requires : tie.Need-check-interactions-requires
-check-interactions-requires c κs = names-step (names-checked c) .inside (names-end c) (c .before .all-constraints .given .1)
+check-interactions-requires c κs = references-step (references-checked c) .inside (references-end c) (c .before .all-constraints .given .1)
 
 enum-known-all-interactions : tie.Need-enum-known-all-interactions
 enum-known-all-interactions c = search needs
@@ -246,7 +246,7 @@ returns-4 : tie.Need-returns-4
 returns-4 c =
     let a = interactions-refused c in
     let v = c .before .enum-told4 .given in
-    refuses prime (sheet (sheet-of-names (a .before))) (a .check-interactions .result) (v .0 .0) _ (v .1)
+    refuses prime (sheet (sheet-of-references (a .before))) (a .check-interactions .result) (v .0 .0) _ (v .1)
     (interactions-step a .stops (v .0 .0) (v .1)) (c .refused4 .ensures)
 
 check-spare-requires : tie.Need-check-spare-requires
@@ -279,24 +279,24 @@ returns-6 c =
     let a = spare-checked c in
     let interactions = a .before in
     let constraints = interactions-checked interactions .before in
-    let records = names-checked constraints .before in
+    let records = references-checked constraints .before in
     let k = sheet-of-records records in
     let w = sheet k in
     let after-head = sym (ap (scanOf w) (counted k .before .head .given .1)) ∙ head-checked (counted k) .check-head .ensures .0 in
     let after-records = sym (ap (scanOf w) (records .before .all-records .given .1)) ∙ scanned-records (records-checked records) in
-    let after-names = sym (ap (scanOf w) (constraints .before .all-constraints .given .1)) ∙ scanned-names (names-checked constraints) in
+    let after-references = sym (ap (scanOf w) (constraints .before .all-constraints .given .1)) ∙ scanned-references (references-checked constraints) in
     let after-all = sym (ap (scanOf w) (interactions .before .all-interactions .given .1)) ∙ scanned-interactions (interactions-checked interactions) in
     (λ i. checkedOutcome (Sheet (record {
       records = records-are k i;
       constraints = constraints-are k i;
       interactions = interactions-are k i;
-      start = names-end constraints;
+      start = references-end constraints;
       words = interactions-end interactions;
     })))
     ∙ is-head prime w (c .before .spare .given .0 .0) (a .check-spare .result) (c .before .spare .given .1) (scanned-all a)
-    (names-end constraints)
-    (after-names
-    ∙ ap (scanWords 6 (replicate (getD w 2 0) (names (getD w 1 0)))) (after-records ∙ ap (scanParts 5 (recordTests prime) (getD w 1 0) 0) after-head))
+    (references-end constraints)
+    (after-references
+    ∙ ap (scanWords 6 (replicate (getD w 2 0) (refers (getD w 1 0)))) (after-records ∙ ap (scanParts 5 (recordTests prime) (getD w 1 0) 0) after-head))
     (interactions-end interactions) after-all
 
 pub check-sheet-spec : {M : Type 1} → statement M
@@ -319,7 +319,7 @@ check-sheet-spec =
     enum-told-2
     refused-requires-2
     returns-2
-    check-names-requires
+    check-references-requires
     enum-known-all-constraints
     enum-told-3
     refused-requires-3

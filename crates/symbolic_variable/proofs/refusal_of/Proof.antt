@@ -1,7 +1,7 @@
 -- By the two cases of the answer.
 use borrow.Author.Needs.{needs}
 use mathlib.Core.Path.{sym, ap}
-use Rattle.symbolic_variable.specs.Replies.{refusalOf}
+use Rattle.symbolic_variable.specs.Replies.{rotatedRefusal}
 use Rattle.symbolic_variable.proofs.refusal_of.Statement.{statement}
 use Rattle.symbolic_variable.proofs.refusal_of.Tie as tie
 
@@ -15,7 +15,7 @@ returns : tie.Need-returns
 returns c = search needs
 
 returns-2 : tie.Need-returns-2
-returns-2 c = sym (ap refusalOf (c .enum-told .given .1))
+returns-2 c = sym (ap rotatedRefusal (c .enum-told .given .1))
 
 pub refusal-of-spec : {M : Type 1} → statement M
 refusal-of-spec = tie.close (tie.spec enum-known-rotated enum-told returns returns-2)

@@ -8,7 +8,7 @@ use borrow.Author.Needs.{needs}
 use lib.ListN.{length}
 use Rattle.records.proofs.Reading.{places-small}
 use Rattle.graph_lists.specs.Lists.{graphOut}
-use Rattle.dag.proofs.Starts.{Counted, start-walking, names-inside, walking-next, all-inside, finishing}
+use Rattle.dag.proofs.Starts.{Counted, start-walking, references-inside, walking-next, all-inside, finishing}
 use Rattle.dag.proofs.graph.build_graph.Statement.{statement}
 use Rattle.dag.proofs.graph.build_graph.Tie as tie
 
@@ -30,33 +30,33 @@ module _ (c : tie.After-num-interactions) where
     interactions = c .num-interactions .ensures;
   }
 
-abbrev head-read : tie.After-add-names-arg2 → tie.After-num-interactions
+abbrev head-read : tie.After-add-references-arg2 → tie.After-num-interactions
 head-read c = c .before .before
 
 -- What the constraints name is added.
-module _ (c : tie.After-add-names) where
+module _ (c : tie.After-add-references) where
   abbrev head : tie.After-num-interactions
   head = head-read (c .before)
 
   abbrev named-scratch : List ℕ
-  named-scratch = c .add-names .last .1 .1 .1 .0
+  named-scratch = c .add-references .last .1 .1 .1 .0
 
   abbrev named-out : List ℕ
-  named-out = c .add-names .last .1 .1 .1 .1 .0
+  named-out = c .add-references .last .1 .1 .1 .1 .0
 
   out-kept : length named-out ≡ length (entry head .args .out .now)
-  out-kept = c .add-names .kept .1 .1 .1 .1 .0
+  out-kept = c .add-references .kept .1 .1 .1 .1 .0
 
-abbrev named : tie.After-slice-known4 → tie.After-add-names
+abbrev named : tie.After-slice-known4 → tie.After-add-references
 named c = c .before .before .before .before
 
-abbrev names-added : tie.After-add-interactions-arg2 → tie.After-add-names
-names-added c = named (c .before .before)
+abbrev references-added : tie.After-add-interactions-arg2 → tie.After-add-references
+references-added c = named (c .before .before)
 
 -- What the interactions name is added.
 module _ (c : tie.After-add-interactions) where
-  abbrev added : tie.After-add-names
-  added = names-added (c .before)
+  abbrev added : tie.After-add-references
+  added = references-added (c .before)
 
   abbrev all-scratch : List ℕ
   all-scratch = c .add-interactions .last .1 .1 .1 .0
@@ -86,10 +86,10 @@ num-constraints-requires c κs = start (c .before) .pre .checked
 num-interactions-requires : tie.Need-num-interactions-requires
 num-interactions-requires c κs = start (c .before .before) .pre .checked
 
-add-names-requires : tie.Need-add-names-requires
-add-names-requires c κs =
+add-references-requires : tie.Need-add-references-requires
+add-references-requires c κs =
     let n = head-read c in
-    (start-walking (entry n .pre), names-inside (entry n .pre) (counted n))
+    (start-walking (entry n .pre), references-inside (entry n .pre) (counted n))
 
 add-add-interactions : tie.Need-add-add-interactions
 add-add-interactions c =
@@ -98,9 +98,9 @@ add-add-interactions c =
 
 add-interactions-requires : tie.Need-add-interactions-requires
 add-interactions-requires c κs =
-    let a = names-added c in
+    let a = references-added c in
     let n = head a in (
-      walking-next (entry n .pre) (counted n) (named-scratch a) (named-out a) (a .add-names .result) (out-kept a) (a .add-names .ensures),
+      walking-next (entry n .pre) (counted n) (named-scratch a) (named-out a) (a .add-references .result) (out-kept a) (a .add-references .ensures),
       all-inside (entry n .pre) (counted n),
     )
 
@@ -109,9 +109,9 @@ write-graph-requires c κs =
     let all = all-added c in
     let a = added all in
     let n = head a in (
-      finishing (entry n .pre) (counted n) (named-scratch a) (named-out a) (a .add-names .result)
+      finishing (entry n .pre) (counted n) (named-scratch a) (named-out a) (a .add-references .result)
           (all-scratch all) (all-out all) (all .add-interactions .result)
-          (a .add-names .ensures) (all .add-interactions .ensures) (all-kept all),
+          (a .add-references .ensures) (all .add-interactions .ensures) (all-kept all),
       counted n .located,
       counted n .constraints,
       counted n .interactions,
@@ -138,7 +138,7 @@ build-graph-spec =
     constraints-at-requires
     num-constraints-requires
     num-interactions-requires
-    add-names-requires
+    add-references-requires
     add-add-interactions
     add-interactions-requires
     write-graph-requires

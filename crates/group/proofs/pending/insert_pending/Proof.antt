@@ -3,7 +3,7 @@ use Prim.Native.Nat.{_+_, _*_, _-_, _≤_, _<_}
 use native.Mathlib.Omega.{arith}
 use borrow.Author.Needs.{needs}
 use lib.ListN.{length, getD}
-use Rattle.group.specs.Waiting.{Inside}
+use Rattle.group.specs.Waiting.{PlaceInside}
 use Rattle.group.proofs.Inserts.{Inserting, insert-full, insert-start, insert-next, insert-step, insert-done}
 use Rattle.group.proofs.pending.insert_pending.Statement.{statement}
 use Rattle.group.proofs.pending.insert_pending.Tie as tie
@@ -39,7 +39,7 @@ sub-j c = search needs
 next : (c : tie.In-loop Inv-loop μ-loop) → let l = c .before .loop in
     let a = c .before .before .before .before .before .before .before .args in
     let i = l .j - 1 in
-    (getD (a .fronts .now) i 0 ≤ l .end) × Inside (a .pool .now) (getD (a .places .now) i 0) × (i < length (a .places .now)) × (i < length (a .fronts .now)) × (l .end ≤ a .n) × (l .j ≤ a .b)
+    (getD (a .fronts .now) i 0 ≤ l .end) × PlaceInside (a .pool .now) (getD (a .places .now) i 0) × (i < length (a .places .now)) × (i < length (a .fronts .now)) × (l .end ≤ a .n) × (l .j ≤ a .b)
     × (4 * a .n + 4 * a .b ≤ length (l .headers))
 next c =
     let l = c .before .loop in

@@ -6,7 +6,7 @@ use native.Mathlib.Omega.{arith}
 use lib.ListN.{length, getD}
 use Rattle.group.specs.declared.Found.the-variants.{There}
 use Rattle.group.specs.Grouped.{tallied, Spot}
-use Rattle.group.specs.Waiting.{varsAt, MayFollow}
+use Rattle.group.specs.Waiting.{poolVars, MayFollow}
 use Rattle.group.proofs.Counting.{there-lt, there-small}
 use Rattle.group.proofs.Waits.{batch-count, batch-wait}
 use borrow.Author.Needs.{needs}
@@ -21,10 +21,10 @@ enum-known-found c = search needs
 
 -- The monomial has a row.
 there : (c : tie.After-known-told) → let a = c .before .before .before .before .before .before .before .before .before .args in
-    Spot (varsAt (a .pool .now) (a .at)) (tallied (a .n) (a .headers .now) (a .pool .now)) (There (c .before .found .given .0 .0))
+    Spot (poolVars (a .pool .now) (a .at)) (tallied (a .n) (a .headers .now) (a .pool .now)) (There (c .before .found .given .0 .0))
 there c =
     let a = c .before .before .before .before .before .before .before .before .before .args in
-    subst (Spot (varsAt (a .pool .now) (a .at)) (tallied (a .n) (a .headers .now) (a .pool .now))) (c .before .found .given .1) (c .before .before .before .find-near .ensures)
+    subst (Spot (poolVars (a .pool .now) (a .at)) (tallied (a .n) (a .headers .now) (a .pool .now))) (c .before .found .given .1) (c .before .before .before .find-near .ensures)
 
 row : (c : tie.After-known-told) → let a = c .before .before .before .before .before .before .before .before .before .args in
     let k = c .before .found .given .0 .0 in
@@ -33,7 +33,7 @@ row c =
     let a = c .before .before .before .before .before .before .before .before .before .args in
     let p = c .before .before .before .before .before .before .before .before .before .pre in
     let k = c .before .found .given .0 .0 in
-    let v : List ℕ = varsAt (a .pool .now) (a .at) in
+    let v : List ℕ = poolVars (a .pool .now) (a .at) in
     let t = there-small (a .n) k (a .headers .now) (a .pool .now) v (p .0 .rows-are) (there c) in
     (there-lt (a .n) k (a .headers .now) (a .pool .now) v (p .0 .rows-are) (there c), omega (arith, p .2), p .0 .rows-are .room)
 
@@ -106,7 +106,7 @@ returns : tie.Need-returns
 returns c =
     let a = c .before .before .before .before .before .before .before .before .before .before .before .before .before .args in
     let p = c .before .before .before .before .before .before .before .before .before .before .before .before .before .pre in
-    let v : List ℕ = varsAt (a .pool .now) (a .at) in
+    let v : List ℕ = poolVars (a .pool .now) (a .at) in
     let k = c .before .before .before .before .before .found2 .given .0 .0 in
     let s = subst (Spot v (tallied (a .n) (a .headers .now) (a .pool .now))) (c .before .before .before .before .before .found2 .given .1)
     (c .before .before .before .before .before .before .before .find-near .ensures) in
@@ -119,7 +119,7 @@ same-length-4 c = search needs
 returns-2 : tie.Need-returns-2
 returns-2 c =
     let a = c .before .before .before .before .before .before .before .before .before .before .args in
-    let x = batch-count (a .n) (a .b) (a .headers .now) (a .pool .now) (a .places .now) (a .fronts .now) (varsAt (a .pool .now) (a .at))
+    let x = batch-count (a .n) (a .b) (a .headers .now) (a .pool .now) (a .places .now) (a .fronts .now) (poolVars (a .pool .now) (a .at))
     (c .before .before .before .before .before .before .before .before .before .before .pre .0) (c .before .before .found .given .0 .0)
     (there (c .before)) in
     (omega arith, x .0, x .1)

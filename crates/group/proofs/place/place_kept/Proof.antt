@@ -3,7 +3,7 @@ use mathlib.Core.List.{List, _++_, append-nil}
 use lib.ListN.{drop}
 use Rattle.semantics.specs.Group.{Item}
 use Rattle.monomial.specs.Words.{readMonomial}
-use Rattle.group.specs.Grouped.{Placing, ToPlace, Room}
+use Rattle.group.specs.Grouped.{Placing, ToPlace, RoomForTerms}
 use Rattle.group.proofs.PoolLists.{read-coef}
 use Rattle.group.proofs.Placements.{items-none, items-one}
 use borrow.Author.Needs.{needs}
@@ -51,7 +51,7 @@ returns-2 c =
     let u = c .before .before .before .before .place-monomial in
     let e = items-one (a .index) (a .field) m (λ z. c .before .before .before .before .before .before .before .if1 .left (sym (read-coef P (a .at)) ∙ z)) in
     λ gs done x y. subst (λ (l : List Item). Placing (a .interaction) gs (a .n) (u .last .0) P (u .last .1 .1 .1 .1 .1 .1 .1 .0) (done ++ l)) (sym e)
-    (u .ensures gs done x (subst (λ (l : List Item). Room gs (done ++ l)) e y))
+    (u .ensures gs done x (subst (λ (l : List Item). RoomForTerms gs (done ++ l)) e y))
 
 pub place-kept-spec : {M : Type 1} → statement M
 place-kept-spec =

@@ -5,11 +5,11 @@ use lib.ListN.{length, getD, drop, set}
 use lib.Seq.{sets}
 use Rattle.monomial.specs.Words.{readMonomial}
 use Rattle.group.specs.declared.Found.the-variants.{There, Missing}
-use Rattle.group.specs.Grouped.{tallied, Spot, itemAt, widthOf, termOf}
+use Rattle.group.specs.Grouped.{tallied, Spot, itemAt, termWidth, termOf}
 use Rattle.group.proofs.Counting.{there-lt}
 use Rattle.group.proofs.PoolLists.{read-coef}
 use Rattle.group.proofs.Placements.{room-found, cursor-small, term-fits, place-one}
-use Rattle.group.specs.Waiting.{varsAt}
+use Rattle.group.specs.Waiting.{poolVars}
 use borrow.Author.Needs.{needs}
 use Rattle.group.proofs.place.place_monomial.Statement.{statement}
 use Rattle.group.proofs.place.place_monomial.Tie as tie
@@ -39,7 +39,7 @@ returns : tie.Need-returns
 returns c =
     let a = c .before .before .before .before .before .before .before .before .args in
     let P = a .pool .now in
-    let v = varsAt P (a .at) in
+    let v = poolVars P (a .at) in
     let t = itemAt (a .index) (a .field) (readMonomial (drop (a .at) P)) in
     let k = c .enum-told .given .0 .0 in
     let s = subst (Spot v (tallied (a .n) (a .headers .now) P)) (c .enum-told .given .1) (c .before .before .find-near .ensures) in
@@ -47,10 +47,10 @@ returns c =
 
 -- The monomial has a row.
 there : (c : tie.After-known-told) → let a = c .before .before .before .before .before .before .before .before .before .args in
-    Spot (varsAt (a .pool .now) (a .at)) (tallied (a .n) (a .headers .now) (a .pool .now)) (There (c .before .found .given .0 .0))
+    Spot (poolVars (a .pool .now) (a .at)) (tallied (a .n) (a .headers .now) (a .pool .now)) (There (c .before .found .given .0 .0))
 there c =
     let a = c .before .before .before .before .before .before .before .before .before .args in
-    subst (Spot (varsAt (a .pool .now) (a .at)) (tallied (a .n) (a .headers .now) (a .pool .now))) (c .before .found .given .1) (c .before .before .before .find-near .ensures)
+    subst (Spot (poolVars (a .pool .now) (a .at)) (tallied (a .n) (a .headers .now) (a .pool .now))) (c .before .found .given .1) (c .before .before .before .find-near .ensures)
 
 row : (c : tie.After-known-told)
     → let a = c .before .before .before .before .before .before .before .before .before .args in (c .before .found .given .0 .0 < a .n)
@@ -58,7 +58,7 @@ row : (c : tie.After-known-told)
 row c =
     let a = c .before .before .before .before .before .before .before .before .before .args in
     let r = c .before .before .before .before .before .before .before .before .before .pre .0 .placing .rows-are in
-    (there-lt (a .n) (c .before .found .given .0 .0) (a .headers .now) (a .pool .now) (varsAt (a .pool .now) (a .at)) r (there c), r .room)
+    (there-lt (a .n) (c .before .found .given .0 .0) (a .headers .now) (a .pool .now) (poolVars (a .pool .now) (a .at)) r (there c), r .room)
 
 mul-row : tie.Need-mul-row
 mul-row c = let x = row c in search needs
@@ -82,7 +82,7 @@ put-term-requires c κs =
     let t = itemAt (a .index) (a .field) (readMonomial (drop (a .at) (a .pool .now))) in
     let q = term-fits (a .interaction) (g .gs) (a .n) (a .headers .now) (a .pool .now) (a .terms .now) (g .done) t (t .vars)
     (c .before .before .before .before .found .given .0 .0) (g .placing) (g .room) refl (there (c .before .before .before)) in
-    subst (λ (i : ℕ). widthOf (a .interaction) * i + widthOf (a .interaction) ≤ length (a .terms .now)) (sym (c .wide .ensures)) q
+    subst (λ (i : ℕ). termWidth (a .interaction) * i + termWidth (a .interaction) ≤ length (a .terms .now)) (sym (c .wide .ensures)) q
 
 add-headers : tie.Need-add-headers
 add-headers c =
@@ -119,7 +119,7 @@ returns-2 c =
     let t = itemAt (a .index) (a .field) (readMonomial (drop (a .at) P)) in
     let k = c .before .before .before .before .before .before .before .found .given .0 .0 in
     let u = c .before .before .put-term in
-    let f = u .ensures t refl refl (read-coef P (a .at)) ∙ ap (λ (i : ℕ). sets T (widthOf (a .interaction) * i) (termOf (a .interaction) t)) (c .before .before .before .wide .ensures) in
+    let f = u .ensures t refl refl (read-coef P (a .at)) ∙ ap (λ (i : ℕ). sets T (termWidth (a .interaction) * i) (termOf (a .interaction) t)) (c .before .before .before .wide .ensures) in
     λ gs done x y. place-one (a .interaction) gs (a .n) H P T done t (t .vars) k x y refl
     (there (c .before .before .before .before .before .before)) (set H (4 * k + 1) (getD H (4 * k + 1) 0 + 1)) (u .last .0) f refl
 

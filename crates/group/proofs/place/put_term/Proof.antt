@@ -2,7 +2,7 @@ use mathlib.Core.Path.{subst}
 use mathlib.Core.Bool.{Bool}
 use Prim.Native.Nat.{_+_, _*_, _≤_}
 use lib.ListN.{length}
-use Rattle.group.specs.Grouped.{widthOf}
+use Rattle.group.specs.Grouped.{termWidth}
 use Rattle.group.proofs.Placements.{put-interaction, put-constraint}
 use borrow.Author.Needs.{needs}
 use Rattle.group.proofs.place.put_term.Statement.{statement}
@@ -11,7 +11,7 @@ use Rattle.group.proofs.place.put_term.Tie as tie
 put-interaction-term-requires : tie.Need-put-interaction-term-requires
 put-interaction-term-requires c κs =
     let a = c .before .before .before .args in
-    subst (λ (b : Bool). widthOf b * a .at + widthOf b ≤ length (a .terms .now)) (c .before .if1 .taken) (c .before .before .before .pre)
+    subst (λ (b : Bool). termWidth b * a .at + termWidth b ≤ length (a .terms .now)) (c .before .if1 .taken) (c .before .before .before .pre)
 
 same-length : tie.Need-same-length
 same-length c = search needs
@@ -25,7 +25,7 @@ returns c =
 put-constraint-term-requires : tie.Need-put-constraint-term-requires
 put-constraint-term-requires c κs =
     let a = c .before .before .before .args in
-    subst (λ (b : Bool). widthOf b * a .at + widthOf b ≤ length (a .terms .now)) (c .before .if1 .left) (c .before .before .before .pre)
+    subst (λ (b : Bool). termWidth b * a .at + termWidth b ≤ length (a .terms .now)) (c .before .if1 .left) (c .before .before .before .pre)
 
 same-length-2 : tie.Need-same-length-2
 same-length-2 c = search needs

@@ -2,13 +2,13 @@ use Prim.Native.Nat.{ℕ, _+_, _-_}
 use native.Mathlib.Omega.{arith}
 use borrow.Author.Needs.{needs}
 use Rattle.group.specs.Grouped.{tallied, Between}
-use Rattle.group.specs.Waiting.{varsAt}
+use Rattle.group.specs.Waiting.{poolVars}
 use Rattle.group.proofs.Searching.{row-asks, row-same, row-before, row-after}
 use Rattle.group.proofs.search.search_on.Statement.{statement}
 use Rattle.group.proofs.search.search_on.Tie as tie
 
 abbrev Inv-loop : tie.InvT-loop
-Inv-loop headers n from pool at low₀ step₀ low step = Between (varsAt pool at) (tallied n headers pool) low n
+Inv-loop headers n from pool at low₀ step₀ low step = Between (poolVars pool at) (tallied n headers pool) low n
 
 abbrev μ-loop : tie.MeasureT-loop
 μ-loop headers n from pool at low₀ step₀ low step = n - low

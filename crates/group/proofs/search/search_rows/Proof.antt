@@ -4,13 +4,13 @@ use borrow.Author.Needs.{needs}
 use Rattle.group.specs.Grouped.{tallied, Between}
 use Rattle.group.proofs.Headers.{tallied-length}
 use Rattle.group.proofs.Counting.{between-none}
-use Rattle.group.specs.Waiting.{varsAt}
+use Rattle.group.specs.Waiting.{poolVars}
 use Rattle.group.proofs.Searching.{row-asks, row-same, row-before, row-after}
 use Rattle.group.proofs.search.search_rows.Statement.{statement}
 use Rattle.group.proofs.search.search_rows.Tie as tie
 
 abbrev Inv-loop : tie.InvT-loop
-Inv-loop headers n from to pool at low₀ high₀ low high = Between (varsAt pool at) (tallied n headers pool) low high
+Inv-loop headers n from to pool at low₀ high₀ low high = Between (poolVars pool at) (tallied n headers pool) low high
 
 abbrev μ-loop : tie.MeasureT-loop
 μ-loop headers n from to pool at low₀ high₀ low high = high - low
@@ -93,7 +93,7 @@ returns-2 : tie.Need-returns-2 Inv-loop μ-loop
 returns-2 c =
     let a = c .before .before .before .before .args in
     let b = c .before .loop in
-    between-none (varsAt (a .pool .now) (a .at)) (tallied (a .n) (a .headers .now) (a .pool .now)) (b .low) (b .high) (b .inv) (c .loop-test .left)
+    between-none (poolVars (a .pool .now) (a .at)) (tallied (a .n) (a .headers .now) (a .pool .now)) (b .low) (b .high) (b .inv) (c .loop-test .left)
 
 pub search-rows-spec : {M : Type 1} → statement M
 search-rows-spec =

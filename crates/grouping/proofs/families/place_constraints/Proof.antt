@@ -1,4 +1,4 @@
--- Name by name. Kept: the terms of the constraints so far are placed, and there is room for those of the rest.
+-- Reference by reference. Kept: the terms of the constraints so far are placed, and there is room for those of the rest.
 use mathlib.Core.Bool.{false}
 use Prim.Native.Nat.{_-_}
 use native.Mathlib.Omega.{arith}

@@ -5,7 +5,7 @@ use Prim.Native.Nat.{ℕ}
 use borrow.Author.Needs.{needs}
 use Rattle.semantics.specs.Check.{readSheet}
 use Rattle.semantics.specs.Group.{Root, labelled}
-use Rattle.records.specs.Access.{part}
+use Rattle.records.specs.Access.{wordsFrom}
 use Rattle.grouping.specs.Families.{isInteraction, rootsOf, constraintRoot, eachRoots, countRootAt, fieldRootsAt}
 use Rattle.grouping.proofs.RootItems.{constraint-span, constraint-labelled, interaction-span, count-labelled, field-labelled, named-ready, named-placed}
 use Rattle.grouping.proofs.families.place_family.Statement.{statement}
@@ -29,7 +29,7 @@ module _ (c : tie.After-num-constraints) where
   abbrev constraint-start : tie.Start
   constraint-start = start (constraint-told .before .before)
 
-  constraint-roots : labelled constraintRoot 0 (part (c .before .constraints-at .result) (c .num-constraints .result) (words constraint-start)) ≡ roots constraint-start
+  constraint-roots : labelled constraintRoot 0 (wordsFrom (c .before .constraints-at .result) (c .num-constraints .result) (words constraint-start)) ≡ roots constraint-start
   constraint-roots = constraint-labelled (words constraint-start) (constraint-start .pre .0) (c .before .constraints-at .ensures) (c .num-constraints .ensures) (constraint-told .enum-told .given .1)
 
 -- The roots of the interactions' counts.

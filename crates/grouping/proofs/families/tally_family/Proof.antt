@@ -5,9 +5,9 @@ use Prim.Native.Nat.{ℕ}
 use borrow.Author.Needs.{needs}
 use Rattle.semantics.specs.Check.{readSheet}
 use Rattle.semantics.specs.Group.{Root}
-use Rattle.records.specs.Access.{part, countWords, fieldWords}
+use Rattle.records.specs.Access.{wordsFrom, countWords, fieldWords}
 use Rattle.grouping.specs.Families.{rootsOf, nodesOf}
-use Rattle.grouping.proofs.RootItems.{constraint-span, constraint-names, interaction-span, count-names, field-names}
+use Rattle.grouping.proofs.RootItems.{constraint-span, constraint-references, interaction-span, count-references, field-references}
 use Rattle.grouping.proofs.Fitting.{Known, known, fit-start, fit-counted}
 use Rattle.grouping.proofs.families.tally_family.Statement.{statement}
 use Rattle.grouping.proofs.families.tally_family.Tie as tie
@@ -33,9 +33,9 @@ module _ (c : tie.After-num-constraints) where
   abbrev constraint-start : tie.Start
   constraint-start = start (constraint-told .before .before)
 
-  constraint-words : part (c .before .constraints-at .result) (c .num-constraints .result) (words constraint-start) ≡ nodesOf (roots constraint-start)
+  constraint-words : wordsFrom (c .before .constraints-at .result) (c .num-constraints .result) (words constraint-start) ≡ nodesOf (roots constraint-start)
   constraint-words =
-      constraint-names (words constraint-start) (constraint-start .pre .0 .checked) (c .before .constraints-at .ensures) (c .num-constraints .ensures) (constraint-told .enum-told .given .1)
+      constraint-references (words constraint-start) (constraint-start .pre .0 .checked) (c .before .constraints-at .ensures) (c .num-constraints .ensures) (constraint-told .enum-told .given .1)
 
 -- The words of the interactions' counts.
 module _ (c : tie.After-num-interactions) where
@@ -47,7 +47,7 @@ module _ (c : tie.After-num-interactions) where
 
   count-words : countWords (words count-start) (c .before .interactions-at .result) (c .num-interactions .result) ≡ nodesOf (roots count-start)
   count-words =
-      count-names (words count-start) (count-start .pre .0 .checked) (c .before .interactions-at .ensures) (c .num-interactions .ensures) (count-told .enum-told2 .given .1)
+      count-references (words count-start) (count-start .pre .0 .checked) (c .before .interactions-at .ensures) (c .num-interactions .ensures) (count-told .enum-told2 .given .1)
 
 -- The words of the interactions' fields.
 module _ (c : tie.After-num-interactions2) where
@@ -59,7 +59,7 @@ module _ (c : tie.After-num-interactions2) where
 
   field-words : fieldWords (words field-start) (c .before .interactions-at2 .result) (c .num-interactions2 .result) ≡ nodesOf (roots field-start)
   field-words =
-      field-names (words field-start) (field-start .pre .0 .checked) (c .before .interactions-at2 .ensures) (c .num-interactions2 .ensures) (field-told .enum-told3 .given .1)
+      field-references (words field-start) (field-start .pre .0 .checked) (c .before .interactions-at2 .ensures) (c .num-interactions2 .ensures) (field-told .enum-told3 .given .1)
 
 enum-told : tie.Need-enum-told
 enum-told c = search needs
@@ -70,8 +70,8 @@ constraints-at-requires c κs = search needs
 num-constraints-requires : tie.Need-num-constraints-requires
 num-constraints-requires c κs = search needs
 
-tally-names-requires : tie.Need-tally-names-requires
-tally-names-requires c κs =
+tally-references-requires : tie.Need-tally-references-requires
+tally-references-requires c κs =
     let n = c .before in
     let s = constraint-start n in (
       constraint-span (words s) (s .pre .0 .checked) (n .before .constraints-at .ensures) (n .num-constraints .ensures) .0,
@@ -120,7 +120,7 @@ returns c =
     let counted = c .before .before in
     let n = counted .before .before in
     let s = constraint-start n in
-    let tally = counted .tally-names in
+    let tally = counted .tally-references in
     fit-counted (family s) (s .pre .1) (constraint-words n) (tally .last .1 .1 .1 .0) (tally .result) (tally .ensures)
 
 same-length-2 : tie.Need-same-length-2
@@ -152,7 +152,7 @@ tally-family-spec =
     enum-told
     constraints-at-requires
     num-constraints-requires
-    tally-names-requires
+    tally-references-requires
     enum-told-2
     interactions-at-requires
     num-interactions-requires

@@ -23,10 +23,10 @@ abbrev entry : tie.In-loop Inv-loop μ-loop → tie.Start Inv-loop μ-loop
 entry c = start (c .before .before)
 
 -- The counting found no room, or it went on.
-abbrev full : tie.After-enum-told Inv-loop μ-loop → tie.After-tally-names Inv-loop μ-loop
+abbrev full : tie.After-enum-told Inv-loop μ-loop → tie.After-tally-references Inv-loop μ-loop
 full c = c .before .before .before .before
 
-abbrev more : tie.After-known-told Inv-loop μ-loop → tie.After-tally-names Inv-loop μ-loop
+abbrev more : tie.After-known-told Inv-loop μ-loop → tie.After-tally-references Inv-loop μ-loop
 more c = c .before .before .before .before .before
 
 loop-holds : tie.Need-loop-holds Inv-loop μ-loop
@@ -35,8 +35,8 @@ loop-holds c = each-start (start c .pre .0) (start c .pre .1)
 interaction-at-requires : tie.Need-interaction-at-requires Inv-loop μ-loop
 interaction-at-requires c κs = rest-next (c .before .loop .inv .rest) (c .loop-test .taken) .inside
 
-tally-names-requires : tie.Need-tally-names-requires Inv-loop μ-loop
-tally-names-requires c κs =
+tally-references-requires : tie.Need-tally-references-requires Inv-loop μ-loop
+tally-references-requires c κs =
     let t = c .before .before in
     each-ready (t .before .loop .inv) (t .loop-test .taken) (fields-taken (entry t .args .sheet .now)) (c .before .interaction-at .ensures)
 
@@ -49,11 +49,11 @@ enum-told c = search needs
 same-length : tie.Need-same-length Inv-loop μ-loop
 same-length c =
     let r = full c .before .before in
-    full c .tally-names .kept .1 .1 .1 .0 ∙ r .before .before .loop .inv .left .long
+    full c .tally-references .kept .1 .1 .1 .0 ∙ r .before .before .loop .inv .left .long
 
 returns : tie.Need-returns Inv-loop μ-loop
 returns c =
-    let tally = full c .tally-names in
+    let tally = full c .tally-references in
     let r = full c .before .before in
     let t = r .before in
     each-full (t .before .loop .inv) (t .loop-test .taken) (fields-taken (entry t .args .sheet .now)) (r .interaction-at .ensures)
@@ -67,7 +67,7 @@ loop-less c = search needs
 
 loop-again : tie.Need-loop-again Inv-loop μ-loop
 loop-again c =
-    let tally = more c .tally-names in
+    let tally = more c .tally-references in
     let r = more c .before .before in
     let t = r .before in
     each-more (t .before .loop .inv) (t .loop-test .taken) (fields-taken (entry t .args .sheet .now)) (r .interaction-at .ensures)
@@ -87,7 +87,7 @@ tally-fields-spec =
     μ-loop
     loop-holds
     interaction-at-requires
-    tally-names-requires
+    tally-references-requires
     enum-known-answer
     enum-told
     same-length

@@ -5,7 +5,7 @@ use Prim.Native.Nat.{ℕ, _+_, _*_, _-_, _≤_}
 use native.Mathlib.Omega.{arith}
 use borrow.Author.Needs.{needs}
 use lib.ListN.{length, take, drop}
-use Rattle.header_offsets.specs.Headers.{wordsOf}
+use Rattle.header_offsets.specs.Headers.{headerWords}
 use Rattle.header_offsets.proofs.HeaderWords.{Put, none-put, one-put, all-put}
 use Rattle.header_offsets.proofs.words.put_headers.Statement.{statement}
 use Rattle.header_offsets.proofs.words.put_headers.Tie as tie
@@ -71,7 +71,7 @@ returns c =
     let h = b .inv in
     let e : b .j ≡ a .k = let l = h .0 in let t = c .loop-test .left in omega arith in
     all-put (a .words .now) (a .at) (a .t4) (b .j) (b .words) (h .3) (omega arith)
-    ∙ ap (λ (j : ℕ). take (a .at) (a .words .now) ++ (wordsOf (take j (a .t4)) ++ drop (a .at + 4 * j) (a .words .now))) e
+    ∙ ap (λ (j : ℕ). take (a .at) (a .words .now) ++ (headerWords (take j (a .t4)) ++ drop (a .at + 4 * j) (a .words .now))) e
 
 pub put-headers-spec : {M : Type 1} → statement M
 put-headers-spec =

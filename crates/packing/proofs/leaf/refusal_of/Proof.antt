@@ -1,7 +1,7 @@
 -- Each arm has its case of the definition.
 use borrow.Author.Needs.{needs}
 use mathlib.Core.Path.{sym, ap}
-use Rattle.packing.specs.Leaves.{refusalOf}
+use Rattle.packing.specs.Leaves.{leafRefusal}
 use Rattle.packing.proofs.leaf.refusal_of.Statement.{statement}
 use Rattle.packing.proofs.leaf.refusal_of.Tie as tie
 
@@ -15,7 +15,7 @@ returns : tie.Need-returns
 returns c = search needs
 
 returns-2 : tie.Need-returns-2
-returns-2 c = sym (ap refusalOf (c .enum-told .given .1))
+returns-2 c = sym (ap leafRefusal (c .enum-told .given .1))
 
 pub refusal-of-spec : {M : Type 1} → statement M
 refusal-of-spec = tie.close (tie.spec enum-known-read enum-told returns returns-2)

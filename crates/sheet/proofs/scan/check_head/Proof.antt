@@ -9,7 +9,7 @@ use borrow.Author.Needs.{needs}
 use lib.Dec.{eqb, leb}
 use Rattle.semantics.specs.Sheet.{headTests}
 use Rattle.semantics.specs.Check.{reading, scanWords}
-use Rattle.sheet.specs.Scans.{Reaches}
+use Rattle.sheet.specs.Scans.{EndsAt}
 use Rattle.sheet.proofs.Laws.{Left, left-stops, left-next, stop-reaches}
 use Rattle.sheet.proofs.scan.check_head.Statement.{statement}
 use Rattle.sheet.proofs.scan.check_head.Tie as tie
@@ -139,7 +139,7 @@ returns-4 c =
     let a = c .before in
     let r = c .check-limit3 in
     let end : constraints-end a + 1 ≡ 4 = omega (arith, constraints-left a .stands) in
-    (r .ensures .0 ∙ constraints-left a .goes, r .ensures .1, subst (λ (n : ℕ). Reaches n (r .result)) end (r .ensures .2))
+    (r .ensures .0 ∙ constraints-left a .goes, r .ensures .1, subst (λ (n : ℕ). EndsAt n (r .result)) end (r .ensures .2))
 
 pub check-head-spec : {M : Type 1} → statement M
 check-head-spec =

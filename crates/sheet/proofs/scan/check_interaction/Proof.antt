@@ -1,4 +1,4 @@
--- Four words are judged one by one, then as many names as the fourth says. Of each of the four: where the scan stands behind it,
+-- Four words are judged one by one, then as many references as the fourth says. Of each of the four: where the scan stands behind it,
 -- and that the tests that are left, from there on, give the scan of the whole interaction.
 use mathlib.Core.Path.{_≡_, ap, _∙_}
 use mathlib.Core.Bool.{Bool, true}
@@ -8,7 +8,7 @@ use native.Mathlib.Omega.{arith}
 use borrow.Author.Needs.{needs}
 use lib.Dec.{leb}
 use lib.ListN.{length, getD, drop, replicate}
-use Rattle.semantics.specs.Sheet.{names, interactionTests}
+use Rattle.semantics.specs.Sheet.{refers, interactionTests}
 use Rattle.semantics.specs.Check.{Scan, reading, scanWords, scanPart}
 use Rattle.sheet.proofs.Laws.{Left, left-stops, left-next, interaction-tests}
 use Rattle.sheet.proofs.scan.check_interaction.Statement.{statement}
@@ -23,13 +23,13 @@ module _ (c : tie.Start) where
   whole = scanPart 6 (interactionTests (c .args .records)) (reading (c .args .at) (drop (c .args .at) words))
 
   abbrev message : List (ℕ → Bool)
-  message = replicate (getD words (c .args .at + 3) 0) (names (c .args .records))
+  message = replicate (getD words (c .args .at + 3) 0) (refers (c .args .records))
 
   abbrev from-length : List (ℕ → Bool)
   from-length = (λ w. leb w 63) ∷ message
 
   abbrev from-count : List (ℕ → Bool)
-  from-count = names (c .args .records) ∷ from-length
+  from-count = refers (c .args .records) ∷ from-length
 
   abbrev from-weight : List (ℕ → Bool)
   from-weight = (λ w. true) ∷ from-count
@@ -71,7 +71,7 @@ weight-left c =
     left-next (bus-left (weight-checked c .before)) (r .result) (r .ensures) (weight-end c) (c .before .weight .given .1)
 
 -- The count.
-abbrev count-checked : tie.After-known-told3 → tie.After-check-names
+abbrev count-checked : tie.After-known-told3 → tie.After-check-references
 count-checked c = c .before .before .before
 
 abbrev count-end : tie.After-known-told3 → ℕ
@@ -82,7 +82,7 @@ count-start c = weight-start (count-checked c .before)
 
 count-left : (c : tie.After-known-told3) → Standing (count-start c) (from-length (count-start c)) 3 (count-end c)
 count-left c =
-    let r = count-checked c .check-names in
+    let r = count-checked c .check-references in
     left-next (weight-left (count-checked c .before)) (r .result) (r .ensures) (count-end c) (c .before .count .given .1)
 
 -- The length of the message.
@@ -137,8 +137,8 @@ returns-2 c =
     let v = c .enum-told2 .given in
     left-stops (bus-left (a .before)) (a .check-any .result) (a .check-any .ensures) (v .0 .0) (v .1)
 
-check-names-requires : tie.Need-check-names-requires
-check-names-requires c κs = weight-left c .inside
+check-references-requires : tie.Need-check-references-requires
+check-references-requires c κs = weight-left c .inside
 
 enum-known-count : tie.Need-enum-known-count
 enum-known-count c = search needs
@@ -150,7 +150,7 @@ returns-3 : tie.Need-returns-3
 returns-3 c =
     let a = c .before .before in
     let v = c .enum-told3 .given in
-    left-stops (weight-left (a .before)) (a .check-names .result) (a .check-names .ensures) (v .0 .0) (v .1)
+    left-stops (weight-left (a .before)) (a .check-references .result) (a .check-references .ensures) (v .0 .0) (v .1)
 
 check-limit-requires-2 : tie.Need-check-limit-requires-2
 check-limit-requires-2 c κs = count-left c .inside
@@ -176,12 +176,12 @@ shared-slice-read-wide c = length-inside (c .before)
 wide-requires : tie.Need-wide-requires
 wide-requires c κs = search needs
 
-check-names-requires-2 : tie.Need-check-names-requires-2
-check-names-requires-2 c κs = length-left (length-told c) .inside
+check-references-requires-2 : tie.Need-check-references-requires-2
+check-references-requires-2 c κs = length-left (length-told c) .inside
 
--- The names of the message: as many as the fourth word says.
-names-are : (c : tie.After-wide) → let k = length-start (length-told c) in c .wide .result ≡ getD (words k) (k .args .at + 3) 0
-names-are c =
+-- The references of the message: as many as the fourth word says.
+references-are : (c : tie.After-wide) → let k = length-start (length-told c) in c .wide .result ≡ getD (words k) (k .args .at + 3) 0
+references-are c =
     let a = length-checked (length-told c) .before in
     c .wide .ensures ∙ ap (λ (i : ℕ). getD (words (count-start a)) i 0) (count-left a .stands)
 
@@ -189,11 +189,11 @@ returns-5 : tie.Need-returns-5
 returns-5 c =
     let a = length-told (c .before) in
     let k = length-start a in (
-      c .check-names2 .ensures .0
-          ∙ ap (λ (n : ℕ). scanWords 6 (replicate n (names (k .args .records))) (reading (length-end a) (drop (length-end a) (words k))))
-          (names-are (c .before))
+      c .check-references2 .ensures .0
+          ∙ ap (λ (n : ℕ). scanWords 6 (replicate n (refers (k .args .records))) (reading (length-end a) (drop (length-end a) (words k))))
+          (references-are (c .before))
           ∙ length-left a .goes,
-      c .check-names2 .ensures .1,
+      c .check-references2 .ensures .1,
     )
 
 pub check-interaction-spec : {M : Type 1} → statement M
@@ -208,7 +208,7 @@ check-interaction-spec =
     enum-known-weight
     enum-told-2
     returns-2
-    check-names-requires
+    check-references-requires
     enum-known-count
     enum-told-3
     returns-3
@@ -219,5 +219,5 @@ check-interaction-spec =
     mul-wide
     shared-slice-read-wide
     wide-requires
-    check-names-requires-2
+    check-references-requires-2
     returns-5)

@@ -3,7 +3,7 @@ use borrow.Author.Needs.{needs}
 use mathlib.Core.Path.{ap, _∙_}
 use Rattle.answers.specs.declared.Refusal.{Refusal}
 use Rattle.symbolic_variable.specs.declared.RotatedVariable.the-variants.{Refused}
-use Rattle.symbolic_variable.specs.Replies.{refusalOf, rotatedVariableOutcome}
+use Rattle.symbolic_variable.specs.Replies.{rotatedRefusal, rotatedVariableOutcome}
 use Rattle.symbolic_variable.proofs.Laws.{variable-turned}
 use Rattle.symbolic_variable.proofs.SymbolicVariable.rotate.Statement.{statement}
 use Rattle.symbolic_variable.proofs.SymbolicVariable.rotate.Tie as tie
@@ -25,7 +25,7 @@ returns c =
     let told = c .before in
     let rotated = told .before .before in
     let self = rotated .before .args .self in
-    ap (λ (r : Refusal). rotatedVariableOutcome (Refused r)) (c .refusal-of .ensures ∙ ap refusalOf (told .enum-told .given .1))
+    ap (λ (r : Refusal). rotatedVariableOutcome (Refused r)) (c .refusal-of .ensures ∙ ap rotatedRefusal (told .enum-told .given .1))
     ∙ variable-turned self _ (rotated .rotate .ensures) (told .enum-told .given .1)
 
 returns-2 : tie.Need-returns-2

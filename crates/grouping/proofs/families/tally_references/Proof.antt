@@ -1,11 +1,11 @@
--- Name by name. Kept: the monomials of the lists so far are counted, and those of the rest may be counted.
+-- Reference by reference. Kept: the monomials of the lists so far are counted, and those of the rest may be counted.
 use mathlib.Core.Path.{_∙_}
 use Prim.Native.Nat.{_-_}
 use native.Mathlib.Omega.{arith}
 use borrow.Author.Needs.{needs}
 use Rattle.grouping.proofs.NamedLists.{NamesAt, at-start, at-done, at-ready, at-more, at-full}
-use Rattle.grouping.proofs.families.tally_names.Statement.{statement}
-use Rattle.grouping.proofs.families.tally_names.Tie as tie
+use Rattle.grouping.proofs.families.tally_references.Statement.{statement}
+use Rattle.grouping.proofs.families.tally_references.Tie as tie
 
 abbrev Inv-loop : tie.InvT-loop
 Inv-loop sheet at count headers₀ n pool rows₀ j₀ headers rows j = NamesAt sheet at count headers₀ n pool headers rows j
@@ -87,8 +87,8 @@ same-length-2 c = c .before .loop .inv .left .long
 returns-2 : tie.Need-returns-2 Inv-loop μ-loop
 returns-2 c = at-done (c .before .loop .inv) (c .loop-test .left)
 
-pub tally-names-spec : {M : Type 1} → statement M
-tally-names-spec =
+pub tally-references-spec : {M : Type 1} → statement M
+tally-references-spec =
     tie.close
     (tie.spec
     Inv-loop

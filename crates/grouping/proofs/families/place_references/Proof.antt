@@ -1,11 +1,11 @@
--- Name by name. Kept: the terms of the names so far are placed, and there is room for those of the rest.
+-- Reference by reference. Kept: the terms of the references so far are placed, and there is room for those of the rest.
 use mathlib.Core.Bool.{true}
 use Prim.Native.Nat.{_-_}
 use native.Mathlib.Omega.{arith}
 use borrow.Author.Needs.{needs}
 use Rattle.grouping.proofs.RootItems.{RootsAt, roots-at-start, roots-at-done, roots-at-ready, roots-at-more}
-use Rattle.grouping.proofs.families.place_names.Statement.{statement}
-use Rattle.grouping.proofs.families.place_names.Tie as tie
+use Rattle.grouping.proofs.families.place_references.Statement.{statement}
+use Rattle.grouping.proofs.families.place_references.Tie as tie
 
 abbrev Inv-loop : tie.InvT-loop
 Inv-loop sheet at count index headers₀ n pool terms₀ j₀ headers terms j =
@@ -76,8 +76,8 @@ same-length-2 c = c .before .loop .inv .left .terms-long
 returns : tie.Need-returns Inv-loop μ-loop
 returns c = roots-at-done (c .before .loop .inv) (c .loop-test .left)
 
-pub place-names-spec : {M : Type 1} → statement M
-place-names-spec =
+pub place-references-spec : {M : Type 1} → statement M
+place-references-spec =
     tie.close
     (tie.spec
     Inv-loop

@@ -6,8 +6,8 @@ use native.Mathlib.Omega.{arith}
 use borrow.Author.Needs.{needs}
 use lib.ListN.{length}
 use Rattle.expand.proofs.Roots.{Naming, naming-none, naming-done, ready-name, naming-more, naming-refused}
-use Rattle.expand.proofs.expand_names.Statement.{statement}
-use Rattle.expand.proofs.expand_names.Tie as tie
+use Rattle.expand.proofs.expand_references.Statement.{statement}
+use Rattle.expand.proofs.expand_references.Tie as tie
 
 abbrev Inv-loop : tie.InvT-loop
 Inv-loop sheet at count work₀ pool₀ used taken₀ j₀ work pool taken j = Naming sheet at count work₀ pool₀ used work pool taken j
@@ -109,8 +109,8 @@ returns-2 c =
     let p = start l .pre in
     naming-done (p .0) (p .1) (l .loop .inv) (c .loop-test .left)
 
-pub expand-names-spec : {M : Type 1} → statement M
-expand-names-spec =
+pub expand-references-spec : {M : Type 1} → statement M
+expand-references-spec =
     tie.close
     (tie.spec
     Inv-loop

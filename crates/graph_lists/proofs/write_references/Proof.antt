@@ -1,19 +1,19 @@
--- Each name's node is written behind the last; the loop keeps that the nodes of the first j names are put into the output.
+-- Each reference's node is written behind the last; the loop keeps that the nodes of the first j references are put into the output.
 use mathlib.Core.Path.{_≡_, refl, sym, ap, _∙_}
 use Prim.Native.Nat.{ℕ, _+_, _-_, _≤_, _<_}
 use native.Mathlib.Omega.{arith}
 use borrow.Author.Needs.{needs}
 use lib.ListN.{length, length-set}
-use Rattle.records.specs.Access.{part}
+use Rattle.records.specs.Access.{wordsFrom}
 use Rattle.slices.specs.Putting.{put}
 use Rattle.graph_lists.specs.Lists.{nodeNumbers, marksOf}
 use Rattle.slices.proofs.Puts.{put-none}
 use Rattle.graph_lists.proofs.Naming.{number-asks, number-is, number-small, naming-more}
-use Rattle.graph_lists.proofs.write_names.Statement.{statement}
-use Rattle.graph_lists.proofs.write_names.Tie as tie
+use Rattle.graph_lists.proofs.write_references.Statement.{statement}
+use Rattle.graph_lists.proofs.write_references.Tie as tie
 
 abbrev Inv-loop : tie.InvT-loop
-Inv-loop sheet at count scratch out₀ to j₀ out j = (j ≤ count) × (length out ≡ length out₀) × (out ≡ put out₀ to (nodeNumbers (marksOf scratch) (part at j sheet)))
+Inv-loop sheet at count scratch out₀ to j₀ out j = (j ≤ count) × (length out ≡ length out₀) × (out ≡ put out₀ to (nodeNumbers (marksOf scratch) (wordsFrom at j sheet)))
 
 abbrev μ-loop : tie.MeasureT-loop
 μ-loop sheet at count scratch out₀ to j₀ out j = count - j
@@ -95,10 +95,10 @@ returns c =
     let a = start (c .before) .args in
     let loop = c .before .loop in
     let all : loop .j ≡ a .count = omega arith in
-    loop .inv .2 ∙ ap (λ (k : ℕ). put (a .out .now) (a .to) (nodeNumbers (marksOf (a .scratch .now)) (part (a .at) k (a .sheet .now)))) all
+    loop .inv .2 ∙ ap (λ (k : ℕ). put (a .out .now) (a .to) (nodeNumbers (marksOf (a .scratch .now)) (wordsFrom (a .at) k (a .sheet .now)))) all
 
-pub write-names-spec : {M : Type 1} → statement M
-write-names-spec =
+pub write-references-spec : {M : Type 1} → statement M
+write-references-spec =
     tie.close
     (tie.spec
     Inv-loop

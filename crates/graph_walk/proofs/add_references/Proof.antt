@@ -4,8 +4,8 @@ use native.Mathlib.Omega.{arith}
 use borrow.Author.Needs.{needs}
 use lib.ListN.{length}
 use Rattle.graph_walk.proofs.Rooting.{Naming, naming-none, naming-ready, naming-length, naming-done, naming-more}
-use Rattle.graph_walk.proofs.add_names.Statement.{statement}
-use Rattle.graph_walk.proofs.add_names.Tie as tie
+use Rattle.graph_walk.proofs.add_references.Statement.{statement}
+use Rattle.graph_walk.proofs.add_references.Tie as tie
 
 abbrev Inv-loop : tie.InvT-loop
 Inv-loop sheet at count scratch₀ out₀ n used₀ j₀ scratch out used j = Naming sheet at count scratch₀ out₀ n scratch out used j
@@ -74,8 +74,8 @@ same-length-2 c = c .before .loop .inv .out-length
 returns : tie.Need-returns Inv-loop μ-loop
 returns c = let p = start (c .before) .pre in naming-done (p .0) (p .1) (c .before .loop .inv) (c .loop-test .left)
 
-pub add-names-spec : {M : Type 1} → statement M
-add-names-spec =
+pub add-references-spec : {M : Type 1} → statement M
+add-references-spec =
     tie.close
     (tie.spec
     Inv-loop
