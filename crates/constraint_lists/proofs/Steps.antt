@@ -28,7 +28,7 @@ use Rattle.grouping.specs.declared.Grouped.the-variants as grouped
 use Rattle.constraint_lists.specs.declared.ConstraintLists.{ConstraintLists}
 use Rattle.constraint_lists.specs.declared.ConstraintLists.the-variants.{Refused}
 use Rattle.grouping.specs.Families.{groupsOf, Front, Laid}
-use Rattle.constraint_lists.specs.Lists.{expansionOf, constraintAnswer, constraintsIn, constraintsOf, expandedRefusal, ShortFew, Fit, ListsFit}
+use Rattle.constraint_lists.specs.Lists.{expansionOf, constraintAnswer, constraintsIn, constraintsOf, ShortFew, Fit}
 
 -- There are three slices.
 first-bound : (k : ℕ) (ws : List (List ℕ)) (ns : List ℕ) → firstShort (suc k) ws ns ≤ k + length ws
@@ -98,7 +98,8 @@ pub front-take : (k : ℕ) (words slice : List ℕ) → Front words slice → k 
 front-take k words slice f e = ap (λ (n : ℕ). take n slice) e ∙ f .1
 
 -- Lists that are written stand inside their slices.
-pub written-inside : (term : Item → List ℕ) (gs : List Group) (h v t : List ℕ) (a : Lengths) → Laid term gs h v t (grouped.Written a) → Fit a h v t
+pub written-inside : (term : Item → List ℕ) (gs : List Group) (h v t : List ℕ) (a : Lengths)
+    → Laid term gs h v t (grouped.Written a) → Fit a h v t
 written-inside term gs h v t a (z, fh, fv, ft, eh, ev, et) = (
   subst (λ (n : ℕ). n ≤ length h) (sym eh) (fh .0),
   subst (λ (n : ℕ). n ≤ length v) (sym ev) (fv .0),
@@ -154,7 +155,8 @@ module _ (ws : List ℕ) (work pool : ℕ) {h v t : List ℕ} {lh lv lt : ℕ} (
         subst (λ (u : Expanded). Expands ws pool′ u reached) g f in
         let y : q ≡ v₁ = r ∙ ap expandedRefusal g in
         (λ i. refused (y i .number) (y i .place))
-        ∙ walk-refused work pool (lh ∷ lv ∷ lt ∷ []) constraintRoots (constraintOutputs prime) (λ x. []) s enough room (v₁ .number) (v₁ .place)
+        ∙ walk-refused work pool (lh ∷ lv ∷ lt ∷ []) constraintRoots (constraintOutputs prime) (λ x. []) s enough room
+        (v₁ .number) (v₁ .place)
         (sym walks ∙ subst (λ (n : ℕ). expandAll prime (recordsOf ws) n reached ≡ refused (v₁ .number) (v₁ .place)) e x)
 
     pub constraints-grouped : (used : ℕ) (pool′ : List ℕ) → length pool′ ≡ pool → PoolHolds ws reached pool′ used

@@ -41,7 +41,8 @@ ListsFit (Written n) headers variables terms = Fit n headers variables terms
 ListsFit (Refused r) headers variables terms = Unit {0}
 
 -- An expansion of a sheet that was checked.
-abbrev pub expansionOf : (work pool : ℕ) (lent : List ℕ) → (roots : Sheet → List Root) (outputs : Sheet → List (List ℕ)) (numbers : Sheet → List ℕ) → Sheet → Answer Result
+abbrev pub expansionOf : (work pool : ℕ) (lent : List ℕ)
+    → (roots : Sheet → List Root) (outputs : Sheet → List (List ℕ)) (numbers : Sheet → List ℕ) → Sheet → Answer Result
 expansionOf work pool lent roots outputs numbers s =
     needs 14 4096 work (needs 14 (2 * length (s .records)) pool
     (andThen (expandAll prime (s .records) pool (order (s .records) (map (λ (r : Root). r .node) (roots s))))

@@ -76,7 +76,8 @@ constraint-finish (Written n) h v t i work pool = λ j. record {
     counts = kept-count (n .headers) h (i .0) j ∷ kept-count (n .variables) v (i .1) j ∷ kept-count (n .terms) t (i .2) j ∷ [];
     numbers = [];
   };
-  slices = replicate work 0 ∷ replicate pool 0 ∷ kept-padded (n .headers) h j ∷ kept-padded (n .variables) v j ∷ kept-padded (n .terms) t j ∷ [];
+  slices =
+      replicate work 0 ∷ replicate pool 0 ∷ kept-padded (n .headers) h j ∷ kept-padded (n .variables) v j ∷ kept-padded (n .terms) t j ∷ [];
 }
 constraint-finish (Refused q) h v t i work pool = λ j. record {
   reply = record { number = q .number; place = q .place; counts = []; numbers = [] };
@@ -100,7 +101,8 @@ module _ (ws : List ℕ) (work pool : ℕ) {headers variables terms : ℕ} (r : 
   unfolding constraintCall expansion
   constraint-done kept k work′ pool′ ew ep h′ v′ t′ (eh, ev, et) =
       (λ i. constraintOutcome r (ew i) (ep i) (eh i) (ev i) (et i))
-      ∙ (λ i. constraintOutcome r (replicate work 0) (replicate pool 0) (cut (k i .headers) h) (cut (k i .variables) v) (cut (k i .terms) t))
+      ∙ (λ i. constraintOutcome r (replicate work 0) (replicate pool 0) (cut (k i .headers) h) (cut (k i .variables) v)
+      (cut (k i .terms) t))
       ∙ constraint-finish r h v t inside work pool
       ∙ (λ i. outcome (work ∷ pool ∷ []) (long .headers-long i ∷ long .variables-long i ∷ long .terms-long i ∷ []) (answer i))
 
@@ -108,7 +110,8 @@ module _ (ws : List ℕ) (work pool : ℕ) {headers variables terms : ℕ} (r : 
 pub interaction-finish : (r : InteractionLists) (h v t h₂ v₂ t₂ : List ℕ) → BothInside r h v t h₂ v₂ t₂ → (work pool : ℕ)
     → interactionOutcome r (replicate work 0) (replicate pool 0)
     (cut (bothLengths r .numerators .headers) h) (cut (bothLengths r .numerators .variables) v) (cut (bothLengths r .numerators .terms) t)
-    (cut (bothLengths r .denominators .headers) h₂) (cut (bothLengths r .denominators .variables) v₂) (cut (bothLengths r .denominators .terms) t₂)
+    (cut (bothLengths r .denominators .headers) h₂) (cut (bothLengths r .denominators .variables) v₂)
+    (cut (bothLengths r .denominators .terms) t₂)
     ≡ outcome (work ∷ pool ∷ []) (length h ∷ length v ∷ length t ∷ length h₂ ∷ length v₂ ∷ length t₂ ∷ [])
     (interactionAnswer r h v t h₂ v₂ t₂)
 unfolding outcome paddedAll zeros

@@ -37,7 +37,8 @@ cut k o = take k o ++ replicate (length o - k) 0
 abbrev pub interactionReply : InteractionLists → Reply
 interactionReply (interaction.Written n) =
     acceptedWith
-    (n .numerators .headers ∷ n .numerators .variables ∷ n .numerators .terms ∷ n .denominators .headers ∷ n .denominators .variables ∷ n .denominators .terms ∷ [])
+    (n .numerators .headers ∷ n .numerators .variables ∷ n .numerators .terms
+    ∷ n .denominators .headers ∷ n .denominators .variables ∷ n .denominators .terms ∷ [])
     (n .«num_interactions» ∷ n .«max_fields_len» ∷ [])
 interactionReply (interaction.Refused r) = refusedReply r
 

@@ -21,7 +21,8 @@ module _ (d : ℕ) where
       go true ih e = let q : suc (d + suc k) ≡ d + suc (suc k) = omega arith in ap (λ (m : ℕ). firstShort m ws ns) q ∙ ih e
       go false ih e = absurd (omega arith)
 
-  pub later-short : (k : ℕ) (ws : List (List ℕ)) (ns : List ℕ) → (firstShort (suc k) ws ns ≡ 0 → ⊥) → firstShort (d + suc k) ws ns ≡ d + firstShort (suc k) ws ns
+  pub later-short : (k : ℕ) (ws : List (List ℕ)) (ns : List ℕ) → (firstShort (suc k) ws ns ≡ 0 → ⊥)
+      → firstShort (d + suc k) ws ns ≡ d + firstShort (suc k) ws ns
   unfolding firstShort
   later-short k [] ns h = absurd (h refl)
   later-short k (w ∷ ws) [] h = absurd (h refl)
@@ -42,7 +43,8 @@ first-none k [] vs (n ∷ ns) ms l h = absurd (omega arith)
 first-none k (w ∷ ws) vs [] ms l h = absurd (omega arith)
 first-none k (w ∷ ws) vs (n ∷ ns) ms l h = go (leb (length w) n) (first-none (suc k) ws vs ns ms (omega arith)) h
   where
-    go : (t : Bool) → (firstShort (suc (suc k)) ws ns ≡ 0 → firstShort (suc (suc k)) (ws ++ vs) (ns ++ ms) ≡ firstShort (suc (suc k) + length ws) vs ms)
+    go : (t : Bool)
+        → (firstShort (suc (suc k)) ws ns ≡ 0 → firstShort (suc (suc k)) (ws ++ vs) (ns ++ ms) ≡ firstShort (suc (suc k) + length ws) vs ms)
         → cond t (firstShort (suc (suc k)) ws ns) (suc k) ≡ 0
         → cond t (firstShort (suc (suc k)) (ws ++ vs) (ns ++ ms)) (suc k) ≡ firstShort (suc k + suc (length ws)) vs ms
     go true ih e =
@@ -57,7 +59,8 @@ first-short k [] vs ns ms l h = absurd (h refl)
 first-short k (w ∷ ws) vs [] ms l h = absurd (omega arith)
 first-short k (w ∷ ws) vs (n ∷ ns) ms l h = go (leb (length w) n) (first-short (suc k) ws vs ns ms (omega arith)) h
   where
-    go : (t : Bool) → ((firstShort (suc (suc k)) ws ns ≡ 0 → ⊥) → firstShort (suc (suc k)) (ws ++ vs) (ns ++ ms) ≡ firstShort (suc (suc k)) ws ns)
+    go : (t : Bool)
+        → ((firstShort (suc (suc k)) ws ns ≡ 0 → ⊥) → firstShort (suc (suc k)) (ws ++ vs) (ns ++ ms) ≡ firstShort (suc (suc k)) ws ns)
         → (cond t (firstShort (suc (suc k)) ws ns) (suc k) ≡ 0 → ⊥)
         → cond t (firstShort (suc (suc k)) (ws ++ vs) (ns ++ ms)) (suc k) ≡ cond t (firstShort (suc (suc k)) ws ns) (suc k)
     go true ih e = ih e

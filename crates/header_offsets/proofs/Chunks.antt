@@ -15,7 +15,8 @@ abbrev front : (i : ℕ) (ws : List ℕ) → List ℕ
 front i ws = headerWords (withOffsets 0 0 (headersIn i ws))
 
 front-length : (i : ℕ) (ws : List ℕ) → length (front i ws) ≡ 4 * i
-front-length i ws = words-length (withOffsets 0 0 (headersIn i ws)) ∙ ap (λ (n : ℕ). 4 * n) (offsets-length 0 0 (headersIn i ws) ∙ in-length i ws)
+front-length i ws =
+    words-length (withOffsets 0 0 (headersIn i ws)) ∙ ap (λ (n : ℕ). 4 * n) (offsets-length 0 0 (headersIn i ws) ∙ in-length i ws)
 
 pub filled-length : (n : ℕ) (ws : List ℕ) → 4 * n ≤ length ws → length (filledWords n ws) ≡ length ws
 unfolding filledWords
@@ -40,7 +41,8 @@ pub filled-none : (ws : List ℕ) (n : ℕ) → Filled ws n ws 0 0 0
 unfolding filledWords headersIn withOffsets headerWords columnTotal
 filled-none ws n = record { upto = omega arith; words-are = refl; vars-are = refl; terms-are = refl }
 
-pub filled-long : {ws₀ : List ℕ} {n : ℕ} {ws : List ℕ} {vars terms i : ℕ} → Filled ws₀ n ws vars terms i → 4 * n ≤ length ws₀ → length ws ≡ length ws₀
+pub filled-long : {ws₀ : List ℕ} {n : ℕ} {ws : List ℕ} {vars terms i : ℕ} → Filled ws₀ n ws vars terms i → 4 * n ≤ length ws₀
+    → length ws ≡ length ws₀
 filled-long {ws₀} {i = i} g l = let u = g .upto in ap length (g .words-are) ∙ filled-length i ws₀ (omega arith)
 
 total-in : (number : MonomialHeader → ℕ) (i k : ℕ) (ws : List ℕ)
@@ -121,7 +123,8 @@ module _ {ws₀ : List ℕ} {n : ℕ} {ws : List ℕ} {vars terms i : ℕ} (g : 
         let v : 0 + columnTotal numVars (headersIn i ws₀) ≡ columnTotal numVars (headersIn i ws₀) = omega arith in
         let t : 0 + columnTotal numTerms (headersIn i ws₀) ≡ columnTotal numTerms (headersIn i ws₀) = omega arith in
         let d : drop (4 * i + 4 * k) ws ≡ drop (4 * (i + k)) ws₀ =
-        sym (drop-drop (4 * k) (4 * i) ws) ∙ ap (drop (4 * k)) (ap (drop (4 * i)) (g .words-are) ∙ filled-rest i ws₀) ∙ drop-drop (4 * k) (4 * i) ws₀
+        sym (drop-drop (4 * k) (4 * i) ws) ∙ ap (drop (4 * k)) (ap (drop (4 * i)) (g .words-are) ∙ filled-rest i ws₀)
+        ∙ drop-drop (4 * k) (4 * i) ws₀
         ∙ ap (λ (j : ℕ). drop j ws₀) m in
         let q : front (i + k) ws₀ ≡ front i ws₀ ++ headerWords Y =
         ap (λ (hs : List MonomialHeader). headerWords (withOffsets 0 0 hs)) (in-append i k ws₀)

@@ -54,11 +54,13 @@ module _ (hs : List MonomialHeader) (v t : ℕ) where
     drop-next : drop (g .i + 1) (next-list g) ≡ drop (suc (g .i)) (g .ys)
     drop-next = drop-set-lt (g .i + 1) (g .ys) (g .i) (filled g) (omega arith) ∙ ap (λ (k : ℕ). drop k (g .ys)) (add-one (g .i))
 
-    pub whole-next : take (g .i + 1) (next-list g) ++ withOffsets (g .vars + numVars (here g)) (g .terms + numTerms (here g)) (drop (g .i + 1) (next-list g)) ≡ withOffsets v t hs
+    pub whole-next : take (g .i + 1) (next-list g)
+        ++ withOffsets (g .vars + numVars (here g)) (g .terms + numTerms (here g)) (drop (g .i + 1) (next-list g)) ≡ withOffsets v t hs
     unfolding withOffsets
     whole-next =
         let front : List MonomialHeader = take (g .i) (g .ys) in
-        let rest : List MonomialHeader = withOffsets (g .vars + numVars (here g)) (g .terms + numTerms (here g)) (drop (suc (g .i)) (g .ys)) in
+        let rest : List MonomialHeader = withOffsets (g .vars + numVars (here g)) (g .terms + numTerms (here g))
+        (drop (suc (g .i)) (g .ys)) in
         let e : front ++ (filled g ∷ rest) ≡ withOffsets v t hs = rw (drop-cons (g .ys) (g .i) noHeader within) at (g .whole) in
         rw drop-next
         (ap (λ (k : ℕ). take k (next-list g) ++ rest) (add-one (g .i))
@@ -91,4 +93,5 @@ module _ (hs : List MonomialHeader) (v t : ℕ) where
   unfolding withOffsets
   done g l =
       let h : length (g .ys) ≤ g .i = let e = g .len in omega arith in
-      sym (append-nil (g .ys)) ∙ ap (λ (k : List MonomialHeader). k ++ []) (sym (take-all (g .i) (g .ys) h)) ∙ rw (drop-of-length-le (g .ys) {i = g .i} h) at (g .whole)
+      sym (append-nil (g .ys)) ∙ ap (λ (k : List MonomialHeader). k ++ []) (sym (take-all (g .i) (g .ys) h))
+      ∙ rw (drop-of-length-le (g .ys) {i = g .i} h) at (g .whole)

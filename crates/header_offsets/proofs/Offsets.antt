@@ -67,4 +67,5 @@ module _ (v t : ℕ) (hs : List MonomialHeader) (k : ℕ) (e : length hs ≡ suc
 
   pub terms-carried : getD (withOffsets v t hs) k noHeader .«term_offset» + numTerms (getD (withOffsets v t hs) k noHeader) ≡ t + columnTotal numTerms hs
   terms-carried =
-      ap (λ (h : MonomialHeader). h .«term_offset» + numTerms h) (offset-at v t hs k (omega arith)) ∙ omega (arith, total-last numTerms hs k e)
+      ap (λ (h : MonomialHeader). h .«term_offset» + numTerms h) (offset-at v t hs k (omega arith))
+      ∙ omega (arith, total-last numTerms hs k e)

@@ -23,7 +23,8 @@ longest-words rest ws at (x ∷ xs) e =
     let ih = longest-words rest ws (at + (4 + messageLength ws at)) xs (next-stands ws at x tail g) in
     λ i. max (length-is ws at x tail g i) (ih i)
 
-pub longest-is : (ws : List ℕ) → check prime ws ≡ good (readSheet ws) → (at count : ℕ) → at ≡ interactionsAt ws → count ≡ length (readSheet ws .interactions)
+pub longest-is : (ws : List ℕ) → check prime ws ≡ good (readSheet ws) → (at count : ℕ) → at ≡ interactionsAt ws
+    → count ≡ length (readSheet ws .interactions)
     → longestFrom ws at count ≡ maxFieldsLen (readSheet ws)
 unfolding maxFieldsLen
 longest-is ws checked at count ea ec =
@@ -51,7 +52,8 @@ module _ {bound : ℕ} {ws : List ℕ} {at count : ℕ} where
     unfolding longestFrom
     looking-done l =
         let z : count - i ≡ 0 = omega arith in
-        let w : max most (longestFrom ws from 0) ≡ longestFrom ws at count = subst (λ (n : ℕ). max most (longestFrom ws from n) ≡ longestFrom ws at count) z (h .whole) in
+        let w : max most (longestFrom ws from 0) ≡ longestFrom ws at count =
+        subst (λ (n : ℕ). max most (longestFrom ws from n) ≡ longestFrom ws at count) z (h .whole) in
         omega (arith, w)
 
     module _ (l : i < count) where
@@ -68,7 +70,8 @@ module _ {bound : ℕ} {ws : List ℕ} {at count : ℕ} where
           → Looking bound ws at count most′ from′ (i + 1)
       unfolding longestFrom
       looking-more most′ from′ e f =
-          let w : max most (max (messageLength ws from) (longestFrom ws (from + (4 + messageLength ws from)) (count - (i + 1)))) ≡ longestFrom ws at count =
+          let w : max most (max (messageLength ws from) (longestFrom ws (from + (4 + messageLength ws from)) (count - (i + 1))))
+          ≡ longestFrom ws at count =
           subst (λ (n : ℕ). max most (longestFrom ws from n) ≡ longestFrom ws at count) more (h .whole) in
           record {
             i-le = omega arith;

@@ -66,7 +66,8 @@ module _ (gs ks : List Group) (h v t h₂ v₂ t₂ : List ℕ) where
         let m = subst (Laid interactionTerm ks h₂ v₂ t₂) e₂ l₂ in
         let n : firstShort 1 (layout interactionTerm ks) lent-second ≡ 0 → ⊥ = λ z. m .1 (sym (m .0) ∙ z) in
         short both lent numbers (3 + k)
-        (goes-on ∙ later-short 3 0 (layout interactionTerm ks) lent-second n ∙ ap (λ (x : ℕ). 3 + x) (m .0)) (λ z. absurd (omega (arith, z)))
+        (goes-on ∙ later-short 3 0 (layout interactionTerm ks) lent-second n ∙ ap (λ (x : ℕ). 3 + x) (m .0))
+        (λ z. absurd (omega (arith, z)))
 
     module _ (g₂ : Grouped) (b : Lengths) (l₂ : Laid interactionTerm ks h₂ v₂ t₂ g₂) (e₂ : g₂ ≡ grouped.Written b) (ni mf : ℕ) where
       abbrev answer : InteractionLists
@@ -129,7 +130,8 @@ module _ (ws : List ℕ) {lh lv lt lh₂ lv₂ lt₂ : ℕ} {h v t h₂ v₂ t�
       ((λ i. refused (y i .number) (y i .place)) ∙ ap (refused 17) z ∙ counts-short gC gF h v t h₂ v₂ t₂ g k l e numbersOf ∙ lent-is, tt)
 
   module _ (g : Grouped) (a : Lengths) (l : Laid interactionTerm gC h v t g) (e : g ≡ grouped.Written a) where
-    pub fields-refused : (g₂ : Grouped) (q : Refusal) → Laid interactionTerm gF h₂ v₂ t₂ g₂ → (k : ℕ) → g₂ ≡ grouped.Short k → q ≡ shortOf g₂ 3
+    pub fields-refused : (g₂ : Grouped) (q : Refusal) → Laid interactionTerm gF h₂ v₂ t₂ g₂ → (k : ℕ) → g₂ ≡ grouped.Short k
+        → q ≡ shortOf g₂ 3
         → (interactionAnswer (interaction.Refused q) h v t h₂ v₂ t₂ ≡ lists) × BothInside (interaction.Refused q) h v t h₂ v₂ t₂
     fields-refused g₂ q l₂ k e₂ r =
         let y : q ≡ tooShort (3 + k) = r ∙ ap (λ (z : Grouped). shortOf z 3) e₂ in

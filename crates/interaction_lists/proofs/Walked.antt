@@ -48,7 +48,8 @@ module _ (ws : List ℕ) (checked : check prime ws ≡ good (readSheet ws)) wher
   pub counts-below : Below (length (recordsOf ws)) (counts xs)
   counts-below =
       let n : ℕ = length (recordsOf ws) in
-      flat-below n _ (λ i. GoodInteraction n) (λ i x u. cons-below n (x .count) [] (interaction-facts n x u .count) (λ c m. not-in c m)) 0 xs (inside ws checked .interactions)
+      flat-below n _ (λ i. GoodInteraction n)
+      (λ i x u. cons-below n (x .count) [] (interaction-facts n x u .count) (λ c m. not-in c m)) 0 xs (inside ws checked .interactions)
 
   pub fields-below : Below (length (recordsOf ws)) (fields xs)
   fields-below =

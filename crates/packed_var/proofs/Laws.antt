@@ -32,7 +32,8 @@ pub variable-faults : (a b c d : ℕ) {s t u v : Bool} → ltb 65535 d ≡ s →
 unfolding packRecord packFault packed
 variable-faults a b c d {s} {t} {u} {v} p q r x =
     sym (fault-first s t u v _)
-    ∙ sym (λ i. cond (eqb (faultOf (p i) (q i) (r i) (x i)) 0) (good (a + 16 * b + 4096 * c + 65536 * d)) (refused (faultOf (p i) (q i) (r i) (x i)) 0))
+    ∙ sym (λ i. cond (eqb (faultOf (p i) (q i) (r i) (x i)) 0) (good (a + 16 * b + 4096 * c + 65536 * d))
+    (refused (faultOf (p i) (q i) (r i) (x i)) 0))
 
 faulty-column : (e : Entry) (d : ℕ) → 65535 < d → refused 8 0 ≡ packRecord (entryRecord e d)
 faulty-column (Preprocessed o) d h = variable-faults 0 0 o d (lt-ltb 65535 d h) refl refl refl

@@ -19,8 +19,7 @@ use Rattle.semantics.specs.Call.{Outcome, Result, Accepted, handedBack, 
 use Rattle.semantics.specs.Call.{constraintCall, interactionOutputs, maxFieldsLen, interactionCall}
 use Rattle.semantics.specs.Refusals.{ofSheet, ofExpansion}
 use Rattle.semantics.specs.Demand.{Assignment, productOf, sumOf, ofConstraint, ofCount, ofField, second, first, Ascending, NonZero, noInteraction}
-use Rattle.semantics.specs.Demand.{constraintAt, interactionAt, fieldAt, listsFrom, GraphRule, ConstraintRule, InteractionRule, GraphConstraintRule}
-use Rattle.semantics.specs.Demand.{GraphInteractionRule, Demand}
+use Rattle.semantics.specs.Demand.{constraintAt, interactionAt, fieldAt, listsFrom, GraphRule, ConstraintRule, InteractionRule, GraphConstraintRule, GraphInteractionRule, Demand}
 use Rattle.semantics.specs.Lists.{All}
 use Rattle.semantics.proofs.Members.{mem-left, mem-right, mem-here, mem-getD, cons-below, append-below, flat-mem, flat-below, not-in}
 use Rattle.semantics.proofs.Orders.{order-closed, order-roots, order-below, order-reached, order-all, order-distinct}

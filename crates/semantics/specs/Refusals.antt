@@ -7,8 +7,7 @@ use lib.ListN.{length, getD}
 use Rattle.slices.specs.Rows.{rows}
 use Rattle.semantics.specs.Sheet.{Record}
 use Rattle.semantics.specs.Walk.{member}
-use Rattle.semantics.specs.Call.{Outcome, Accepted, handedBack}
-use Rattle.semantics.specs.Call.{blockCheckCall, readerCall, writerCall, checkCall, builderCall, maxRotationCall, numConstraintsCall, conversionCall}
+use Rattle.semantics.specs.Call.{Outcome, Accepted, handedBack, blockCheckCall, readerCall, writerCall, checkCall, builderCall, maxRotationCall, numConstraintsCall, conversionCall}
 use Rattle.semantics.specs.Call.{packCall, variableCall, unpackCall, constraintCall, interactionCall}
 
 -- The number of the reply is 0 or one of these.

@@ -43,7 +43,8 @@ sum-handed make TooLarge = refl
 
 -- an entry with an offset, rotated: its offset and k make a sum s that is known
 module _ (make : ℕ → Entry) (turns : (o k : ℕ) → entryRotated (make o) k ≡ andThen (offsetMoved o k) (λ m. good (make m))) where
-  pub turned : (k : ℕ) {e : Entry} {o : ℕ} {s t : Sum} → e ≡ make o → sumAnswer t ≡ offsetMoved o k → t ≡ s → sumOutcome make s ≡ rotateCall e k
+  pub turned : (k : ℕ) {e : Entry} {o : ℕ} {s t : Sum} → e ≡ make o → sumAnswer t ≡ offsetMoved o k → t ≡ s
+      → sumOutcome make s ≡ rotateCall e k
   unfolding rotateCall
   turned k {o = o} {s = s} is sum known =
       sum-handed make s

@@ -149,7 +149,8 @@ returns-3 c =
     let e = entry w in
     let a = e .args in
     let v = told .enum-told .given in (
-      constraints-refused (words e) (work e) (pool e) (unchanged (a .headers .now) (a .variables .now) (a .terms .now)) (work-long w) (pool-long w)
+      constraints-refused (words e) (work e) (pool e) (unchanged (a .headers .now) (a .variables .now) (a .terms .now))
+          (work-long w) (pool-long w)
           (w .walk-constraints .result) (c .refusal-of .result) (v .0 .0) (walked-pool w) (w .walk-constraints .kept .1 .1 .1 .1 .0)
           (w .walk-constraints .ensures) (v .1) (c .refusal-of .ensures),
       tt,

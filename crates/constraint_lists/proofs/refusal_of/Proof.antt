@@ -1,3 +1,4 @@
+-- By what the walk answered.
 use mathlib.Core.Path.{sym, ap}
 use Rattle.constraint_lists.specs.Lists.{expandedRefusal}
 use borrow.Author.Needs.{needs}

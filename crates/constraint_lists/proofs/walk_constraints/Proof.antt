@@ -62,7 +62,8 @@ expand-references-requires c κs =
     let zero = zeroed l .zero-all in
     let s = start (zeroed l .before) in
     let a = s .args in (
-      walk-starts (words s) (a .records) (sheet-is s .records-are) (zero .last .0) (rest s) (length (heads s)) (zero .ensures) (heads-long s)
+      walk-starts (words s) (a .records) (sheet-is s .records-are) (zero .last .0) (rest s) (length (heads s))
+          (zero .ensures) (heads-long s)
           (sheet-is s .checked) (a .work .now) (s .pre .1),
       references-there (words s) (a .records) (a .constraints) (s .pre .0 .0) (sheet-is s) (l .constraints-at .result) (l .constraints-at .ensures),
     )

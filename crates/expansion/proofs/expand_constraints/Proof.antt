@@ -22,7 +22,8 @@ module _ (c : tie.After-expand-sheet) where
   abbrev terms : List ℕ
   terms = c .expand-sheet .last .1 .1 .1 .1 .1 .0
 
-  long : Kept (length (start .args .headers .now)) (length (start .args .variables .now)) (length (start .args .terms .now)) headers variables terms
+  long : Kept (length (start .args .headers .now)) (length (start .args .variables .now)) (length (start .args .terms .now))
+      headers variables terms
   long = record {
     headers-long = c .expand-sheet .kept .1 .1 .1 .0;
     variables-long = c .expand-sheet .kept .1 .1 .1 .1 .0;
@@ -33,8 +34,8 @@ abbrev expanded : tie.After-lengths-of → tie.After-expand-sheet
 expanded c = c .before .before .before .before .before .before .before .before .before .before .before
 
 -- All is zeroed but the lists.
-abbrev work-zeroed : tie.After-zero-all-arg2 → tie.After-zero-all
-work-zeroed c = c .before .before .before
+abbrev work-zeroed : tie.After-slice-known11 → tie.After-zero-all
+work-zeroed c = c .before .before
 
 abbrev pool-zeroed : tie.After-clear-behind-arg3 → tie.After-zero-all2
 pool-zeroed c = c .before .before .before .before .before
@@ -76,12 +77,13 @@ returns : tie.Need-returns
 returns c =
     let clear = cleared c .clear-behind in
     let p = pool-zeroed (cleared c .before) in
-    let w = work-zeroed (p .before) in
+    let w = work-zeroed (p .before .before) in
     let lengths = w .before .before in
     let e = expanded lengths in
     let expand = e .expand-sheet in
     let a = start e .args in
-    constraint-done (a .s .now) (length (a .work .now)) (length (a .pool .now)) (expand .result) (long e) (expand .ensures .0) (expand .ensures .1)
+    constraint-done (a .s .now) (length (a .work .now)) (length (a .pool .now)) (expand .result) (long e)
+    (expand .ensures .0) (expand .ensures .1)
     (lengths .lengths-of .result) (lengths .lengths-of .ensures) (w .zero-all .last .0) (p .zero-all2 .last .0)
     (zeroed-again (w .zero-all .ensures) (expand .kept .1 .0)) (zeroed-again (p .zero-all2 .ensures) (expand .kept .1 .1 .0))
     (clear .last .0) (clear .last .1 .0) (clear .last .1 .1 .0) (clear .ensures)

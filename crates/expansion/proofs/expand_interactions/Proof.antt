@@ -11,11 +11,15 @@ use Rattle.expansion.proofs.expand_interactions.Statement.{statement}
 use Rattle.expansion.proofs.expand_interactions.Tie as tie
 
 -- The lists are made.
+abbrev start : tie.After-slice-known8 → tie.Start
+start c = c .before .before .before .before .before .before .before .before .before
+
 module _ (c : tie.After-expand-sheet-interactions) where
+  abbrev slices-known : tie.After-slice-known8
+  slices-known = c .before .before .before .before .before .before .before .before .before
+
   abbrev entry : tie.Start
-  entry =
-      c .before .before .before .before .before .before .before .before .before
-      .before .before .before .before .before .before .before .before .before
+  entry = start slices-known
 
   abbrev headers : List ℕ
   headers = c .expand-sheet-interactions .last .1 .1 .1 .0
@@ -35,7 +39,8 @@ module _ (c : tie.After-expand-sheet-interactions) where
   abbrev denom-terms : List ℕ
   denom-terms = c .expand-sheet-interactions .last .1 .1 .1 .1 .1 .1 .1 .1 .0
 
-  numerators : Kept (length (entry .args .headers .now)) (length (entry .args .variables .now)) (length (entry .args .terms .now)) headers variables terms
+  numerators : Kept (length (entry .args .headers .now)) (length (entry .args .variables .now)) (length (entry .args .terms .now))
+      headers variables terms
   numerators = record {
     headers-long = c .expand-sheet-interactions .kept .1 .1 .1 .0;
     variables-long = c .expand-sheet-interactions .kept .1 .1 .1 .1 .0;
@@ -43,7 +48,8 @@ module _ (c : tie.After-expand-sheet-interactions) where
   }
 
   denominators : let a = entry .args in
-      Kept (length (a .denom-headers .now)) (length (a .denom-variables .now)) (length (a .denom-terms .now)) denom-headers denom-variables denom-terms
+      Kept (length (a .denom-headers .now)) (length (a .denom-variables .now)) (length (a .denom-terms .now))
+      denom-headers denom-variables denom-terms
   denominators = record {
     headers-long = c .expand-sheet-interactions .kept .1 .1 .1 .1 .1 .1 .0;
     variables-long = c .expand-sheet-interactions .kept .1 .1 .1 .1 .1 .1 .1 .0;
@@ -51,17 +57,15 @@ module _ (c : tie.After-expand-sheet-interactions) where
   }
 
 -- All is zeroed but the lists.
-module _ (c : tie.After-zero-all-arg2) where
+module _ (c : tie.After-slice-known17) where
   abbrev work-zeroed : tie.After-zero-all
-  work-zeroed = c .before .before .before
+  work-zeroed = c .before .before
 
   abbrev lengths : tie.After-both-lengths
   lengths = work-zeroed .before .before
 
   abbrev expanded : tie.After-expand-sheet-interactions
-  expanded =
-      lengths .before .before .before .before .before .before .before .before .before
-      .before .before .before .before .before .before .before .before
+  expanded = lengths .before .before .before .before .before .before .before .before .before .before .before .before .before .before .before .before .before
 
 abbrev pool-zeroed : tie.After-clear-behind-arg3 → tie.After-zero-all2
 pool-zeroed c = c .before .before .before .before .before
@@ -81,10 +85,10 @@ module _ (c : tie.After-slice-known24) where
   pool-done = pool-zeroed (numerators-cleared .before)
 
   abbrev work-done : tie.After-zero-all
-  work-done = work-zeroed (pool-done .before)
+  work-done = work-zeroed (pool-done .before .before)
 
   abbrev made : tie.After-expand-sheet-interactions
-  made = expanded (pool-done .before)
+  made = expanded (pool-done .before .before)
 
 expand-sheet-interactions-requires : tie.Need-expand-sheet-interactions-requires
 expand-sheet-interactions-requires c κs = search needs
@@ -132,12 +136,13 @@ returns : tie.Need-returns
 returns c =
     let expand = made c .expand-sheet-interactions in
     let a = entry (made c) .args in
-    let kept = lengths (pool-done c .before) .both-lengths in
+    let kept = lengths (pool-done c .before .before) .both-lengths in
     let zero-work = work-done c .zero-all in
     let zero-pool = pool-done c .zero-all2 in
     let clear = numerators-cleared c .clear-behind in
     let clear-denominators = both-cleared c .clear-behind2 in
-    interaction-done (a .s .now) (length (a .work .now)) (length (a .pool .now)) (expand .result) (numerators (made c)) (denominators (made c))
+    interaction-done (a .s .now) (length (a .work .now)) (length (a .pool .now)) (expand .result)
+    (numerators (made c)) (denominators (made c))
     (expand .ensures .0) (expand .ensures .1) (kept .result) (kept .ensures) (zero-work .last .0) (zero-pool .last .0)
     (zeroed-again (zero-work .ensures) (expand .kept .1 .0)) (zeroed-again (zero-pool .ensures) (expand .kept .1 .1 .0))
     (clear .last .0) (clear .last .1 .0) (clear .last .1 .1 .0) (clear .ensures)

@@ -1,3 +1,4 @@
+-- Both words are brought below the prime first, which does not change their sum.
 use borrow.Author.Needs.{needs}
 use mathlib.Core.Path.{_∙_}
 use Rattle.semantics.specs.Arithmetic.{prime, addM}
@@ -15,7 +16,8 @@ add-requires : tie.Need-add-requires
 add-requires c κs = search needs
 
 returns : tie.Need-returns
-returns c = c .add .ensures ∙ (λ i. addM prime (c .before .before .reduced .ensures i) (c .before .reduced2 .ensures i)) ∙ add-rests prime _ _
+returns c =
+    c .add .ensures ∙ (λ i. addM prime (c .before .before .reduced .ensures i) (c .before .reduced2 .ensures i)) ∙ add-rests prime _ _
 
 pub add-spec : {M : Type 1} → statement M
 add-spec = tie.close (tie.spec reduced-requires reduced-requires-2 add-requires returns)

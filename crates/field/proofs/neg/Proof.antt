@@ -1,3 +1,4 @@
+-- The word is brought below the prime first, which does not change its negative.
 use borrow.Author.Needs.{needs}
 use mathlib.Core.Path.{_∙_, ap}
 use Rattle.semantics.specs.Arithmetic.{prime, negM}

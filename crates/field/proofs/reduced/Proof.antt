@@ -1,3 +1,4 @@
+-- A word below the prime is its own remainder; any other is brought there by a product with 1.
 use borrow.Author.Needs.{needs}
 use mathlib.Core.Path.{_∙_}
 use Rattle.semantics.specs.Arithmetic.{prime}

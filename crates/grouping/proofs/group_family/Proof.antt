@@ -77,9 +77,11 @@ module _ (c : tie.After-known-told2) where
   abbrev lengths : Lengths
   lengths = c .before .fit .given .0 .0
 
-  fits : Fits (words room-start) (pool room-start) (roots room-start) (wide room-start) (rows told) (headers told) (room-start .args .variables .now) (room-start .args .terms .now) lengths
+  fits : Fits (words room-start) (pool room-start) (roots room-start) (wide room-start) (rows told) (headers told)
+      (room-start .args .variables .now) (room-start .args .terms .now) lengths
   fits =
-      fit-fits (rowed told) (wide room-start) (width-known measured .width-of .ensures) (room-start .args .variables .now) (room-start .args .terms .now)
+      fit-fits (rowed told) (wide room-start) (width-known measured .width-of .ensures)
+      (room-start .args .variables .now) (room-start .args .terms .now)
       (measured .room-for .result) (measured .room-for .ensures) (c .before .fit .given .1)
 
 -- The slices are ready for the terms.
@@ -189,7 +191,8 @@ returns-3 c =
     let p = placed (finished c .before) in
     let place = p .place-family in
     let s = ready (p .before) in
-    fit-written (started s) (place .last .1 .1 .0) (place .last .1 .1 .1 .1 .1 .0) (place .ensures) (finish .last .0) (finish .last .1 .1 .1 .0)
+    fit-written (started s) (place .last .1 .1 .0) (place .last .1 .1 .1 .1 .1 .0) (place .ensures)
+    (finish .last .0) (finish .last .1 .1 .1 .0)
     (finish .kept .0 ∙ place .kept .1 .1 .0 ∙ s .start-groups .kept .0)
     (finish .kept .1 .1 .1 .0)
     (place .kept .1 .1 .1 .1 .1 .0 ∙ s .start-groups .kept .1 .1 .1 .0)

@@ -1,4 +1,5 @@
--- The terms are zeroed, then each row gets the place where its terms start; so no term is placed, and there is room for as many as are counted.
+-- The terms are zeroed, then each row gets the place where its terms start. So no term is placed, and there is room for as many as are
+-- counted.
 use mathlib.Core.Path.{sym, subst}
 use mathlib.Core.List.{List}
 use Prim.Native.Nat.{ℕ, _*_, _≤_}

@@ -119,7 +119,8 @@ module _ {M : Type 1} (𝓤 : URA M) (H : Heap 𝓤) (A : Atoms 𝓤) (W : Given
       (ends-at 𝓤 H A f.ended stayed (f.clauses 𝓤 H A at-mem run) W (((κ, tt), (q, tt), tt, args, vals), tt) vunit tt (ys, (tt, (tt, tt)))
       (l, (tt, (tt, tt)))) $ says ! e $
       nothing ! $ move ! (3 ∷ 0 ∷ []) $ join ! $ frame ! $
-      fjoin ! $ pureI ! (at-slice R (lent ys) (s ∷ [])) (tt, (tt, tt)) (ap (λ (m : ℕ). sliceVal (b, o) m ∷ []) (sym l), subst (Room R) (sym l) room) $ fjoin ! $
+      fjoin ! $ pureI ! (at-slice R (lent ys) (s ∷ [])) (tt, (tt, tt))
+      (ap (λ (m : ℕ). sliceVal (b, o) m ∷ []) (sym l), subst (Room R) (sym l) room) $ fjoin ! $
       nothing ! $ owned ! u32 (Is u32) (uint-makes 𝓤 H A W w32) t _ (refl, t-fits) $ fjoin ! $
       owned ! u32 (Is u32) (uint-makes 𝓤 H A W w32) v _ (refl, v-fits) $ fjoin ! $
       move ! (1 ∷ 0 ∷ []) $ fjoin ! $ feqI ! (List Val) (vunit ∷ []) (vunit ∷ []) refl $ move ! (1 ∷ 0 ∷ []) $ done !
@@ -141,7 +142,8 @@ module _ {M : Type 1} (𝓤 : URA M) (H : Heap 𝓤) (A : Atoms 𝓤) (W : Given
     -- The memory at the start of a turn.
     abbrev At : Filling hs v t → List (Item 𝓤)
     At g =
-        ‵ (froom half l₁₁ 0) ∷ ‵ (fdies half l₁₁) ∷ ‵ (froom tyPtr l₁₀ 0) ∷ ‵ (fdies tyPtr l₁₀) ∷ ‵ (froom tyBool l₉ 0) ∷ ‵ (fdies tyBool l₉)
+        ‵ (froom half l₁₁ 0) ∷ ‵ (fdies half l₁₁) ∷ ‵ (froom tyPtr l₁₀ 0) ∷ ‵ (fdies tyPtr l₁₀) ∷ ‵ (froom tyBool l₉ 0)
+        ∷ ‵ (fdies tyBool l₉)
         ∷ ‵ (froom word l₈ 0) ∷ ‵ (fdies word l₈) ∷ ‵ (froom ref l₇ 0) ∷ ‵ (fdies ref l₇)
         ∷ ‵ (fat fullShare word l₆ 0 (vint w64 (g .i))) ∷ ‵ (fdies word l₆)
         ∷ ‵ (fat fullShare half l₅ 0 (vint w32 (g .terms))) ∷ ‵ (fdies half l₅)
@@ -182,44 +184,60 @@ module _ {M : Type 1} (𝓤 : URA M) (H : Heap 𝓤) (A : Atoms 𝓤) (W : Given
 
     spelled-filled : (g : Filling hs v t) → Spelled (pass.here hs v t g) → Spelled (pass.filled hs v t g)
     spelled-filled g was =
-        structs.owes header.the-type header-laws.the-laws (pass.filled hs v t g)
-        ((refl, vars-fit g), ((refl, terms-fit g), structs.owed header.the-type header-laws.the-laws (pass.here hs v t g) (spelled (pass.here hs v t g)) was .1 .1))
+        structs.owes header.the-type header-laws.the-laws (pass.filled hs v t g) (
+          (refl, vars-fit g),
+          (
+            (refl, terms-fit g),
+            structs.owed header.the-type header-laws.the-laws (pass.here hs v t g)
+                (spelled (pass.here hs v t g)) was .1 .1,
+          ),
+        )
 
     more : (g : Filling hs v t) → g .i < n → ent 𝓤 (⋆ 𝓤 H A (At g)) (Wp 𝓤 H (𝓣 .C) (𝓣 .Λ) En mirs.turn-1 (Turn g))
     unfolding afterTurn
     more g less =
         qed W (At g) ∵ exec ! (𝓣 .C) (𝓣 .Λ) En mirs.turn-1 (anyQ (Turn g)) $
-        assigns ! (of-opd ! (load ! (from ! (fld ! refl (stop !))) (look-in ! 20 (sub ! 1 refl (whole !))))) (from ! (stop !)) (init ! 6 refl (tt, record { fits = room .0 })) $
-        assigns ! (bin ! (load ! (from ! (stop !)) (look ! 10 refl)) (load ! (from ! (stop !)) (look ! 6 refl)) tt) (from ! (stop !)) (init ! 4 refl (tt, tt)) $
+        assigns ! (of-opd ! (load ! (from ! (fld ! refl (stop !))) (look-in ! 20 (sub ! 1 refl (whole !))))) (from ! (stop !))
+        (init ! 6 refl (tt, record { fits = room .0 })) $
+        assigns ! (bin ! (load ! (from ! (stop !)) (look ! 10 refl)) (load ! (from ! (stop !)) (look ! 6 refl)) tt)
+        (from ! (stop !)) (init ! 4 refl (tt, tt)) $
         rewrite ! 4 (λ (y : Bool). ‵ (fat fullShare tyBool l₉ 0 (vbool y))) (lt-ltb (g .i) n less) refl $
         stays ! (load ! (from ! (stop !)) (look ! 4 refl)) $
         -- the place of header i
         assigns ! (bin ! (load ! (from ! (stop !)) (look ! 10 refl)) (lit ! tt) (record { fits = place-fits g less })) (from ! (stop !))
         (store ! 6 refl (tt, record { fits = place-fits g less })) $
-        assigns ! (bin ! (load ! (from ! (fld ! refl (stop !))) (look-in ! 20 (sub ! 0 refl (whole !)))) (load ! (from ! (stop !)) (look ! 6 refl)) tt) (from ! (stop !))
+        assigns ! (bin ! (load ! (from ! (fld ! refl (stop !))) (look-in ! 20 (sub ! 0 refl (whole !))))
+        (load ! (from ! (stop !)) (look ! 6 refl)) tt) (from ! (stop !))
         (init ! 2 refl (tt, tt)) $
         rewrite ! 2 (λ (p : ℕ). ‵ (fat fullShare tyPtr l₁₀ 0 (vptr b p))) (sym (place-is 16 o (g .i))) refl $
         assigns ! (addr ! (from ! (hop ! (look ! 2 refl) (stop !)))) (from ! (stop !)) (init ! 8 refl (tt, tt)) $
         -- header i is taken out
         move ! (24 ∷ 25 ∷ 26 ∷ []) $ opens-slice ! tt R (g .ys) b o $
-        elem-out ! R (Is R) (shows 𝓤 H A R) spelled (structs.tells header.the-type header-laws.the-laws) fullShare (g .ys) (g .i) noHeader b o (pass.within hs v t g less) (λ was.
+        elem-out ! R (Is R) (shows 𝓤 H A R) spelled (structs.tells header.the-type header-laws.the-laws) fullShare (g .ys) (g .i)
+        noHeader b o (pass.within hs v t g less) (λ was.
         -- its offsets are stored
         assigns ! (of-opd ! (load ! (from ! (stop !)) (look ! 20 refl))) (from ! (hop ! (look ! 14 refl) (fld ! refl (stop !))))
         (store-in ! 0 (sub ! 0 refl (whole !)) (tt, record { fits = vars-fit g })) $
         assigns ! (of-opd ! (load ! (from ! (stop !)) (look ! 18 refl))) (from ! (hop ! (look ! 14 refl) (fld ! refl (stop !))))
         (store-in ! 0 (sub ! 1 refl (whole !)) (tt, record { fits = terms-fit g })) $
         -- its numbers are added to the totals
-        assigns ! (of-opd ! (load ! (from ! (hop ! (look ! 14 refl) (fld ! refl (stop !)))) (look-in ! 0 (sub ! 2 refl (whole !))))) (from ! (stop !))
+        assigns ! (of-opd ! (load ! (from ! (hop ! (look ! 14 refl) (fld ! refl (stop !))))
+        (look-in ! 0 (sub ! 2 refl (whole !))))) (from ! (stop !))
         (init ! 6 refl (tt, record { fits = numbers-fit g was .0 })) $
-        assigns ! (bin ! (load ! (from ! (stop !)) (look ! 20 refl)) (load ! (from ! (stop !)) (look ! 6 refl)) (record { fits = pass.vars-next hs v t g less })) (from ! (stop !))
+        assigns ! (bin ! (load ! (from ! (stop !)) (look ! 20 refl)) (load ! (from ! (stop !)) (look ! 6 refl))
+        (record { fits = pass.vars-next hs v t g less })) (from ! (stop !))
         (store ! 20 refl (tt, record { fits = pass.vars-next hs v t g less })) $
-        assigns ! (of-opd ! (load ! (from ! (hop ! (look ! 14 refl) (fld ! refl (stop !)))) (look-in ! 0 (sub ! 3 refl (whole !))))) (from ! (stop !))
+        assigns ! (of-opd ! (load ! (from ! (hop ! (look ! 14 refl) (fld ! refl (stop !))))
+        (look-in ! 0 (sub ! 3 refl (whole !))))) (from ! (stop !))
         (store ! 6 refl (tt, record { fits = numbers-fit g was .1 })) $
-        assigns ! (bin ! (load ! (from ! (stop !)) (look ! 18 refl)) (load ! (from ! (stop !)) (look ! 6 refl)) (record { fits = pass.terms-next hs v t g less })) (from ! (stop !))
+        assigns ! (bin ! (load ! (from ! (stop !)) (look ! 18 refl)) (load ! (from ! (stop !)) (look ! 6 refl))
+        (record { fits = pass.terms-next hs v t g less })) (from ! (stop !))
         (store ! 18 refl (tt, record { fits = pass.terms-next hs v t g less })) $
         -- it is put back
-        move ! (1 ∷ []) $ drop ! $ owned ! R (Is R) (structs.makes header.the-type header-laws.the-plain 𝓤 H A) (pass.filled hs v t g) _ (spelled-filled g was) $
-        move ! (1 ∷ 0 ∷ []) $ elem-put ! R fullShare (g .ys) (g .i) (pass.filled hs v t g) (spelled (pass.filled hs v t g)) b o (pass.within hs v t g less) $
+        move ! (1 ∷ []) $ drop ! $
+        owned ! R (Is R) (structs.makes header.the-type header-laws.the-plain 𝓤 H A) (pass.filled hs v t g) _ (spelled-filled g was) $
+        move ! (1 ∷ 0 ∷ []) $
+        elem-put ! R fullShare (g .ys) (g .i) (pass.filled hs v t g) (spelled (pass.filled hs v t g)) b o (pass.within hs v t g less) $
         closes-slice ! tt R (g .ys) (pass.next-list hs v t g) (length-set (g .ys) (g .i) (pass.filled hs v t g)) b o $
         -- i is one more, and the turn is over
         assigns-last ! (bin ! (load ! (from ! (stop !)) (look ! 13 refl)) (lit ! tt) (record { fits = next-fits g less })) (from ! (stop !))
@@ -232,15 +250,20 @@ module _ {M : Type 1} (𝓤 : URA M) (H : Heap 𝓤) (A : Atoms 𝓤) (W : Given
     unfolding afterTurn
     ends g over =
         qed W (At g) ∵ exec ! (𝓣 .C) (𝓣 .Λ) En mirs.turn-1 (anyQ (Turn g)) $
-        assigns ! (of-opd ! (load ! (from ! (fld ! refl (stop !))) (look-in ! 20 (sub ! 1 refl (whole !))))) (from ! (stop !)) (init ! 6 refl (tt, record { fits = room .0 })) $
-        assigns ! (bin ! (load ! (from ! (stop !)) (look ! 10 refl)) (load ! (from ! (stop !)) (look ! 6 refl)) tt) (from ! (stop !)) (init ! 4 refl (tt, tt)) $
+        assigns ! (of-opd ! (load ! (from ! (fld ! refl (stop !))) (look-in ! 20 (sub ! 1 refl (whole !))))) (from ! (stop !))
+        (init ! 6 refl (tt, record { fits = room .0 })) $
+        assigns ! (bin ! (load ! (from ! (stop !)) (look ! 10 refl)) (load ! (from ! (stop !)) (look ! 6 refl)) tt)
+        (from ! (stop !)) (init ! 4 refl (tt, tt)) $
         rewrite ! 4 (λ (y : Bool). ‵ (fat fullShare tyBool l₉ 0 (vbool y))) (le-ltb (g .i) n over) refl $
         leaves-loop ! (load ! (from ! (stop !)) (look ! 4 refl)) $ exec ! (𝓣 .C) (𝓣 .Λ) En rest (atRet En Post) $
         assigns ! (of-opd ! (unit-lit !)) (from ! (stop !)) (init ! 22 refl (tt, tt)) $
         returns ! (look ! 22 refl) $
-        forget ! 4 refl $ forget ! 6 refl $ forget ! 10 refl $ forget ! 12 refl $ forget ! 14 refl $ forget ! 16 refl $ forget ! 18 refl $ forget ! 20 refl $ forget ! 22 refl $
-        move ! (22 ∷ 23 ∷ []) $ free1 ! $ move ! (20 ∷ 21 ∷ []) $ free1 ! $ move ! (18 ∷ 19 ∷ []) $ free1 ! $ move ! (16 ∷ 17 ∷ []) $ free1 ! $
-        move ! (14 ∷ 15 ∷ []) $ free1 ! $ move ! (12 ∷ 13 ∷ []) $ free1 ! $ move ! (10 ∷ 11 ∷ []) $ free1 ! $ move ! (8 ∷ 9 ∷ []) $ free1 ! $
+        forget ! 4 refl $ forget ! 6 refl $ forget ! 10 refl $ forget ! 12 refl $ forget ! 14 refl $ forget ! 16 refl $
+        forget ! 18 refl $ forget ! 20 refl $ forget ! 22 refl $
+        move ! (22 ∷ 23 ∷ []) $ free1 ! $ move ! (20 ∷ 21 ∷ []) $ free1 ! $ move ! (18 ∷ 19 ∷ []) $ free1 ! $
+        move ! (16 ∷ 17 ∷ []) $ free1 ! $
+        move ! (14 ∷ 15 ∷ []) $ free1 ! $ move ! (12 ∷ 13 ∷ []) $ free1 ! $ move ! (10 ∷ 11 ∷ []) $ free1 ! $
+        move ! (8 ∷ 9 ∷ []) $ free1 ! $
         move ! (6 ∷ 7 ∷ []) $ free1 ! $ move ! (4 ∷ 5 ∷ []) $ free1 ! $ move ! (2 ∷ 3 ∷ []) $ free1 ! $ free1 ! $ free0 ! $
         by ! (exits (g .ys) (g .len) (pass.done hs v t g over))
 
@@ -266,25 +289,31 @@ module _ {M : Type 1} (𝓤 : URA M) (H : Heap 𝓤) (A : Atoms 𝓤) (W : Given
       -- the borrow and the token, out of what is owned at entry
       move ! (25 ∷ []) $ fsplit ! $ fsplit ! $ drop ! $ fsplit ! $ move ! (27 ∷ []) $ split ! $
       keep ! (5 ∷ 6 ∷ 7 ∷ 8 ∷ 9 ∷ 10 ∷ 11 ∷ 12 ∷ 13 ∷ 14 ∷ 15 ∷ 16 ∷ 17 ∷ 18 ∷ 19 ∷ 20 ∷ 21 ∷ 22 ∷ 23 ∷ 24 ∷ 25 ∷ 26 ∷ 27 ∷ 28 ∷ 2 ∷ 3 ∷ 0 ∷ []) $
-      first ! $ blocks ! $ loops ! 𝓣 Nearer Nearer-wf (At 𝓣 l₀ l₁ l₂ l₃ l₄ l₅ l₆ l₇ l₈ l₉ l₁₀ l₁₁) (turns 𝓣 l₀ l₁ l₂ l₃ l₄ l₅ l₆ l₇ l₈ l₉ l₁₀ l₁₁)
+      first ! $ blocks ! $
+      loops ! 𝓣 Nearer Nearer-wf (At 𝓣 l₀ l₁ l₂ l₃ l₄ l₅ l₆ l₇ l₈ l₉ l₁₀ l₁₁) (turns 𝓣 l₀ l₁ l₂ l₃ l₄ l₅ l₆ l₇ l₈ l₉ l₁₀ l₁₁)
       (pass.start hs v t pv pt)))))))))))))
 
 module _ {M : Type 1} (𝓤 : URA M) (H : Heap 𝓤) (A : Atoms 𝓤) (W : Given 𝓤 H A) (at-mem : Memory → SProp 𝓤) (run : Routine → Fun 𝓤) where
   walks : (𝓣 : Tables 𝓤 H) → Walks 𝓤 H A f.ended stayed (WpFn 𝓤 H (𝓣 .C) (𝓣 .Λ) code.function) (f.clauses 𝓤 H A at-mem run)
   walks 𝓣 =
       walked 𝓤 H A f.ended stayed (f.clauses 𝓤 H A at-mem run) (WpFn 𝓤 H (𝓣 .C) (𝓣 .Λ) code.function)
-      (λ κs. (slice-vals, (uint-vals w32, (uint-vals w32, tt)))) (λ κs. (mut-slice-tells (named 0) (κs .0) R, (uint-tells w32, (uint-tells w32, tt))))
+      (λ κs. (slice-vals, (uint-vals w32, (uint-vals w32, tt))))
+      (λ κs. (mut-slice-tells (named 0) (κs .0) R, (uint-tells w32, (uint-tells w32, tt))))
       (λ κs qs bounds a g are.
       needs 𝓤 ((a .1 .0 + columnTotal numVars (a .0 .now) ≤ 4294967295) × (a .1 .1 .0 + columnTotal numTerms (a .0 .now) ≤ 4294967295)) _ (λ pre.
       walk 𝓤 H A W at-mem run (κs .0) (qs .0) (a .0 .ptr .0) (a .0 .ptr .1) (a .0 .name) (a .0 .now) (a .1 .0) (a .1 .1 .0) (are .1 .0 .1) (are .1 .1 .0 .1) (are .0 .0 .1)
       𝓣 (pre .0) (pre .1)))
 
   goes : AllGo 𝓤 H A W 1 (f.signature .params) (f.ended .kept) stayed
-  goes = (goes-slice 𝓤 H A W 1 0 tt (plain (λ _. R)), (goes-none 𝓤 H A W 1 (λ _. u32) yes (λ κs x f. refl), (goes-none 𝓤 H A W 1 (λ _. u32) yes (λ κs x f. refl), tt)))
+  goes = (
+    goes-slice 𝓤 H A W 1 0 tt (plain (λ _. R)),
+    (goes-none 𝓤 H A W 1 (λ _. u32) yes (λ κs x f. refl), (goes-none 𝓤 H A W 1 (λ _. u32) yes (λ κs x f. refl), tt)),
+  )
 
   meets : (𝓣 : Tables 𝓤 H) → Meets 𝓤 H A f.signature (WpFn 𝓤 H (𝓣 .C) (𝓣 .Λ) code.function) (f.spec 𝓤 H A at-mem run)
   meets 𝓣 =
-      walk-meets 𝓤 H A f.ended stayed W goes (f.clauses 𝓤 H A at-mem run) (WpFn 𝓤 H (𝓣 .C) (𝓣 .Λ) code.function) (WpFn-mono 𝓤 H (W .laws) 𝓣 code.function) (walks 𝓣)
+      walk-meets 𝓤 H A f.ended stayed W goes (f.clauses 𝓤 H A at-mem run) (WpFn 𝓤 H (𝓣 .C) (𝓣 .Λ) code.function)
+      (WpFn-mono 𝓤 H (W .laws) 𝓣 code.function) (walks 𝓣)
 
 pub fill-offsets-spec : {M : Type 1} → stated.statement M
 unfolding code.routine tablesOf

@@ -33,7 +33,8 @@ module _ (c : tie.After-group-counts) where
   abbrev terms : List ℕ
   terms = c .group-counts .last .1 .1 .1 .1 .0
 
-  numerators : Kept (length (start .args .headers .now)) (length (start .args .variables .now)) (length (start .args .terms .now)) headers variables terms
+  numerators : Kept (length (start .args .headers .now)) (length (start .args .variables .now)) (length (start .args .terms .now))
+      headers variables terms
   numerators = record {
     headers-long = c .group-counts .kept .1 .1 .0;
     variables-long = c .group-counts .kept .1 .1 .1 .0;
@@ -64,7 +65,8 @@ module _ (c : tie.After-group-fields) where
   denom-terms = c .group-fields .last .1 .1 .1 .1 .0
 
   denominators : let a = entry .args in
-      Kept (length (a .denom-headers .now)) (length (a .denom-variables .now)) (length (a .denom-terms .now)) denom-headers denom-variables denom-terms
+      Kept (length (a .denom-headers .now)) (length (a .denom-variables .now)) (length (a .denom-terms .now))
+      denom-headers denom-variables denom-terms
   denominators = record {
     headers-long = c .group-fields .kept .1 .1 .0;
     variables-long = c .group-fields .kept .1 .1 .1 .0;
@@ -166,7 +168,8 @@ interactions-at-requires c κs = entry (fields-written c) .pre .0 .checked
 max-fields-len-requires : tie.Need-max-fields-len-requires
 max-fields-len-requires c κs =
     let s = entry (fields-written (c .before)) in
-    interactions-there (words s) (s .pre .0 .checked) (c .interactions-at .result) (s .args .interactions) (c .interactions-at .ensures) (s .pre .2)
+    interactions-there (words s) (s .pre .0 .checked) (c .interactions-at .result) (s .args .interactions)
+    (c .interactions-at .ensures) (s .pre .2)
 
 same-length-10 : tie.Need-same-length-10
 same-length-10 c = search needs
@@ -199,7 +202,8 @@ returns-3 c =
     (g .group-counts .result) (counts .0 .0) (g .group-counts .ensures) (counts .1)
     (f .group-fields .result) (lists .0 .0) (f .group-fields .ensures) (lists .1)
     (s .args .interactions) (c .max-fields-len .result) (s .pre .2)
-    (c .max-fields-len .ensures ∙ longest-is (words s) (s .pre .0 .checked) (at .result) (s .args .interactions) (at .ensures) (s .pre .2)) _ refl
+    (c .max-fields-len .ensures
+    ∙ longest-is (words s) (s .pre .0 .checked) (at .result) (s .args .interactions) (at .ensures) (s .pre .2)) _ refl
 
 pub group-interactions-spec : {M : Type 1} → statement M
 group-interactions-spec =

@@ -36,7 +36,8 @@ loop-again c =
     let turn = c .before .before in
     let l = turn .before .loop in
     looking-more (l .inv) (turn .loop-test .taken) (c .larger .result) (read .result .next)
-    (c .larger .ensures ∙ ap (λ (y : Interaction). max (l .most) (y .message)) (read .ensures)) (ap (λ (y : Interaction). y .next) (read .ensures))
+    (c .larger .ensures ∙ ap (λ (y : Interaction). max (l .most) (y .message)) (read .ensures))
+    (ap (λ (y : Interaction). y .next) (read .ensures))
 
 returns : tie.Need-returns Inv-loop μ-loop
 returns c = looking-done (c .before .loop .inv) (c .loop-test .left)

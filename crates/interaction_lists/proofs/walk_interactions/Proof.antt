@@ -74,7 +74,8 @@ module _ (c : tie.After-interactions-at) where
 
   interactions-in : AllRootsInside (length (recordsOf (words entry))) (words entry) at (entry .args .interactions)
   interactions-in =
-      interactions-there (words entry) (sheet-is entry .checked) at (entry .args .interactions) (c .interactions-at .ensures) (sheet-is entry .interactions-are)
+      interactions-there (words entry) (sheet-is entry .checked) at (entry .args .interactions) (c .interactions-at .ensures)
+      (sheet-is entry .interactions-are)
 
 -- The counts are expanded.
 module _ (c : tie.After-expand-counts) where
@@ -147,7 +148,8 @@ returns c =
     let s = origin e in
     ends l _ (counts-pool e) (e .expand-counts .result)
     (first-refused (words s) (sheet-is s .checked) (s .args .work .now) (front l ++ rest s) (heads s) (walking l)
-    (counted-roots s) (listed-roots s) (counts-below (words s) (sheet-is s .checked)) (counts-work e) (counts-pool e) (e .expand-counts .result)
+    (counted-roots s) (listed-roots s) (counts-below (words s) (sheet-is s .checked)) (counts-work e) (counts-pool e)
+    (e .expand-counts .result)
     (counts-visited e) (c .enum-told .given .0 .0) (c .enum-told .given .1))
 
 expand-fields-requires : tie.Need-expand-fields-requires
@@ -157,7 +159,8 @@ expand-fields-requires c κs =
     let l = located e in
     let s = origin e in (
       second-walking (words s) (sheet-is s .checked) (s .args .work .now) (front l ++ rest s) (heads s) (walking l)
-          (counted-roots s) (listed-roots s) (counts-below (words s) (sheet-is s .checked)) (counts-work e) (counts-pool e) (e .expand-counts .result)
+          (counted-roots s) (listed-roots s) (counts-below (words s) (sheet-is s .checked)) (counts-work e) (counts-pool e)
+          (e .expand-counts .result)
           (counts-visited e) (t .before .counted .given .0 .0) (t .before .counted .given .1)
           (e .expand-counts .kept .1 .1 .1 .0) (e .expand-counts .kept .1 .1 .1 .1 .0),
       interactions-in l,
@@ -184,7 +187,8 @@ returns-2 c =
     (expand .ensures) in
     ends l _ pool (expand .result)
     (both-walked (words s) (sheet-is s .checked) (s .args .work .now) (front l ++ rest s) (heads s) (walking l)
-    (counted-roots s) (listed-roots s) (counts-below (words s) (sheet-is s .checked)) (counts-work e) (counts-pool e) (e .expand-counts .result)
+    (counted-roots s) (listed-roots s) (counts-below (words s) (sheet-is s .checked)) (counts-work e) (counts-pool e)
+    (e .expand-counts .result)
     (counts-visited e) used (t .before .counted .given .1) pool (expand .result) fields-visited)
 
 pub walk-interactions-spec : {M : Type 1} → statement M

@@ -1,3 +1,4 @@
+-- A sum of two values is below p, or below p once p is taken from it.
 use borrow.Author.Needs.{needs}
 use Rattle.field.proofs.Laws.{add-low, add-high}
 use Rattle.field.proofs.modular.add.Statement.{statement}

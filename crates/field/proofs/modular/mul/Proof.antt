@@ -1,3 +1,4 @@
+-- A product of two words has room in 64 bits, and its remainder in 32.
 use borrow.Author.Needs.{needs}
 use mathlib.Core.Path.{refl}
 use Prim.Native.Nat.{_*_}

@@ -1,3 +1,4 @@
+-- Zero is its own negative.
 use borrow.Author.Needs.{needs}
 use Rattle.field.proofs.Laws.{neg-none, neg-some}
 use Rattle.field.proofs.modular.neg.Statement.{statement}

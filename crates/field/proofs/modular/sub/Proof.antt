@@ -1,3 +1,4 @@
+-- A difference is taken where it stands, or with p added to it.
 use borrow.Author.Needs.{needs}
 use Rattle.field.proofs.Laws.{sub-low, sub-high}
 use Rattle.field.proofs.modular.sub.Statement.{statement}

@@ -40,8 +40,11 @@ module _ (c : tie.After-num-interactions) where
   abbrev count-start : tie.Start
   count-start = start (count-told .before .before)
 
-  count-roots : eachRoots (countRootAt (words count-start)) (words count-start) 0 (c .before .interactions-at .result) (c .num-interactions .result) ≡ roots count-start
-  count-roots = count-labelled (words count-start) (count-start .pre .0) (c .before .interactions-at .ensures) (c .num-interactions .ensures) (count-told .enum-told2 .given .1)
+  count-roots : eachRoots (countRootAt (words count-start)) (words count-start) 0
+      (c .before .interactions-at .result) (c .num-interactions .result) ≡ roots count-start
+  count-roots =
+      count-labelled (words count-start) (count-start .pre .0) (c .before .interactions-at .ensures)
+      (c .num-interactions .ensures) (count-told .enum-told2 .given .1)
 
 -- The roots of the interactions' fields.
 module _ (c : tie.After-num-interactions2) where
@@ -51,8 +54,11 @@ module _ (c : tie.After-num-interactions2) where
   abbrev field-start : tie.Start
   field-start = start (field-told .before .before)
 
-  field-roots : eachRoots (fieldRootsAt (words field-start)) (words field-start) 0 (c .before .interactions-at2 .result) (c .num-interactions2 .result) ≡ roots field-start
-  field-roots = field-labelled (words field-start) (field-start .pre .0) (c .before .interactions-at2 .ensures) (c .num-interactions2 .ensures) (field-told .enum-told3 .given .1)
+  field-roots : eachRoots (fieldRootsAt (words field-start)) (words field-start) 0
+      (c .before .interactions-at2 .result) (c .num-interactions2 .result) ≡ roots field-start
+  field-roots =
+      field-labelled (words field-start) (field-start .pre .0) (c .before .interactions-at2 .ensures)
+      (c .num-interactions2 .ensures) (field-told .enum-told3 .given .1)
 
 abbrev constraint-placed : tie.After-slice-known4 → tie.After-place-constraints
 constraint-placed c = c .before .before .before .before
@@ -129,7 +135,8 @@ returns c =
     let ready = constraint-placed c .before in
     let n = ready .before .before in
     let a = constraint-start n .args in
-    named-placed (ap isInteraction (constraint-told n .enum-told .given .1)) (constraint-roots n) (a .n) (a .pool .now) (a .headers .now) (a .terms .now)
+    named-placed (ap isInteraction (constraint-told n .enum-told .given .1)) (constraint-roots n)
+    (a .n) (a .pool .now) (a .headers .now) (a .terms .now)
     (place .last .1 .1 .1 .0) (place .last .1 .1 .1 .1 .1 .1 .0) (place .ensures)
 
 same-length-3 : tie.Need-same-length-3
@@ -144,7 +151,8 @@ returns-2 c =
     let ready = count-placed c .before in
     let n = ready .before .before in
     let a = count-start n .args in
-    named-placed (ap isInteraction (count-told n .enum-told2 .given .1)) (count-roots n) (a .n) (a .pool .now) (a .headers .now) (a .terms .now)
+    named-placed (ap isInteraction (count-told n .enum-told2 .given .1)) (count-roots n)
+    (a .n) (a .pool .now) (a .headers .now) (a .terms .now)
     (place .last .1 .1 .1 .0) (place .last .1 .1 .1 .1 .1 .1 .0) (place .ensures)
 
 same-length-5 : tie.Need-same-length-5
@@ -159,7 +167,8 @@ returns-3 c =
     let ready = field-placed c .before in
     let n = ready .before .before in
     let a = field-start n .args in
-    named-placed (ap isInteraction (field-told n .enum-told3 .given .1)) (field-roots n) (a .n) (a .pool .now) (a .headers .now) (a .terms .now)
+    named-placed (ap isInteraction (field-told n .enum-told3 .given .1)) (field-roots n)
+    (a .n) (a .pool .now) (a .headers .now) (a .terms .now)
     (place .last .1 .1 .1 .0) (place .last .1 .1 .1 .1 .1 .1 .0) (place .ensures)
 
 pub place-family-spec : {M : Type 1} → statement M

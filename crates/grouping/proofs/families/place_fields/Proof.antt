@@ -64,7 +64,8 @@ loop-again c =
     let place = placed c .place-references in
     let r = read (placed c .before) in
     let t = r .before in
-    each-roots-more (t .before .loop .inv) (t .loop-test .taken) (field-roots-taken (entry t .args .sheet .now)) (r .interaction-at .ensures)
+    each-roots-more (t .before .loop .inv) (t .loop-test .taken) (field-roots-taken (entry t .args .sheet .now))
+    (r .interaction-at .ensures)
     (place .kept .1 .1 .1 .1 .0) (place .kept .1 .1 .1 .1 .1 .1 .1 .0) (place .ensures)
 
 same-length : tie.Need-same-length Inv-loop μ-loop

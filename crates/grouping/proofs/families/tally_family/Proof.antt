@@ -45,7 +45,8 @@ module _ (c : tie.After-num-interactions) where
   abbrev count-start : tie.Start
   count-start = start (count-told .before .before)
 
-  count-words : countWords (words count-start) (c .before .interactions-at .result) (c .num-interactions .result) ≡ nodesOf (roots count-start)
+  count-words : countWords (words count-start) (c .before .interactions-at .result) (c .num-interactions .result)
+      ≡ nodesOf (roots count-start)
   count-words =
       count-references (words count-start) (count-start .pre .0 .checked) (c .before .interactions-at .ensures) (c .num-interactions .ensures) (count-told .enum-told2 .given .1)
 
@@ -57,7 +58,8 @@ module _ (c : tie.After-num-interactions2) where
   abbrev field-start : tie.Start
   field-start = start (field-told .before .before)
 
-  field-words : fieldWords (words field-start) (c .before .interactions-at2 .result) (c .num-interactions2 .result) ≡ nodesOf (roots field-start)
+  field-words : fieldWords (words field-start) (c .before .interactions-at2 .result) (c .num-interactions2 .result)
+      ≡ nodesOf (roots field-start)
   field-words =
       field-references (words field-start) (field-start .pre .0 .checked) (c .before .interactions-at2 .ensures) (c .num-interactions2 .ensures) (field-told .enum-told3 .given .1)
 

@@ -86,7 +86,8 @@ add-vars c =
     let n = counted (f .before) in
     record {
       fits =
-          vars-fit (turn n .loop .inv) (n .at-most-sixteen .ensures) (f .before .take-headers .ensures) (f .fill-sixteen .ensures) (entry n .pre .1);
+          vars-fit (turn n .loop .inv) (n .at-most-sixteen .ensures) (f .before .take-headers .ensures) (f .fill-sixteen .ensures)
+          (entry n .pre .1);
     }
 
 add-terms : tie.Need-add-terms Inv-loop μ-loop
@@ -95,7 +96,8 @@ add-terms c =
     let n = counted (f .before) in
     record {
       fits =
-          terms-fit (turn n .loop .inv) (n .at-most-sixteen .ensures) (f .before .take-headers .ensures) (f .fill-sixteen .ensures) (entry n .pre .2);
+          terms-fit (turn n .loop .inv) (n .at-most-sixteen .ensures) (f .before .take-headers .ensures)
+          (f .fill-sixteen .ensures) (entry n .pre .2);
     }
 
 add-i : tie.Need-add-i Inv-loop μ-loop

@@ -1,3 +1,4 @@
+-- The four words are written one by one.
 use native.Mathlib.Omega.{arith}
 use lib.ListN.{length-set}
 use borrow.Author.Needs.{needs}

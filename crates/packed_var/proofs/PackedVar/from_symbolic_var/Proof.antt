@@ -43,7 +43,8 @@ returns-2 c =
     let large = c .before in
     let m = large .before .before in
     entry-packs _ (c .refused2 .result) (m .entry .given .1)
-    (ap packedAnswer (c .refused2 .ensures) ∙ variable-faults _ _ _ _ (column-fits (m .before .before)) refl (lt-ltb _ _ (large .if2 .taken)) refl)
+    (ap packedAnswer (c .refused2 .ensures)
+    ∙ variable-faults _ _ _ _ (column-fits (m .before .before)) refl (lt-ltb _ _ (large .if2 .taken)) refl)
 
 refused-requires-3 : tie.Need-refused-requires-3
 refused-requires-3 c κs = search needs
@@ -110,7 +111,8 @@ returns-6 c =
     let offset = c .before in
     let preprocessed = offset .before .before in
     entry-packs _ (Var (c .new2 .result)) (preprocessed .entry2 .given .1)
-    (ap good (c .new2 .ensures) ∙ variable-faults _ _ _ _ (column-fits (preprocessed .before .before)) refl refl (le-ltb _ _ (offset .if4 .left)))
+    (ap good (c .new2 .ensures)
+    ∙ variable-faults _ _ _ _ (column-fits (preprocessed .before .before)) refl refl (le-ltb _ _ (offset .if4 .left)))
 
 returns-7 : tie.Need-returns-7
 returns-7 c =
