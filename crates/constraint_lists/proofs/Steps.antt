@@ -28,7 +28,7 @@ use Rattle.grouping.specs.declared.Grouped.the-variants as grouped
 use Rattle.constraint_lists.specs.declared.ConstraintLists.{ConstraintLists}
 use Rattle.constraint_lists.specs.declared.ConstraintLists.the-variants.{Refused}
 use Rattle.grouping.specs.Families.{groupsOf, Front, Laid}
-use Rattle.constraint_lists.specs.Lists.{expansionOf, constraintAnswer, constraintsIn, constraintsOf, ShortFew, Fit}
+use Rattle.constraint_lists.specs.Lists.{expandedRefusal, ListsFit, expansionOf, constraintAnswer, constraintsIn, constraintsOf, ShortFew, Fit}
 
 -- There are three slices.
 first-bound : (k : ℕ) (ws : List (List ℕ)) (ns : List ℕ) → firstShort (suc k) ws ns ≤ k + length ws
