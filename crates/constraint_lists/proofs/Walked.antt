@@ -10,6 +10,7 @@ use Rattle.semantics.specs.Check.{readSheet, check}
 use Rattle.semantics.specs.Walk.{Mem, Below, order}
 use Rattle.semantics.specs.Monomial.{listAt}
 use Rattle.semantics.specs.Group.{Root, constraintRoots}
+use Rattle.semantics.specs.Lists.{All}
 use Rattle.semantics.proofs.Members.{mem-here, mem-there}
 use Rattle.semantics.proofs.Orders.{order-roots}
 use Rattle.semantics.proofs.GraphSheets.{named-below}
