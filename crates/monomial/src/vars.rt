@@ -29,12 +29,12 @@ pub fn order_at(words: &[u32], at: usize, n: usize, other: &[u32], from: usize, 
     }
     let mut i: usize = 0;
     while i < n {
-        let x = words[at + i];
-        let y = other[from + i];
-        if x < y {
+        let x = PackedVar(words[at + i]);
+        let y = PackedVar(other[from + i]);
+        if x.below(y) {
             return Order::Before;
         }
-        if y < x {
+        if y.below(x) {
             return Order::After;
         }
         i += 1;

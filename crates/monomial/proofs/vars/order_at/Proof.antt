@@ -1,9 +1,11 @@
 -- Lists of one length are compared from the front. The loop's invariant: the variables passed are the same.
-use mathlib.Core.Path.{_≡_, refl}
+use mathlib.Core.Path.{_≡_, refl, sym, _∙_}
 use mathlib.Core.List.{List}
 use Prim.Native.Nat.{ℕ, _+_, _-_, _≤_}
 use native.Mathlib.Omega.{arith}
 use borrow.Author.Needs.{needs}
+use borrow.Author.Tests.{ltb-true, ltb-false}
+use lib.Dec.{ltb}
 use lib.ListN.{length, getD, take, drop, length-drop}
 use lib.Seq.{getD-drop}
 use Rattle.slices.proofs.Lists.{alike-more}
@@ -31,49 +33,65 @@ module _ (c : tie.Start Inv-loop μ-loop) where
   right-long : c .args .m ≤ length right
   right-long = omega (arith, length-drop (c .args .from) (c .args .other .now), c .pre)
 
--- A turn of the loop, and the variables that it compares.
+-- A turn of the loop, and the variables at i that it compares.
 abbrev entry : tie.At-loop Inv-loop μ-loop → tie.Start Inv-loop μ-loop
-entry c = c .before .before .before
+entry c = c .before .before .before .before .before
 
-abbrev turn : tie.After-shared-slice-known2 Inv-loop μ-loop → tie.At-loop Inv-loop μ-loop
-turn c = c .before .before .before
+abbrev turn : tie.After-below Inv-loop μ-loop → tie.At-loop Inv-loop μ-loop
+turn c = c .before .before .before .before
 
-x-is : (c : tie.At-loop Inv-loop μ-loop) → getD (left (entry c)) (c .loop .i) 0 ≡ getD (entry c .args .words .now) (entry c .args .at + c .loop .i) 0
-x-is c = getD-drop (entry c .args .at) (entry c .args .words .now) (c .loop .i) 0
+module _ (c : tie.At-loop Inv-loop μ-loop) where
+  abbrev x : ℕ
+  x = getD (left (entry c)) (c .loop .i) 0
 
-y-is : (c : tie.At-loop Inv-loop μ-loop) → getD (right (entry c)) (c .loop .i) 0 ≡ getD (entry c .args .other .now) (entry c .args .from + c .loop .i) 0
-y-is c = getD-drop (entry c .args .from) (entry c .args .other .now) (c .loop .i) 0
+  abbrev y : ℕ
+  y = getD (right (entry c)) (c .loop .i) 0
+
+  x-is : x ≡ getD (entry c .args .words .now) (entry c .args .at + c .loop .i) 0
+  x-is = getD-drop (entry c .args .at) (entry c .args .words .now) (c .loop .i) 0
+
+  y-is : y ≡ getD (entry c .args .other .now) (entry c .args .from + c .loop .i) 0
+  y-is = getD-drop (entry c .args .from) (entry c .args .other .now) (c .loop .i) 0
+
+less : (c : tie.After-below Inv-loop μ-loop) → c .below .result ≡ ltb (x (turn c)) (y (turn c))
+less c = c .below .ensures ∙ (λ k. ltb (sym (x-is (turn c)) k) (sym (y-is (turn c)) k))
+
+more : (c : tie.After-below2 Inv-loop μ-loop) → c .below2 .result ≡ ltb (y (turn (c .before .before))) (x (turn (c .before .before)))
+more c = let b = turn (c .before .before) in c .below2 .ensures ∙ (λ k. ltb (sym (y-is b) k) (sym (x-is b) k))
 
 returns : tie.Need-returns Inv-loop μ-loop
 returns c =
-    let s = c .before in
+    let s = c .before .before .before in
     at-shorter (left s) (right s) (s .args .n) (s .args .m) (left-long s) (right-long s) (c .if1 .taken)
 
 returns-2 : tie.Need-returns-2 Inv-loop μ-loop
 returns-2 c =
-    let s = c .before .before in
+    let s = c .before .before .before .before in
     at-longer (left s) (right s) (s .args .n) (s .args .m) (left-long s) (right-long s) (c .if2 .taken)
 
 loop-holds : tie.Need-loop-holds Inv-loop μ-loop
 loop-holds c = (search needs, omega arith, refl)
 
-add-x : tie.Need-add-x Inv-loop μ-loop
-add-x c = search needs
+add-t12 : tie.Need-add-t12 Inv-loop μ-loop
+add-t12 c = search needs
 
-mul-x : tie.Need-mul-x Inv-loop μ-loop
-mul-x c = search needs
+mul-t13 : tie.Need-mul-t13 Inv-loop μ-loop
+mul-t13 c = search needs
 
-shared-slice-read-x : tie.Need-shared-slice-read-x Inv-loop μ-loop
-shared-slice-read-x c = search needs
+shared-slice-read-t15 : tie.Need-shared-slice-read-t15 Inv-loop μ-loop
+shared-slice-read-t15 c = search needs
 
-add-y : tie.Need-add-y Inv-loop μ-loop
-add-y c = search needs
+add-t12-2 : tie.Need-add-t12-2 Inv-loop μ-loop
+add-t12-2 c = search needs
 
-mul-y : tie.Need-mul-y Inv-loop μ-loop
-mul-y c = search needs
+mul-t13-2 : tie.Need-mul-t13-2 Inv-loop μ-loop
+mul-t13-2 c = search needs
 
-shared-slice-read-y : tie.Need-shared-slice-read-y Inv-loop μ-loop
-shared-slice-read-y c = search needs
+shared-slice-read-t15-2 : tie.Need-shared-slice-read-t15-2 Inv-loop μ-loop
+shared-slice-read-t15-2 c = search needs
+
+below-requires : tie.Need-below-requires Inv-loop μ-loop
+below-requires c κs = search needs
 
 returns-3 : tie.Need-returns-3 Inv-loop μ-loop
 returns-3 c =
@@ -81,15 +99,18 @@ returns-3 c =
     let s = entry b in
     let h = b .loop .inv in
     at-less (left s) (right s) (s .args .n) (s .args .m) (left-long s) (right-long s) (h .1) (b .loop .i) (omega arith) (h .2)
-    (omega (arith, x-is b, y-is b, c .if3 .taken))
+    (ltb-true (x b) (y b) (sym (less (c .before)) ∙ c .if3 .taken))
+
+below-requires-2 : tie.Need-below-requires-2 Inv-loop μ-loop
+below-requires-2 c κs = search needs
 
 returns-4 : tie.Need-returns-4 Inv-loop μ-loop
 returns-4 c =
-    let b = turn (c .before .before) in
+    let b = turn (c .before .before .before) in
     let s = entry b in
     let h = b .loop .inv in
     at-more (left s) (right s) (s .args .n) (s .args .m) (left-long s) (right-long s) (h .1) (b .loop .i) (omega arith) (h .2)
-    (omega (arith, x-is b, y-is b, c .if4 .taken))
+    (ltb-true (y b) (x b) (sym (more (c .before)) ∙ c .if4 .taken))
 
 add-i : tie.Need-add-i Inv-loop μ-loop
 add-i c = search needs
@@ -99,13 +120,13 @@ loop-less c = search needs
 
 loop-again : tie.Need-loop-again Inv-loop μ-loop
 loop-again c =
-    let b = turn (c .before .before) in
+    let b = turn (c .before .before .before) in
     let s = entry b in
     let h = b .loop .inv in
     let l = left-long s in
     let r = right-long s in
-    let x = x-is b in
-    let y = y-is b in
+    let not-less = ltb-false (x b) (y b) (sym (less (c .before .before .before)) ∙ c .before .before .if3 .left) in
+    let not-more = ltb-false (y b) (x b) (sym (more (c .before)) ∙ c .if4 .left) in
     (omega arith, h .1, alike-more (left s) (right s) (b .loop .i) (omega arith) (omega arith) (h .2) (omega arith))
 
 returns-5 : tie.Need-returns-5 Inv-loop μ-loop
@@ -124,13 +145,15 @@ order-at-spec =
     returns
     returns-2
     loop-holds
-    add-x
-    mul-x
-    shared-slice-read-x
-    add-y
-    mul-y
-    shared-slice-read-y
+    add-t12
+    mul-t13
+    shared-slice-read-t15
+    add-t12-2
+    mul-t13-2
+    shared-slice-read-t15-2
+    below-requires
     returns-3
+    below-requires-2
     returns-4
     add-i
     loop-less
