@@ -8,6 +8,7 @@ ghost use Rattle.semantics.specs.Monomial.{Asc, keep, plus};
 ghost use Rattle.monomial.specs.Words.{nums, monomialOf, held};
 ghost use Rattle.monomial.specs.Places.{one, Stands};
 use crate::Monomial;
+use crate::list_steps;
 use crate::vars;
 use crate::vars::Order;
 use slices::shift;
@@ -36,15 +37,6 @@ pub fn put_slot(work: &mut [u32], k: usize, m: Monomial)
     }
 }
 
-// How many variables slot k has: no more than its fourteen places.
-fn slot_count(work: &[u32], k: usize) -> usize
-    requires { ⌜ 16 * k + 16 ≤ length (now work) ⌝ }
-    ensures { λ r. ⌜ r ≡ min (getD (now (work .entry)) (16 * k) 0) 14 ⌝ }
-{
-    let n = work[16 * k] as usize;
-    if n < 14 { n } else { 14 }
-}
-
 // Searches the work list for the variables of m.
 pub fn find_monomial(work: &[u32], count: usize, m: Monomial) -> Found
     requires { ⌜ (count ≤ 256) × (16 * count ≤ length (now work)) × (m .count ≤ 14) × Asc (held count (now work)) ⌝ }
@@ -57,7 +49,14 @@ pub fn find_monomial(work: &[u32], count: usize, m: Monomial) -> Found
     let mut high = count;
     while low < high {
         let k = (low + high) / 2;
-        let order = vars::order_at(&mine, 0, n, work, 16 * k + 2, slot_count(work, k));
+        let order = vars::order_at(
+            &mine,
+            0,
+            n,
+            work,
+            16 * k + 2,
+            list_steps::slot_count(work, k),
+        );
         match order {
             Order::Same => {
                 return Found::At(k);

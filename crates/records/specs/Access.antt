@@ -76,7 +76,7 @@ abbrev pub AllRootsInside : (bound : ℕ) (ws : List ℕ) (at n : ℕ) → Type 
 AllRootsInside bound ws at zero = Unit {0}
 AllRootsInside bound ws at (suc n) = RootsInside bound ws at × AllRootsInside bound ws (at + (4 + messageLength ws at)) n
 
--- The records that interactions name: the fields of each before its count; the counts alone; the fields alone.
+-- The same of interactions that are read: the references of one, of some, their counts and their fields.
 abbrev pub referencesOf : semantics.Interaction → List ℕ
 referencesOf x = x .message ++ (x .count ∷ [])
 
