@@ -22,7 +22,7 @@ use Rattle.group.specs.declared.Tallied.the-variants.{Headers}
 use Rattle.group.specs.declared.Found.the-variants.{There, Missing}
 use Rattle.monomial.specs.Words.{readMonomial}
 use Rattle.monomial.specs.Orders.{chosen, orderOf}
-use Rattle.group.specs.Grouped.{Tally, tally, Ascends, talliedTotal, none, tallyRow, tallied, RowInside, Rows, Spot, Between, Counted}
+use Rattle.group.specs.Grouped.{Tally, tally, Ascends, talliedTotal, none, tallyRow, tallied, RowInside, Rows, Spot, Between, CountedMore}
 use Rattle.group.proofs.Tallies.{once, again, tally-nil, tally-less, tally-more, tally-same, tally-ascends}
 use Rattle.group.proofs.Headers.{tallied-length, tallied-at, vars-at, count-at, total-at}
 
@@ -173,7 +173,7 @@ module _ (n k : ℕ) (H P v : List ℕ) (r : Rows n H P) where
   pub there-small : Spot v (tallied n H P) (There k) → getD H (4 * k + 3) 0 ≤ talliedTotal (tallied n H P)
   there-small s = subst (λ (x : ℕ). x ≤ talliedTotal (tallied n H P)) (count-at n k H P (there-lt s)) (total-at (tallied n H P) k (s .0))
 
-  pub count-more : Spot v (tallied n H P) (There k) → Counted (set H (4 * k + 3) (getD H (4 * k + 3) 0 + 1)) P (tally v (tallied n H P)) (Headers n)
+  pub count-more : Spot v (tallied n H P) (There k) → CountedMore (set H (4 * k + 3) (getD H (4 * k + 3) 0 + 1)) P (tally v (tallied n H P)) (Headers n)
   unfolding tallied
   count-more s =
       let h = there-lt s in

@@ -15,7 +15,7 @@ use Rattle.semantics.specs.Lists.{All}
 use Rattle.semantics.proofs.Calls.{drop-zeros}
 use Rattle.group.specs.declared.Found.the-variants.{Missing}
 use Rattle.group.specs.declared.Tallied.the-variants.{Headers}
-use Rattle.group.specs.Grouped.{Tally, tally, tallyAll, tallyRow, tallied, Ascends, RowInside, Rows, Spot, Counted}
+use Rattle.group.specs.Grouped.{Tally, tally, tallyAll, tallyRow, tallied, Ascends, RowInside, Rows, Spot, CountedMore}
 use Rattle.group.specs.Waiting.{PlaceInside, poolVars, Batch, batched}
 use Rattle.group.proofs.Tallies.{once, tally-ascends}
 use Rattle.group.proofs.Headers.{tallied-length}
@@ -28,7 +28,7 @@ module _ (m k : ℕ) (W P v : List ℕ) (r : Rows m W P) (s : Spot v (tallied m 
   inner-le = subst (λ (x : ℕ). k ≤ x) (tallied-length m W P) (s .0)
 
   pub row-in : (at c : ℕ) (W′ : List ℕ) → at + 2 + c ≤ length P → c ≤ 14 → v ≡ take c (drop (at + 2) P)
-      → W′ ≡ take (4 * k) W ++ ((at ∷ 0 ∷ c ∷ 1 ∷ []) ++ drop (4 * k) W) → Counted W′ P (tally v (tallied m W P)) (Headers (m + 1))
+      → W′ ≡ take (4 * k) W ++ ((at ∷ 0 ∷ c ∷ 1 ∷ []) ++ drop (4 * k) W) → CountedMore W′ P (tally v (tallied m W P)) (Headers (m + 1))
   unfolding tallied
   row-in at c W′ i f e w =
       let h = inner-le in
@@ -210,7 +210,7 @@ module _ {n b : ℕ} {H₀ P pl fr : List ℕ} (t : Batch n b H₀ P pl fr) wher
           low = λ a y s′ a′. missing-le-missing a v A y k s′ l (a′ h);
         }
 
-    pub insert-done : j ≤ 0 → Counted H P (batched n b H₀ P pl) (Headers (n + b))
+    pub insert-done : j ≤ 0 → CountedMore H P (batched n b H₀ P pl) (Headers (n + b))
     insert-done h =
         let z : j ≡ 0 = omega arith in
         let x : n + (b - 0) ≡ n + b = omega arith in

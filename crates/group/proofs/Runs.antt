@@ -8,7 +8,7 @@ use Rattle.monomial.specs.Words.{readMonomial, listIn}
 use Rattle.group.specs.declared.Tallied.the-variants.{Headers, Full}
 use Rattle.group.specs.declared.pending.Next.the-variants.{Taken, Stopped}
 use Rattle.group.specs.declared.pending.Run.{Run}
-use Rattle.group.specs.Grouped.{Tally, tallyAll, talliedTotal, tallied, Rows, Counted, nonZero, Standing}
+use Rattle.group.specs.Grouped.{Tally, tallyAll, talliedTotal, tallied, Rows, CountedMore, nonZero, Standing}
 use Rattle.group.specs.Waiting.{PlaceInside, poolVars, Batch, batched, Nexts, Ran}
 use Rattle.group.proofs.Tallies.{tallyAll-grows, total-all}
 use Rattle.group.proofs.PoolLists.{nonZero-one, left-next, left-none, standing-next}
@@ -146,7 +146,7 @@ module _ {H₀ : List ℕ} {n : ℕ} {P : List ℕ} {at count : ℕ} {H : List �
     unfolding gs rest
     whole = a .left ∙ g .left
 
-    pub tallying-step : (k : ℕ) → length H′ ≡ length H → Counted H′ P (batched rows (r .pending) H₁ P pl) (Headers k)
+    pub tallying-step : (k : ℕ) → length H′ ≡ length H → CountedMore H′ P (batched rows (r .pending) H₁ P pl) (Headers k)
         → Tallying H₀ n P at count H′ k (r .place) (i + r .done)
     unfolding gs rest
     tallying-step k z c =
@@ -167,12 +167,12 @@ module _ {H₀ : List ℕ} {n : ℕ} {P : List ℕ} {at count : ℕ} {H : List �
               ∙ ap (tallyAll rest) (c .1) ∙ whole;
         }
 
-    pub tallying-full : Counted H′ P (batched rows (r .pending) H₁ P pl) Full → Counted H′ P (tallyAll (nonZero (listIn P at count)) (tallied n H₀ P)) Full
+    pub tallying-full : CountedMore H′ P (batched rows (r .pending) H₁ P pl) Full → CountedMore H′ P (tallyAll (nonZero (listIn P at count)) (tallied n H₀ P)) Full
     unfolding gs rest
     tallying-full c =
         let w = tallyAll-grows rest gs in
         let e = ap length whole in
         omega arith
 
-  pub tallying-done : count ≤ i → Counted H P (tallyAll (nonZero (listIn P at count)) (tallied n H₀ P)) (Headers rows)
+  pub tallying-done : count ≤ i → CountedMore H P (tallyAll (nonZero (listIn P at count)) (tallied n H₀ P)) (Headers rows)
   tallying-done h = (g .rows-are, sym (left-none count i place P (tallied rows H P) h) ∙ g .left)

@@ -105,9 +105,9 @@ Between v gs low high =
     × ((i : ℕ) → high ≤ i → i < length gs → beforeVars v (getD gs i none .vars) ≡ true)
 
 -- After counting: the rows have these tallies, or the slice is too short for them.
-abbrev pub Counted : (headers pool : List ℕ) (gs : List Tally) → Tallied → Type 0
-Counted headers pool gs (Headers n) = Rows n headers pool × (tallied n headers pool ≡ gs)
-Counted headers pool gs Full = length headers < 4 * length gs
+abbrev pub CountedMore : (headers pool : List ℕ) (gs : List Tally) → Tallied → Type 0
+CountedMore headers pool gs (Headers n) = Rows n headers pool × (tallied n headers pool ≡ gs)
+CountedMore headers pool gs Full = length headers < 4 * length gs
 
 -- The variables of the monomials whose coefficient is not 0.
 unfoldable pub nonZero : List Monomial → List (List ℕ)

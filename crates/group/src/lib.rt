@@ -2,7 +2,7 @@
 ghost use Prim.Native.Nat.{_+_, _≤_};
 ghost use lib.ListN.{length};
 ghost use Rattle.monomial.specs.Words.{listIn};
-ghost use Rattle.group.specs.Grouped.{Rows, tallied, tallyAll, talliedTotal, Counted, nonZero, Standing, listOf, InPool};
+ghost use Rattle.group.specs.Grouped.{Rows, tallied, tallyAll, talliedTotal, CountedMore, nonZero, Standing, listOf, InPool};
 
 mod pending;
 pub mod place;
@@ -25,7 +25,7 @@ pub enum Tallied {
 fn tally_list(headers: &mut [u32], n: usize, pool: &[u32], at: usize, count: usize) -> Tallied
     requires { ⌜ Rows n (now headers) (now pool) × Standing count (now pool) at
         × (talliedTotal (tallied n (now headers) (now pool)) + count ≤ 4294967295) ⌝ }
-    ensures { λ r. ⌜ Counted (now (headers .exit)) (now (pool .entry))
+    ensures { λ r. ⌜ CountedMore (now (headers .exit)) (now (pool .entry))
         (tallyAll (nonZero (listIn (now (pool .entry)) at count)) (tallied n (now (headers .entry)) (now (pool .entry)))) r ⌝ }
 {
     let mut rows = n;
@@ -58,7 +58,7 @@ fn tally_list(headers: &mut [u32], n: usize, pool: &[u32], at: usize, count: usi
 pub fn tally_root(headers: &mut [u32], n: usize, pool: &[u32], node: usize) -> Tallied
     requires { ⌜ Rows n (now headers) (now pool) × InPool (now pool) node
         × (talliedTotal (tallied n (now headers) (now pool)) + length (listOf (now pool) node) ≤ 4294967295) ⌝ }
-    ensures { λ r. ⌜ Counted (now (headers .exit)) (now (pool .entry))
+    ensures { λ r. ⌜ CountedMore (now (headers .exit)) (now (pool .entry))
         (tallyAll (nonZero (listOf (now (pool .entry)) node)) (tallied n (now (headers .entry)) (now (pool .entry)))) r ⌝ }
 {
     let at = answers::wide(pool[2 * node]);

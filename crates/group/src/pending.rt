@@ -8,7 +8,7 @@ ghost use Prim.Native.Nat.{ℕ, _+_, _*_, _-_, _≤_, _<_};
 ghost use lib.ListN.{length, getD, drop};
 ghost use lib.Seq.{sets};
 ghost use Rattle.monomial.specs.Words.{readMonomial};
-ghost use Rattle.group.specs.Grouped.{Rows, tallied, talliedTotal, Counted, nonZero, Standing};
+ghost use Rattle.group.specs.Grouped.{Rows, tallied, talliedTotal, CountedMore, nonZero, Standing};
 ghost use Rattle.group.specs.Waiting.{PlaceInside, poolVars, Batch, batched, MayFollow, Nexts, Ran};
 use monomial::vars;
 use monomial::vars::Order;
@@ -179,7 +179,7 @@ pub fn insert_pending(
     b: usize,
 ) -> Tallied
     requires { ⌜ Batch n b (now headers) (now pool) (now places) (now fronts) ⌝ }
-    ensures { λ r. ⌜ Counted (now (headers .exit)) (now (pool .entry)) (batched n b (now (headers .entry)) (now (pool .entry)) (now (places .entry))) r ⌝ }
+    ensures { λ r. ⌜ CountedMore (now (headers .exit)) (now (pool .entry)) (batched n b (now (headers .entry)) (now (pool .entry)) (now (places .entry))) r ⌝ }
 {
     if headers.len() - 4 * n < 4 * b {
         return Tallied::Full;

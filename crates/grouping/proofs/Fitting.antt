@@ -33,7 +33,7 @@ use Rattle.grouping.specs.declared.families.Family.the-variants.{Constra
 use Rattle.grouping.specs.declared.Lengths.{Lengths}
 use Rattle.grouping.specs.declared.Grouped.{Grouped}
 use Rattle.grouping.specs.declared.Grouped.the-variants.{Written, Short}
-use Rattle.group.specs.Grouped.{Tally, tallyAll, talliedTotal, tallied, Rows, Counted, select, talliedCount, placed, RoomForTerms, column, sum, listOf, InPool, varsNamed, termOf}
+use Rattle.group.specs.Grouped.{Tally, tallyAll, talliedTotal, tallied, Rows, CountedMore, select, talliedCount, placed, RoomForTerms, column, sum, listOf, InPool, varsNamed, termOf}
 use Rattle.group.specs.Grouped.{termWidth, Placing, Places, varsIn, talliedHeaders}
 use Rattle.grouping.specs.Families.{rootsOf, nodesOf, ToTally, ToPlaceRoots, Grouping, groupsOf, Measured, Front, Laid}
 use Rattle.group.proofs.Gathering.{gathered}
@@ -195,21 +195,21 @@ module _ {ws P : List ℕ} {roots : List Root} (f : Known ws P roots) {H referen
       let k = nodes-few f in
       record { rows-are = r .0; lists = subst (All (InPool P)) (sym e) (named f); small = omega arith }
 
-  pub fit-counted : (H′ : List ℕ) (u : Tallied) → Counted H′ P (tallyAll (varsNamed P references) (tallied 0 H P)) u
-      → Counted H′ P (tallyAll (varsNamed P (nodesOf roots)) []) u
-  fit-counted H′ u c = subst (λ (gs : List Tally). Counted H′ P gs u) (λ i. tallyAll (varsNamed P (e i)) (rows-none H P z .1 i)) c
+  pub fit-counted : (H′ : List ℕ) (u : Tallied) → CountedMore H′ P (tallyAll (varsNamed P references) (tallied 0 H P)) u
+      → CountedMore H′ P (tallyAll (varsNamed P (nodesOf roots)) []) u
+  fit-counted H′ u c = subst (λ (gs : List Tally). CountedMore H′ P gs u) (λ i. tallyAll (varsNamed P (e i)) (rows-none H P z .1 i)) c
 
 -- What counting answers.
-module _ {ws P : List ℕ} {roots : List Root} (f : Known ws P roots) (H : List ℕ) (u : Tallied) (c : Counted H P (tallyAll (varsNamed P (nodesOf roots)) []) u) where
+module _ {ws P : List ℕ} {roots : List Root} (f : Known ws P roots) (H : List ℕ) (u : Tallied) (c : CountedMore H P (tallyAll (varsNamed P (nodesOf roots)) []) u) where
   pub fit-full : u ≡ Full → (b : Bool) (W T : List ℕ) → Laid (termOf b) (groupsOf ws roots) H W T (Short 1)
   fit-full e b W T =
-      let d = subst (Counted H P (tallyAll (varsNamed P (nodesOf roots)) [])) e c in
+      let d = subst (CountedMore H P (tallyAll (varsNamed P (nodesOf roots)) [])) e c in
       let s = headers-size f in
       (short-one (termOf b) (groupsOf ws roots) (length H) (length W) (length T) (omega arith), λ z. absurd (omega arith))
 
   pub fit-rows : {n : ℕ} → u ≡ Headers n → Rowed ws P roots n H
   fit-rows {n} e =
-      let d = subst (Counted H P (tallyAll (varsNamed P (nodesOf roots)) [])) e c in
+      let d = subst (CountedMore H P (tallyAll (varsNamed P (nodesOf roots)) [])) e c in
       let s = family-small n H P (nodesOf roots) (d .1) (named f) (nodes-few f) in
       record { known = f; rows-are = d .0; tallies-are = d .1; total-small = s .0; rows-few = s .1 }
 

@@ -12,7 +12,7 @@ use Rattle.records.specs.Access.{recordsOf, wordsFrom, eachWords, RootsInside, 
 use Rattle.records.proofs.Takings.{Taken, taken-words, taken-references}
 use Rattle.group.specs.declared.Tallied.{Tallied}
 use Rattle.group.specs.declared.Tallied.the-variants.{Headers, Full}
-use Rattle.group.specs.Grouped.{tallyAll, talliedTotal, tallied, Rows, Counted, nonZero, listOf, InPool, varsNamed}
+use Rattle.group.specs.Grouped.{tallyAll, talliedTotal, tallied, Rows, CountedMore, nonZero, listOf, InPool, varsNamed}
 use Rattle.grouping.specs.Families.{ToTally, interactionIn}
 use Rattle.group.proofs.Tallies.{tallyAll-append, tallyAll-grows, total-all}
 use Rattle.group.proofs.PoolLists.{nonZero-length}
@@ -114,7 +114,7 @@ pub references-start : {H : List ℕ} {n : ℕ} {P references left : List ℕ} �
 references-start {H} {n} {P} {references} t e = subst (NamesLeft H n P references H n) (sym e) (record { ready = t; long = refl; same = refl })
 
 module _ {H₀ : List ℕ} {n : ℕ} {P references H : List ℕ} {rows : ℕ} {left : List ℕ} (g : NamesLeft H₀ n P references H rows left) where
-  pub references-done : left ≡ [] → Counted H P (tallyAll (varsNamed P references) (tallied n H₀ P)) (Headers rows)
+  pub references-done : left ≡ [] → CountedMore H P (tallyAll (varsNamed P references) (tallied n H₀ P)) (Headers rows)
   unfolding varsNamed flatMap tallyAll
   references-done e = (g .ready .rows-are, sym (ap (λ (l : List ℕ). tallyAll (varsNamed P l) (tallied rows H P)) e) ∙ g .same)
 
@@ -135,10 +135,10 @@ module _ {H₀ : List ℕ} {n : ℕ} {P references H : List ℕ} {rows : ℕ} {l
         ∙ g .same
 
     -- What counting the next references answers.
-    module _ (H′ : List ℕ) (u : Tallied) (c : Counted H′ P (tallyAll (varsNamed P xs) (tallied rows H P)) u) where
+    module _ (H′ : List ℕ) (u : Tallied) (c : CountedMore H′ P (tallyAll (varsNamed P xs) (tallied rows H P)) u) where
       pub references-more : length H′ ≡ length H → {k : ℕ} → u ≡ Headers k → NamesLeft H₀ n P references H′ k ys
       references-more z q =
-          let d = subst (Counted H′ P (tallyAll (varsNamed P xs) (tallied rows H P))) q c in
+          let d = subst (CountedMore H′ P (tallyAll (varsNamed P xs) (tallied rows H P))) q c in
           let s = g .ready .small in
           let l = ap length e ∙ length-append xs ys in
           let t = ap talliedTotal (d .1) ∙ total-all (varsNamed P xs) (tallied rows H P) in
@@ -150,9 +150,9 @@ module _ {H₀ : List ℕ} {n : ℕ} {P references H : List ℕ} {rows : ℕ} {l
           }
 
       -- However much more comes, the slice stays too short.
-      pub references-full : u ≡ Full → Counted H′ P (tallyAll (varsNamed P references) (tallied n H₀ P)) Full
+      pub references-full : u ≡ Full → CountedMore H′ P (tallyAll (varsNamed P references) (tallied n H₀ P)) Full
       references-full q =
-          let d = subst (Counted H′ P (tallyAll (varsNamed P xs) (tallied rows H P))) q c in
+          let d = subst (CountedMore H′ P (tallyAll (varsNamed P xs) (tallied rows H P))) q c in
           let w = tallyAll-grows (varsNamed P ys) (tallyAll (varsNamed P xs) (tallied rows H P)) in
           let b = ap length both in
           omega arith
@@ -166,7 +166,7 @@ pub at-start : {ws : List ℕ} {at count : ℕ} {H : List ℕ} {n : ℕ} {P : Li
 at-start {ws} {at} {count} t = record { upto = omega arith; left = references-start t (part-first ws at count) }
 
 module _ {ws : List ℕ} {at count : ℕ} {H₀ : List ℕ} {n : ℕ} {P H : List ℕ} {rows j : ℕ} (g : NamesAt ws at count H₀ n P H rows j) where
-  pub at-done : count ≤ j → Counted H P (tallyAll (varsNamed P (wordsFrom at count ws)) (tallied n H₀ P)) (Headers rows)
+  pub at-done : count ≤ j → CountedMore H P (tallyAll (varsNamed P (wordsFrom at count ws)) (tallied n H₀ P)) (Headers rows)
   at-done h = references-done (g .left) (part-end ws at count j h)
 
   module _ (h : j < count) (l : at + count ≤ length ws) {r : ℕ} (e : r ≡ getD ws (at + j) 0) where
@@ -183,14 +183,14 @@ module _ {ws : List ℕ} {at count : ℕ} {H₀ : List ℕ} {n : ℕ} {P H : Lis
         let f = t .lists .0 .few in
         (t .rows-are, t .lists .0, omega arith)
 
-    module _ (H′ : List ℕ) (u : Tallied) (c : Counted H′ P (tallyAll (nonZero (listOf P r)) (tallied rows H P)) u) where
-      named : Counted H′ P (tallyAll (varsNamed P (r ∷ [])) (tallied rows H P)) u
-      named = subst (λ (v : List (List ℕ)). Counted H′ P (tallyAll v (tallied rows H P)) u) (sym (vars-one P r)) c
+    module _ (H′ : List ℕ) (u : Tallied) (c : CountedMore H′ P (tallyAll (nonZero (listOf P r)) (tallied rows H P)) u) where
+      named : CountedMore H′ P (tallyAll (varsNamed P (r ∷ [])) (tallied rows H P)) u
+      named = subst (λ (v : List (List ℕ)). CountedMore H′ P (tallyAll v (tallied rows H P)) u) (sym (vars-one P r)) c
 
       pub at-more : length H′ ≡ length H → {k : ℕ} → u ≡ Headers k → NamesAt ws at count H₀ n P H′ k (j + 1)
       at-more z q = record { upto = omega arith; left = references-more (g .left) (r ∷ []) rest next-is H′ u named z q }
 
-      pub at-full : u ≡ Full → Counted H′ P (tallyAll (varsNamed P (wordsFrom at count ws)) (tallied n H₀ P)) Full
+      pub at-full : u ≡ Full → CountedMore H′ P (tallyAll (varsNamed P (wordsFrom at count ws)) (tallied n H₀ P)) Full
       at-full q = references-full (g .left) (r ∷ []) rest next-is H′ u named q
 
 -- The same for interactions: `one` is what is taken of each, and i of them are passed.
@@ -203,7 +203,7 @@ pub each-start : {one : ℕ → List ℕ} {ws : List ℕ} {at count : ℕ} {H : 
 each-start {one} {ws} {at} {count} h t = record { rest = rest-start h; left = references-start t (each-first one ws at count) }
 
 module _ {one : ℕ → List ℕ} {ws : List ℕ} {at count : ℕ} {H₀ : List ℕ} {n : ℕ} {P H : List ℕ} {rows from i : ℕ} (g : EachAt one ws at count H₀ n P H rows from i) where
-  pub each-done : count ≤ i → Counted H P (tallyAll (varsNamed P (eachWords one ws at count)) (tallied n H₀ P)) (Headers rows)
+  pub each-done : count ≤ i → CountedMore H P (tallyAll (varsNamed P (eachWords one ws at count)) (tallied n H₀ P)) (Headers rows)
   each-done h = references-done (g .left) (each-end one ws from count i h)
 
   module _ (h : i < count) {place size : Interaction → ℕ} (t : Taken one ws place size) {x : Interaction} (e : x ≡ interactionIn ws from) where
@@ -216,12 +216,12 @@ module _ {one : ℕ → List ℕ} {ws : List ℕ} {at count : ℕ} {H₀ : List 
     pub each-ready : (place x + size x ≤ length ws) × ToTally rows H P (wordsFrom (place x) (size x) ws)
     each-ready = (taken-references t e (rest-next (g .rest) h) .inside, references-next (g .left) (wordsFrom (place x) (size x) ws) behind next-each)
 
-    module _ (H′ : List ℕ) (u : Tallied) (c : Counted H′ P (tallyAll (varsNamed P (wordsFrom (place x) (size x) ws)) (tallied rows H P)) u) where
+    module _ (H′ : List ℕ) (u : Tallied) (c : CountedMore H′ P (tallyAll (varsNamed P (wordsFrom (place x) (size x) ws)) (tallied rows H P)) u) where
       pub each-more : length H′ ≡ length H → {k : ℕ} → u ≡ Headers k → EachAt one ws at count H₀ n P H′ k (x .next) (i + 1)
       each-more z q = record {
         rest = rest-more (g .rest) h (ap (λ (y : Interaction). y .next) e);
         left = references-more (g .left) (wordsFrom (place x) (size x) ws) behind next-each H′ u c z q;
       }
 
-      pub each-full : u ≡ Full → Counted H′ P (tallyAll (varsNamed P (eachWords one ws at count)) (tallied n H₀ P)) Full
+      pub each-full : u ≡ Full → CountedMore H′ P (tallyAll (varsNamed P (eachWords one ws at count)) (tallied n H₀ P)) Full
       each-full q = references-full (g .left) (wordsFrom (place x) (size x) ws) behind next-each H′ u c q

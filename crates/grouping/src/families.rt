@@ -9,7 +9,7 @@ ghost use Rattle.semantics.specs.Check.{primeOf, readSheet, check};
 ghost use Rattle.semantics.specs.Group.{labelled, items};
 ghost use Rattle.semantics.specs.Call.{zeros};
 ghost use Rattle.records.specs.Access.{recordsOf, wordsFrom, countWords, fieldWords, AllRootsInside};
-ghost use Rattle.group.specs.Grouped.{tallyAll, tallied, Counted, listOf, varsNamed, termWidth, Places};
+ghost use Rattle.group.specs.Grouped.{tallyAll, tallied, CountedMore, listOf, varsNamed, termWidth, Places};
 ghost use Rattle.grouping.specs.Families.{ToTally, constraintRoot, fieldRoot, eachRoots, countRootAt, fieldRootsAt, ToPlaceRoots, Grouping, rootsOf, isInteraction, nodesOf};
 use group::Tallied;
 use group::place;
@@ -42,7 +42,7 @@ fn tally_references(
     pool: &[u32],
 ) -> Tallied
     requires { ⌜ (at + count ≤ length (now sheet)) × ToTally n (now headers) (now pool) (wordsFrom at count (now sheet)) ⌝ }
-    ensures { λ r. ⌜ Counted (now (headers .exit)) (now (pool .entry))
+    ensures { λ r. ⌜ CountedMore (now (headers .exit)) (now (pool .entry))
         (tallyAll (varsNamed (now (pool .entry)) (wordsFrom at count (now (sheet .entry))))
         (tallied n (now (headers .entry)) (now (pool .entry)))) r ⌝ }
 {
@@ -71,7 +71,7 @@ fn tally_counts(
 ) -> Tallied
     requires { ⌜ AllRootsInside (length (recordsOf (now sheet))) (now sheet) at count
         × ToTally n (now headers) (now pool) (countWords (now sheet) at count) ⌝ }
-    ensures { λ r. ⌜ Counted (now (headers .exit)) (now (pool .entry))
+    ensures { λ r. ⌜ CountedMore (now (headers .exit)) (now (pool .entry))
         (tallyAll (varsNamed (now (pool .entry)) (countWords (now (sheet .entry)) at count))
         (tallied n (now (headers .entry)) (now (pool .entry)))) r ⌝ }
 {
@@ -102,7 +102,7 @@ fn tally_fields(
 ) -> Tallied
     requires { ⌜ AllRootsInside (length (recordsOf (now sheet))) (now sheet) at count
         × ToTally n (now headers) (now pool) (fieldWords (now sheet) at count) ⌝ }
-    ensures { λ r. ⌜ Counted (now (headers .exit)) (now (pool .entry))
+    ensures { λ r. ⌜ CountedMore (now (headers .exit)) (now (pool .entry))
         (tallyAll (varsNamed (now (pool .entry)) (fieldWords (now (sheet .entry)) at count))
         (tallied n (now (headers .entry)) (now (pool .entry)))) r ⌝ }
 {
@@ -237,7 +237,7 @@ fn place_fields(
 // Counts the lists of a family's records; the headers are cleared.
 pub fn tally_family(sheet: &[u32], family: Family, headers: &mut [u32], pool: &[u32]) -> Tallied
     requires { ⌜ Grouping (now sheet) (now pool) (rootsOf family (readSheet (now sheet))) × (now headers ≡ zeros (length (now headers))) ⌝ }
-    ensures { λ r. ⌜ Counted (now (headers .exit)) (now (pool .entry))
+    ensures { λ r. ⌜ CountedMore (now (headers .exit)) (now (pool .entry))
         (tallyAll (varsNamed (now (pool .entry)) (nodesOf (rootsOf family (readSheet (now (sheet .entry)))))) []) r ⌝ }
 {
     match family {

@@ -13,7 +13,7 @@ use Rattle.semantics.specs.Expand.{expandAll}
 use Rattle.semantics.specs.Group.{Root, Group, countRoots, fieldRoots, interactionTerm, headers, variables, terms, layout}
 use Rattle.semantics.specs.Call.{Result, fitted, firstShort, family, interactionOutputs, maxFieldsLen}
 use Rattle.semantics.proofs.Demands.{count-nodes, field-nodes}
-use Rattle.records.specs.Access.{counts, fields, recordsOf}
+use Rattle.records.specs.Access.{countsOf, fieldsOf, recordsOf}
 use Rattle.answers.specs.declared.Refusal.{Refusal}
 use Rattle.expand.specs.declared.Expanded.{Expanded}
 use Rattle.expand.specs.declared.Expanded.the-variants as expanded
@@ -162,7 +162,7 @@ module _ (ws : List ℕ) (work pool : ℕ) (lent : List ℕ) where
   numbers s = length (s .interactions) ∷ maxFieldsLen s ∷ []
 
   abbrev all : List ℕ
-  all = order (recordsOf ws) (counts (sh .interactions) ++ fields (sh .interactions))
+  all = order (recordsOf ws) (countsOf (sh .interactions) ++ fieldsOf (sh .interactions))
 
   abbrev wholeCall : Answer Result
   wholeCall = expansionOf work pool lent rootsOf (interactionOutputs prime) numbers sh

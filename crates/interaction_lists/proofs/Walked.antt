@@ -12,7 +12,7 @@ use Rattle.semantics.specs.Group.{countRoots, fieldRoots}
 use Rattle.semantics.proofs.Members.{append-below, cons-below, flat-below, not-in, mem-left, mem-right}
 use Rattle.semantics.proofs.GraphSheets.{interaction-facts}
 use Rattle.semantics.proofs.Demands.{count-nodes, field-nodes}
-use Rattle.records.specs.Access.{counts, fields, recordsOf, interactionsAt, countWords, fieldWords, AllRootsInside}
+use Rattle.records.specs.Access.{countsOf, fieldsOf, recordsOf, interactionsAt, countWords, fieldWords, AllRootsInside}
 use Rattle.records.specs.Orders.{Visiting}
 use Rattle.records.proofs.Reading.{counts-are, fields-are, interactions-stand, interactions-inside}
 use Rattle.records.proofs.Rooting.{visiting-both}
@@ -35,29 +35,29 @@ module _ (ws : List ℕ) (checked : check prime ws ≡ good (readSheet ws)) wher
         subst (λ (a : ℕ). AllRootsInside (length (recordsOf ws)) ws a count) (sym ea)
         (subst (AllRootsInside (length (recordsOf ws)) ws (interactionsAt ws)) (sym ec) (interactions-inside ws checked))
 
-    pub counts-there : countWords ws at count ≡ counts xs
+    pub counts-there : countWords ws at count ≡ countsOf xs
     counts-there =
         let i = interactions-stand ws checked in
         (λ j. countWords ws (ea j) (ec j)) ∙ counts-are (i .0) ws (interactionsAt ws) xs (i .1)
 
-    pub fields-there : fieldWords ws at count ≡ fields xs
+    pub fields-there : fieldWords ws at count ≡ fieldsOf xs
     fields-there =
         let i = interactions-stand ws checked in
         (λ j. fieldWords ws (ea j) (ec j)) ∙ fields-are (i .0) ws (interactionsAt ws) xs (i .1)
 
-  pub counts-below : Below (length (recordsOf ws)) (counts xs)
+  pub counts-below : Below (length (recordsOf ws)) (countsOf xs)
   counts-below =
       let n : ℕ = length (recordsOf ws) in
       flat-below n _ (λ i. GoodInteraction n)
       (λ i x u. cons-below n (x .count) [] (interaction-facts n x u .count) (λ c m. not-in c m)) 0 xs (inside ws checked .interactions)
 
-  pub fields-below : Below (length (recordsOf ws)) (fields xs)
+  pub fields-below : Below (length (recordsOf ws)) (fieldsOf xs)
   fields-below =
       let n : ℕ = length (recordsOf ws) in
       flat-below n _ (λ i. GoodInteraction n) (λ i x u. interaction-facts n x u .message) 0 xs (inside ws checked .interactions)
 
-  pub named-below-both : Below (length (recordsOf ws)) (counts xs ++ fields xs)
-  named-below-both = append-below (length (recordsOf ws)) (counts xs) (fields xs) counts-below fields-below
+  pub named-below-both : Below (length (recordsOf ws)) (countsOf xs ++ fieldsOf xs)
+  named-below-both = append-below (length (recordsOf ws)) (countsOf xs) (fieldsOf xs) counts-below fields-below
 
   -- One list of roots after another.
   module _ (work pool : List ℕ) (used : ℕ) (p : ExpandWalking ws work pool used) (front-roots back-roots : List ℕ) (below : Below (length (recordsOf ws)) front-roots)
@@ -78,13 +78,13 @@ module _ (ws : List ℕ) (checked : check prime ws ≡ good (readSheet ws)) wher
           (subst (λ (x : Expanded). Visiting ws front-roots (λ (d : List ℕ). PoolHolds ws d pool used) (Expands ws pool₁ x)) e f) g
 
   -- The lists of all counts and fields stand in the pool.
-  module _ (pool : List ℕ) (used : ℕ) (holds : PoolHolds ws (order (recordsOf ws) (counts xs ++ fields xs)) pool used) where
+  module _ (pool : List ℕ) (used : ℕ) (holds : PoolHolds ws (order (recordsOf ws) (countsOf xs ++ fieldsOf xs)) pool used) where
     pub counts-grouping : Grouping ws pool (countRoots (readSheet ws))
     counts-grouping =
-        grouping-of ws checked (counts xs ++ fields xs) named-below-both pool used holds (countRoots (readSheet ws))
-        (λ i m. mem-left i (counts xs) (fields xs) (subst (Mem i) (count-nodes (readSheet ws)) m))
+        grouping-of ws checked (countsOf xs ++ fieldsOf xs) named-below-both pool used holds (countRoots (readSheet ws))
+        (λ i m. mem-left i (countsOf xs) (fieldsOf xs) (subst (Mem i) (count-nodes (readSheet ws)) m))
 
     pub fields-grouping : Grouping ws pool (fieldRoots (readSheet ws))
     fields-grouping =
-        grouping-of ws checked (counts xs ++ fields xs) named-below-both pool used holds (fieldRoots (readSheet ws))
-        (λ i m. mem-right i (counts xs) (fields xs) (subst (Mem i) (field-nodes (readSheet ws)) m))
+        grouping-of ws checked (countsOf xs ++ fieldsOf xs) named-below-both pool used holds (fieldRoots (readSheet ws))
+        (λ i m. mem-right i (countsOf xs) (fieldsOf xs) (subst (Mem i) (field-nodes (readSheet ws)) m))

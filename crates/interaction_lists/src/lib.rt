@@ -7,7 +7,7 @@ ghost use Rattle.semantics.specs.Check.{primeOf, readSheet};
 ghost use Rattle.semantics.specs.Walk.{order};
 ghost use Rattle.semantics.specs.Group.{countRoots, fieldRoots};
 ghost use Rattle.semantics.specs.Call.{fitted, interactionOutputs, maxFieldsLen};
-ghost use Rattle.records.specs.Access.{counts, fields, recordsOf, AllRootsInside};
+ghost use Rattle.records.specs.Access.{countsOf, fieldsOf, recordsOf, AllRootsInside};
 ghost use Rattle.expand.specs.Walking.{Expands};
 ghost use Rattle.grouping.specs.Families.{Grouping};
 ghost use Rattle.constraint_lists.specs.Lists.{CheckedSheet};
@@ -42,7 +42,7 @@ fn walk_interactions(
         × (2 * records ≤ length (now pool)) ⌝ }
     ensures { λ u. ⌜ Expands (now (s .entry)) (now (pool .exit)) u
         (order (recordsOf (now (s .entry)))
-        (counts (readSheet (now (s .entry)) .interactions) ++ fields (readSheet (now (s .entry)) .interactions))) ⌝ }
+        (countsOf (readSheet (now (s .entry)) .interactions) ++ fieldsOf (readSheet (now (s .entry)) .interactions))) ⌝ }
 {
     let heads = 2 * records;
     slices::zero_all(&mut pool[..heads]);

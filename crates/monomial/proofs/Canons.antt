@@ -5,18 +5,16 @@ use mathlib.Core.Bool.{Bool, true, false, cond}
 use mathlib.Core.List.{List, [], _∷_, _++_}
 use Prim.Native.Nat.{ℕ, suc, _+_, _≤_, _<_}
 use native.Mathlib.Omega.{arith}
-use lib.Dec.{eqb}
 use lib.ListN.{length, length-append}
 use borrow.Author.Tests.{ltb-true, ltb-false, lt-ltb, le-ltb}
 use Rattle.semantics.specs.Arithmetic.{prime, addM}
-use Rattle.semantics.specs.Monomial.{Above, Asc, Monomial, beforeVars, sort, above, keep, plus, negMonomial, mulMonomial, insertMonomial, combine}
+use Rattle.semantics.specs.Monomial.{Above, Asc, Monomial, beforeVars, sort, above, plus, negMonomial, mulMonomial, insertMonomial, combine}
 use Rattle.semantics.specs.Lists.{All, Sorted}
-use Rattle.semantics.proofs.Basics.{by-test}
 use Rattle.semantics.proofs.Arithmetic.{addM-lt, mulM-lt, negM-lt, addM-comm, addM-cancel, zero-addM, addM-zero, mulM-zero, mulM-one, sums}
 use Rattle.semantics.proofs.Order.{beforeVars-irrefl, beforeVars-total, sameVars}
 use Rattle.semantics.proofs.Sorting.{sort-same, sorted-sort}
 use Rattle.semantics.proofs.Monomials.{one, val, val-cons, val-one, val-lt}
-use Rattle.semantics.proofs.Combining.{by-order, NoZero, above-trans, val-insert, val-combine, asc-insert, asc-combine, nz-insert, nz-combine, Small, all-insert, all-combine, small-plus}
+use Rattle.semantics.proofs.Combining.{NoZero, above-trans, val-insert, val-combine, asc-insert, asc-combine, nz-insert, nz-combine, Small, all-insert, all-combine, small-plus}
 use Rattle.monomial.specs.Words.{Fits, insertAll}
 
 -- The weight of one variable list: `val p (onlyAt v)` is the coefficient at v.
@@ -186,17 +184,3 @@ fits-product m n h = record {
 pub small-of-fits : (xs : List Monomial) → All Fits xs → All (Small prime) xs
 small-of-fits [] k = tt
 small-of-fits (x ∷ xs) k = (k .0 .small, small-of-fits xs (k .1))
-
-keep-length : (m : Monomial) (xs : List Monomial) → length (keep m xs) ≤ length xs + 1
-unfolding keep
-keep-length m xs = by-test (λ (l : List Monomial). length l ≤ length xs + 1) (eqb (m .coef) 0) (λ e. omega arith) (λ e. omega arith)
-
-pub insert-length : (p : ℕ) (m : Monomial) (xs : List Monomial) → length (insertMonomial p m xs) ≤ length xs + 1
-insert-length p m xs = elim xs [
-  | [] ↦ unfold insertMonomial in (keep-length m [])
-  | x ∷ (t → ih) ↦
-      by-order (λ (l : List Monomial). length l ≤ length (x ∷ t) + 1) p m x t
-      (λ e. keep-length m (x ∷ t))
-      (λ e. omega (arith, ih))
-      (λ e. omega (arith, keep-length (plus p m x) t))
-]

@@ -15,7 +15,7 @@ use Rattle.semantics.proofs.Encoding.{head-limits, check-sound, sheet-back}
 use Rattle.semantics.proofs.Access.{spare, words-are, words-count, count-words, constraint-word, interactions-from}
 use Rattle.semantics.proofs.Members.{mem-getD}
 use Rattle.semantics.proofs.GraphSheets.{named-below, interaction-facts}
-use Rattle.records.specs.Access.{referencesOf, references, counts, fields, recordsOf, constraintsAt, interactionsAt, wordsFrom, messageLength, eachWords, countAt}
+use Rattle.records.specs.Access.{referencesOf, references, countsOf, fieldsOf, recordsOf, constraintsAt, interactionsAt, wordsFrom, messageLength, eachWords, countAt}
 use Rattle.records.specs.Access.{fieldsAt, rootWords, countWords, fieldWords, ReferencesInside, AllRootsInside}
 use Rattle.records.proofs.Steps.{inside}
 
@@ -103,10 +103,10 @@ module _ (rest : List ℕ) (ws : List ℕ) where
     pub roots-are : rootWords ws at (length xs) ≡ references xs
     roots-are = each-are (λ (a : ℕ). fieldsAt ws a ++ countAt ws a) referencesOf (both-are ws) at xs e
 
-    pub counts-are : countWords ws at (length xs) ≡ counts xs
+    pub counts-are : countWords ws at (length xs) ≡ countsOf xs
     counts-are = each-are (countAt ws) (λ (x : Interaction). x .count ∷ []) (count-is ws) at xs e
 
-    pub fields-are : fieldWords ws at (length xs) ≡ fields xs
+    pub fields-are : fieldWords ws at (length xs) ≡ fieldsOf xs
     fields-are = each-are (fieldsAt ws) (λ (x : Interaction). x .message) (message-is ws) at xs e
 
 -- The references are records below a bound.

@@ -83,8 +83,8 @@ referencesOf x = x .message ++ (x .count ∷ [])
 abbrev pub references : List semantics.Interaction → List ℕ
 references xs = flatMap referencesOf xs
 
-abbrev pub counts : List semantics.Interaction → List ℕ
-counts xs = flatMap (λ (x : semantics.Interaction). x .count ∷ []) xs
+abbrev pub countsOf : List semantics.Interaction → List ℕ
+countsOf xs = flatMap (λ (x : semantics.Interaction). x .count ∷ []) xs
 
-abbrev pub fields : List semantics.Interaction → List ℕ
-fields xs = flatMap (λ (x : semantics.Interaction). x .message) xs
+abbrev pub fieldsOf : List semantics.Interaction → List ℕ
+fieldsOf xs = flatMap (λ (x : semantics.Interaction). x .message) xs

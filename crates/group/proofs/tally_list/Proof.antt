@@ -2,7 +2,7 @@ use mathlib.Core.Path.{refl, subst, _∙_}
 use Prim.Native.Nat.{_+_, _-_, _≤_}
 use native.Mathlib.Omega.{arith}
 use borrow.Author.Needs.{needs}
-use Rattle.group.specs.Grouped.{Counted}
+use Rattle.group.specs.Grouped.{CountedMore}
 use Rattle.group.specs.Waiting.{batched}
 use Rattle.group.proofs.Runs.{Tallying, tallying-start, tallying-step, tallying-full, tallying-done}
 use Rattle.group.proofs.tally_list.Statement.{statement}
@@ -64,7 +64,7 @@ returns c =
     let u = c .before .before .before .before .before .before .before .before .before .before .before .before .tally-run in
     let v = c .before .before .before .before .insert-pending in
     let gs = batched (b .rows) (u .result .pending) (u .last .0) P (u .last .1 .1 .1 .1 .1 .0) in
-    tallying-full (b .inv) (u .ensures) (v .last .0) (subst (Counted (v .last .0) P gs) (c .enum-told .given .1) (v .ensures))
+    tallying-full (b .inv) (u .ensures) (v .last .0) (subst (CountedMore (v .last .0) P gs) (c .enum-told .given .1) (v .ensures))
 
 add-i : tie.Need-add-i Inv-loop μ-loop
 add-i c =
@@ -106,7 +106,7 @@ loop-again c =
     let v = c .before .before .before .before .before .before .insert-pending in
     let gs = batched (b .rows) (u .result .pending) (u .last .0) P (u .last .1 .1 .1 .1 .1 .0) in
     let n = c .before .before .next .given in
-    tallying-step (b .inv) (u .ensures) (v .last .0) (n .0 .0) (v .kept .0 ∙ u .kept .0) (subst (Counted (v .last .0) P gs) (n .1) (v .ensures))
+    tallying-step (b .inv) (u .ensures) (v .last .0) (n .0 .0) (v .kept .0 ∙ u .kept .0) (subst (CountedMore (v .last .0) P gs) (n .1) (v .ensures))
 
 same-length-2 : tie.Need-same-length-2 Inv-loop μ-loop
 same-length-2 c = c .before .loop .inv .long

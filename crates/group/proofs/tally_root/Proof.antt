@@ -3,7 +3,7 @@ use Prim.Native.Nat.{ℕ, _+_, _*_}
 use native.Mathlib.Omega.{arith}
 use lib.ListN.{getD}
 use Rattle.monomial.specs.Words.{listIn}
-use Rattle.group.specs.Grouped.{tallied, tallyAll, nonZero, Counted, Standing}
+use Rattle.group.specs.Grouped.{tallied, tallyAll, nonZero, CountedMore, Standing}
 use Rattle.group.proofs.PoolLists.{stands}
 use borrow.Author.Needs.{needs}
 use Rattle.group.proofs.tally_root.Statement.{statement}
@@ -55,9 +55,9 @@ returns c =
     let P = a .pool .now in
     let u = c .before .before .tally-list in
     let gs = tallied (a .n) (a .headers .now) P in
-    subst (λ (i : ℕ). Counted (u .last .0) P (tallyAll (nonZero (listIn P i (getD P (2 * a .node + 1) 0))) gs) (u .result)) (c .before .before .before .before .before .before .wide .ensures)
+    subst (λ (i : ℕ). CountedMore (u .last .0) P (tallyAll (nonZero (listIn P i (getD P (2 * a .node + 1) 0))) gs) (u .result)) (c .before .before .before .before .before .before .wide .ensures)
     (subst
-    (λ (i : ℕ). Counted (u .last .0) P (tallyAll (nonZero (listIn P (c .before .before .before .before .before .before .wide .result) i)) gs)
+    (λ (i : ℕ). CountedMore (u .last .0) P (tallyAll (nonZero (listIn P (c .before .before .before .before .before .before .wide .result) i)) gs)
     (u .result))
     (c .before .before .before .before .wide2 .ensures) (u .ensures))
 

@@ -7,7 +7,7 @@ use native.Mathlib.Omega.{arith}
 use lib.ListN.{length}
 use Rattle.semantics.specs.Check.{readSheet}
 use Rattle.semantics.specs.Walk.{order}
-use Rattle.records.specs.Access.{counts, fields, recordsOf}
+use Rattle.records.specs.Access.{countsOf, fieldsOf, recordsOf}
 use Rattle.records.proofs.Reading.{counts-small}
 use Rattle.expand.specs.declared.Expanded.{Expanded}
 use Rattle.expand.specs.Walking.{PoolHolds, Expands}
@@ -36,7 +36,7 @@ module _ (s : tie.Start) where
       ∷ length (s .args .denom-headers .now) ∷ length (s .args .denom-variables .now) ∷ length (s .args .denom-terms .now) ∷ []
 
   abbrev reached : List ℕ
-  reached = order (recordsOf words) (counts (readSheet words .interactions) ++ fields (readSheet words .interactions))
+  reached = order (recordsOf words) (countsOf (readSheet words .interactions) ++ fieldsOf (readSheet words .interactions))
 
   records-few : s .args .records ≤ 4096
   records-few = omega (arith, s .pre .records-are, counts-small words (s .pre .checked) .0)

@@ -7,7 +7,7 @@ use native.Mathlib.Omega.{arith}
 use lib.ListN.{length, take, drop, length-take}
 use Rattle.semantics.specs.Check.{readSheet}
 use Rattle.semantics.specs.Walk.{order}
-use Rattle.records.specs.Access.{counts, fields, recordsOf, AllRootsInside}
+use Rattle.records.specs.Access.{countsOf, fieldsOf, recordsOf, AllRootsInside}
 use Rattle.records.specs.Orders.{Visiting}
 use Rattle.expand.specs.declared.Expanded.{Expanded}
 use Rattle.expand.specs.Walking.{PoolHolds, Expands, ExpandWalking}
@@ -32,10 +32,10 @@ module _ (s : tie.Start) where
   rest = drop heads (s .args .pool .now)
 
   abbrev counted-roots : List ℕ
-  counted-roots = counts (readSheet words .interactions)
+  counted-roots = countsOf (readSheet words .interactions)
 
   abbrev listed-roots : List ℕ
-  listed-roots = fields (readSheet words .interactions)
+  listed-roots = fieldsOf (readSheet words .interactions)
 
   sheet-is : CheckedSheet words (s .args .records) (s .pre .0 .0) (s .args .interactions)
   sheet-is = s .pre .0 .1
