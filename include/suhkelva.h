@@ -9,7 +9,7 @@
  * Calls. Every call returns, keeps nothing between calls, takes no memory of its own but some stack, and reads and writes
  * nothing but what it is lent. Calls may run at the same time in several threads.
  *
- * Replies. Every reply is a struct that begins with `number` and `place`:
+ * Replies. Every reply is a struct that begins with `number`, 32 bits, and `place`, 64 bits:
  *     number 0   accepted: place is 0, and the further fields are the answer;
  *     otherwise  refused: number says why and place says where (table below), and every further field is 0.
  *
