@@ -2,6 +2,7 @@
 ghost use mathlib.Core.Path.{_≡_};
 ghost use Prim.Native.Nat.{_+_, _≤_};
 ghost use lib.ListN.{length, drop};
+ghost use Rattle.slices.specs.Lent.{old};
 ghost use Rattle.semantics.specs.Block.{wordAt, wordBytes, wordsOf, checkWord, blockGood};
 
 fn wide(x: u8) -> u32
@@ -13,7 +14,7 @@ fn wide(x: u8) -> u32
 // The word whose first byte stands at `at`.
 pub fn word_at(bytes: &[u8], at: usize) -> u32
     requires { ⌜ at + 4 ≤ length (now bytes) ⌝ }
-    ensures { λ r. ⌜ r ≡ wordAt (drop at (now (bytes .entry))) ⌝ }
+    ensures { λ r. ⌜ r ≡ wordAt (drop at (old bytes)) ⌝ }
 {
     wide(bytes[at])
         + 256 * wide(bytes[at + 1])
@@ -35,7 +36,7 @@ pub fn word_bytes(w: u32) -> [u8; 4]
 // The check word of the 127 words from `at` on and the block's number.
 pub fn check_word(bytes: &[u8], at: usize, number: u32) -> u32
     requires { ⌜ at + 508 ≤ length (now bytes) ⌝ }
-    ensures { λ r. ⌜ r ≡ checkWord number (wordsOf 127 (drop at (now (bytes .entry)))) ⌝ }
+    ensures { λ r. ⌜ r ≡ checkWord number (wordsOf 127 (drop at (old bytes))) ⌝ }
 {
     let mut sum = number as u64;
     let mut n: usize = 0;
@@ -49,7 +50,7 @@ pub fn check_word(bytes: &[u8], at: usize, number: u32) -> u32
 // Whether the block at `at` ends with its check word.
 pub fn block_good(bytes: &[u8], at: usize, number: u32) -> bool
     requires { ⌜ at + 512 ≤ length (now bytes) ⌝ }
-    ensures { λ r. ⌜ r ≡ blockGood number (drop at (now (bytes .entry))) ⌝ }
+    ensures { λ r. ⌜ r ≡ blockGood number (drop at (old bytes)) ⌝ }
 {
     word_at(bytes, at + 508) == check_word(bytes, at, number)
 }

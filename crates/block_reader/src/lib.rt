@@ -3,6 +3,7 @@ ghost use mathlib.Core.Path.{_≡_};
 ghost use mathlib.Core.List.{_++_};
 ghost use Prim.Native.Nat.{_+_, _*_, _≤_};
 ghost use lib.ListN.{length, take, drop};
+ghost use Rattle.slices.specs.Lent.{old, new};
 ghost use Rattle.semantics.specs.Block.{wordsOf, badLength, readBlocks};
 ghost use Rattle.semantics.specs.Call.{readerCall};
 ghost use Rattle.answers.specs.Replies.{writtenOutcome, restZeroed};
@@ -26,7 +27,7 @@ fn bad_length(n: usize) -> bool
 // The 127 words of the block at `at` go to the output from `to` on.
 fn read_block(bytes: &[u8], at: usize, out: &mut [u32], to: usize)
     requires { ⌜ (at + 508 ≤ length (now bytes)) × (to + 127 ≤ length (now out)) ⌝ }
-    ensures { λ _. ⌜ take (to + 127) (now (out .exit)) ≡ take to (now (out .entry)) ++ wordsOf 127 (drop at (now (bytes .entry))) ⌝ }
+    ensures { λ _. ⌜ take (to + 127) (new out) ≡ take to (old out) ++ wordsOf 127 (drop at (old bytes)) ⌝ }
 {
     let mut i: usize = 0;
     while i < 127 {
@@ -38,7 +39,7 @@ fn read_block(bytes: &[u8], at: usize, out: &mut [u32], to: usize)
 // The words of the blocks, as long as each has its check word.
 fn read_each(bytes: &[u8], blocks: usize, out: &mut [u32]) -> Written
     requires { ⌜ (blocks ≤ 710) × (512 * blocks ≤ length (now bytes)) × (127 * blocks ≤ length (now out)) ⌝ }
-    ensures { λ r. ⌜ restZeroed r (now (out .exit)) ≡ wordsOutcome (length (now (out .entry))) (readBlocks blocks 0 (now (bytes .entry))) ⌝ }
+    ensures { λ r. ⌜ restZeroed r (new out) ≡ wordsOutcome (length (old out)) (readBlocks blocks 0 (old bytes)) ⌝ }
 {
     let mut k: usize = 0;
     while k < blocks {
@@ -57,7 +58,7 @@ fn read_each(bytes: &[u8], blocks: usize, out: &mut [u32]) -> Written
 
 // The words of the blocks go to the front of the output.
 fn read_all(bytes: &[u8], out: &mut [u32]) -> Written
-    ensures { λ r. ⌜ restZeroed r (now (out .exit)) ≡ readerCall (now (bytes .entry)) (length (now (out .entry))) ⌝ }
+    ensures { λ r. ⌜ restZeroed r (new out) ≡ readerCall (old bytes) (length (old out)) ⌝ }
 {
     if bad_length(bytes.len()) {
         return Written::Refused(Refusal {
@@ -78,7 +79,7 @@ fn read_all(bytes: &[u8], out: &mut [u32]) -> Written
 
 // The words of blocks.
 pub fn read_blocks(bytes: &[u8], out: &mut [u32]) -> Written
-    ensures { λ r. ⌜ writtenOutcome r (now (out .exit)) ≡ readerCall (now (bytes .entry)) (length (now (out .entry))) ⌝ }
+    ensures { λ r. ⌜ writtenOutcome r (new out) ≡ readerCall (old bytes) (length (old out)) ⌝ }
 {
     let read = read_all(bytes, out);
     slices::zero_from(out, answers::count_of(read));

@@ -3,6 +3,7 @@ ghost use mathlib.Core.Path.{_≡_};
 ghost use mathlib.Core.List.{_++_, flatMap};
 ghost use Prim.Native.Nat.{_+_, _*_, _≤_, _<_};
 ghost use lib.ListN.{length, getD, take, drop};
+ghost use Rattle.slices.specs.Lent.{old, new};
 ghost use Rattle.semantics.specs.Check.{primeOf};
 ghost use Rattle.semantics.specs.Block.{wordsOf, wordBytes, firstWords, blockBytes, writeBlocks};
 ghost use Rattle.semantics.specs.Call.{writerCall};
@@ -14,7 +15,7 @@ use sheet::Checked;
 
 // The word at i, 0 past the end.
 fn word_or_zero(s: &[u32], i: usize) -> u32
-    ensures { λ r. ⌜ (r ≡ getD (now (s .entry)) i 0) × (r < 4294967296) ⌝ }
+    ensures { λ r. ⌜ (r ≡ getD (old s) i 0) × (r < 4294967296) ⌝ }
 {
     if s.len() <= i {
         return 0;
@@ -25,7 +26,7 @@ fn word_or_zero(s: &[u32], i: usize) -> u32
 // A word goes as four bytes to the output at `at`.
 fn put_word(w: u32, out: &mut [u8], at: usize)
     requires { ⌜ at + 4 ≤ length (now out) ⌝ }
-    ensures { λ _. ⌜ take (at + 4) (now (out .exit)) ≡ take at (now (out .entry)) ++ wordBytes w ⌝ }
+    ensures { λ _. ⌜ take (at + 4) (new out) ≡ take at (old out) ++ wordBytes w ⌝ }
 {
     let b = words::word_bytes(w);
     out[at] = b[0];
@@ -37,8 +38,8 @@ fn put_word(w: u32, out: &mut [u8], at: usize)
 // The 127 words from `from` on, zeros past the end, go as bytes to the output from `at` on, and can be read there.
 fn put_words(s: &[u32], from: usize, out: &mut [u8], at: usize)
     requires { ⌜ (from ≤ 90170) × (at + 508 ≤ length (now out)) ⌝ }
-    ensures { λ _. ⌜ (take (at + 508) (now (out .exit)) ≡ take at (now (out .entry)) ++ flatMap wordBytes (firstWords 127 (drop from (now (s .entry)))))
-        × (wordsOf 127 (drop at (now (out .exit))) ≡ firstWords 127 (drop from (now (s .entry)))) ⌝ }
+    ensures { λ _. ⌜ (take (at + 508) (new out) ≡ take at (old out) ++ flatMap wordBytes (firstWords 127 (drop from (old s))))
+        × (wordsOf 127 (drop at (new out)) ≡ firstWords 127 (drop from (old s))) ⌝ }
 {
     let mut i: usize = 0;
     while i < 127 {
@@ -50,8 +51,8 @@ fn put_words(s: &[u32], from: usize, out: &mut [u8], at: usize)
 // Block k, counted from 0, with its check word.
 fn write_block(s: &[u32], k: usize, out: &mut [u8])
     requires { ⌜ (k < 710) × (512 * k + 512 ≤ length (now out)) ⌝ }
-    ensures { λ _. ⌜ take (512 * k + 512) (now (out .exit))
-        ≡ take (512 * k) (now (out .entry)) ++ blockBytes (k + 1) (firstWords 127 (drop (127 * k) (now (s .entry)))) ⌝ }
+    ensures { λ _. ⌜ take (512 * k + 512) (new out)
+        ≡ take (512 * k) (old out) ++ blockBytes (k + 1) (firstWords 127 (drop (127 * k) (old s))) ⌝ }
 {
     let at = 512 * k;
     put_words(s, 127 * k, out, at);
@@ -61,7 +62,7 @@ fn write_block(s: &[u32], k: usize, out: &mut [u8])
 
 fn write_each(s: &[u32], blocks: usize, out: &mut [u8])
     requires { ⌜ (blocks ≤ 710) × (512 * blocks ≤ length (now out)) ⌝ }
-    ensures { λ _. ⌜ take (512 * blocks) (now (out .exit)) ≡ writeBlocks blocks 0 (now (s .entry)) ⌝ }
+    ensures { λ _. ⌜ take (512 * blocks) (new out) ≡ writeBlocks blocks 0 (old s) ⌝ }
 {
     let mut k: usize = 0;
     while k < blocks {
@@ -72,7 +73,7 @@ fn write_each(s: &[u32], blocks: usize, out: &mut [u8])
 
 // The blocks of a sheet go to the front of the output.
 fn write_all(s: &[u32], out: &mut [u8]) -> Written
-    ensures { λ r. ⌜ restZeroed r (now (out .exit)) ≡ writerCall (primeOf (now (s .entry))) (now (s .entry)) (length (now (out .entry))) ⌝ }
+    ensures { λ r. ⌜ restZeroed r (new out) ≡ writerCall (primeOf (old s)) (old s) (length (old out)) ⌝ }
 {
     let checked = sheet::check_sheet(s);
     let Checked::Sheet(head) = checked else {
@@ -93,7 +94,7 @@ fn write_all(s: &[u32], out: &mut [u8]) -> Written
 
 // The sheet in blocks: its words, zero fill and the check words.
 pub fn write_blocks(s: &[u32], out: &mut [u8]) -> Written
-    ensures { λ r. ⌜ writtenOutcome r (now (out .exit)) ≡ writerCall (primeOf (now (s .entry))) (now (s .entry)) (length (now (out .entry))) ⌝ }
+    ensures { λ r. ⌜ writtenOutcome r (new out) ≡ writerCall (primeOf (old s)) (old s) (length (old out)) ⌝ }
 {
     let written = write_all(s, out);
     slices::zero_bytes_from(out, answers::count_of(written));

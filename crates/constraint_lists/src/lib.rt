@@ -2,6 +2,7 @@
 ghost use mathlib.Core.Path.{_≡_};
 ghost use Prim.Native.Nat.{ℕ, _*_, _≤_};
 ghost use lib.ListN.{length};
+ghost use Rattle.slices.specs.Lent.{old, new};
 ghost use Rattle.semantics.specs.Check.{readSheet};
 ghost use Rattle.semantics.specs.Walk.{order};
 ghost use Rattle.records.specs.Access.{recordsOf};
@@ -68,8 +69,8 @@ fn walk_constraints(
 ) -> Expanded
     requires { ⌜ ((interactions : ℕ) × CheckedSheet (now s) records constraints interactions) × (4096 ≤ length (now work))
         × (2 * records ≤ length (now pool)) ⌝ }
-    ensures { λ u. ⌜ Expands (now (s .entry)) (now (pool .exit)) u
-        (order (recordsOf (now (s .entry))) (readSheet (now (s .entry)) .constraints)) ⌝ }
+    ensures { λ u. ⌜ Expands (old s) (new pool) u
+        (order (recordsOf (old s)) (readSheet (old s) .constraints)) ⌝ }
 {
     let heads = 2 * records;
     slices::zero_all(&mut pool[..heads]);
@@ -89,10 +90,10 @@ pub fn expand_checked(
     terms: &mut [u32],
 ) -> ConstraintLists
     requires { ⌜ ((interactions : ℕ) × CheckedSheet (now s) records constraints interactions) ⌝ }
-    ensures { λ r. ⌜ (constraintAnswer r (now (headers .exit)) (now (variables .exit)) (now (terms .exit))
-        ≡ constraintsOf (length (now (work .entry))) (length (now (pool .entry)))
-        (length (now (headers .entry))) (length (now (variables .entry))) (length (now (terms .entry))) (readSheet (now (s .entry))))
-        × ListsFit r (now (headers .exit)) (now (variables .exit)) (now (terms .exit)) ⌝ }
+    ensures { λ r. ⌜ (constraintAnswer r (new headers) (new variables) (new terms)
+        ≡ constraintsOf (length (old work)) (length (old pool))
+        (length (old headers)) (length (old variables)) (length (old terms)) (readSheet (old s)))
+        × ListsFit r (new headers) (new variables) (new terms) ⌝ }
 {
     if work.len() < 4096 {
         return ConstraintLists::Refused(Refusal {

@@ -1,6 +1,7 @@
 // The builder: port of dag.rs over a sheet, scratch and an output that are lent.
 ghost use mathlib.Core.Path.{_≡_};
 ghost use lib.ListN.{length};
+ghost use Rattle.slices.specs.Lent.{old, new};
 ghost use Rattle.semantics.specs.Check.{primeOf};
 ghost use Rattle.semantics.specs.Call.{builderCall, zeros};
 ghost use Rattle.dag.specs.Calls.{builtOutcome, Clear};
@@ -20,8 +21,8 @@ fn build_checked(
     out: &mut [u32],
 ) -> Written
     requires { ⌜ Clear (now s) records words (now scratch) (now out) ⌝ }
-    ensures { λ r. ⌜ builtOutcome r (zeros (length (now (scratch .entry)))) (now (out .exit))
-        ≡ builderCall (primeOf (now (s .entry))) (now (s .entry)) (length (now (scratch .entry))) (length (now (out .entry))) ⌝ }
+    ensures { λ r. ⌜ builtOutcome r (zeros (length (old scratch))) (new out)
+        ≡ builderCall (primeOf (old s)) (old s) (length (old scratch)) (length (old out)) ⌝ }
 {
     if scratch.len() < records {
         return Written::Refused(Refusal {
@@ -42,8 +43,8 @@ fn build_checked(
 // The graph of a sheet, in an output of zeros.
 fn build_clear(s: &[u32], scratch: &mut [u32], out: &mut [u32]) -> Written
     requires { ⌜ (now scratch ≡ zeros (length (now scratch))) × (now out ≡ zeros (length (now out))) ⌝ }
-    ensures { λ r. ⌜ builtOutcome r (zeros (length (now (scratch .entry)))) (now (out .exit))
-        ≡ builderCall (primeOf (now (s .entry))) (now (s .entry)) (length (now (scratch .entry))) (length (now (out .entry))) ⌝ }
+    ensures { λ r. ⌜ builtOutcome r (zeros (length (old scratch))) (new out)
+        ≡ builderCall (primeOf (old s)) (old s) (length (old scratch)) (length (old out)) ⌝ }
 {
     let checked = sheet::check_sheet(s);
     let Checked::Sheet(head) = checked else {
@@ -54,8 +55,8 @@ fn build_clear(s: &[u32], scratch: &mut [u32], out: &mut [u32]) -> Written
 
 // The builder: checks the sheet and writes its graph; scratch ends all zero.
 pub fn build(s: &[u32], scratch: &mut [u32], out: &mut [u32]) -> Written
-    ensures { λ r. ⌜ builtOutcome r (now (scratch .exit)) (now (out .exit))
-        ≡ builderCall (primeOf (now (s .entry))) (now (s .entry)) (length (now (scratch .entry))) (length (now (out .entry))) ⌝ }
+    ensures { λ r. ⌜ builtOutcome r (new scratch) (new out)
+        ≡ builderCall (primeOf (old s)) (old s) (length (old scratch)) (length (old out)) ⌝ }
 {
     slices::zero_all(scratch);
     slices::zero_all(out);

@@ -1,6 +1,7 @@
 // Demand 3 as a caller has it: the builder and the expansions, each with its own contract and with the promise that the demand makes of it.
 ghost use mathlib.Core.Path.{_≡_};
 ghost use lib.ListN.{length};
+ghost use Rattle.slices.specs.Lent.{old, new};
 ghost use Rattle.semantics.specs.Check.{primeOf};
 ghost use Rattle.semantics.specs.Call.{builderCall, constraintCall, interactionCall};
 ghost use Rattle.dag.specs.Calls.{builtOutcome};
@@ -11,9 +12,9 @@ use constraint_lists::ConstraintLists;
 use interaction_lists::InteractionLists;
 
 pub fn build(s: &[u32], scratch: &mut [u32], out: &mut [u32]) -> Written
-    ensures outcome { λ r. ⌜ builtOutcome r (now (scratch .exit)) (now (out .exit))
-        ≡ builderCall (primeOf (now (s .entry))) (now (s .entry)) (length (now (scratch .entry))) (length (now (out .entry))) ⌝ }
-    ensures demand { λ r. ⌜ GraphBuilt (now (s .entry)) r (now (out .exit)) ⌝ }
+    ensures outcome { λ r. ⌜ builtOutcome r (new scratch) (new out)
+        ≡ builderCall (primeOf (old s)) (old s) (length (old scratch)) (length (old out)) ⌝ }
+    ensures demand { λ r. ⌜ GraphBuilt (old s) r (new out) ⌝ }
 {
     let built = dag::build(s, scratch, out);
     built
@@ -28,12 +29,12 @@ pub fn expand_constraints(
     terms: &mut [u32],
 ) -> ConstraintLists
     ensures outcome { λ r. ⌜ constraintOutcome r
-        (now (work .exit)) (now (pool .exit)) (now (headers .exit)) (now (variables .exit)) (now (terms .exit))
-        ≡ constraintCall (primeOf (now (s .entry))) (now (s .entry))
-        (length (now (work .entry))) (length (now (pool .entry)))
-        (length (now (headers .entry))) (length (now (variables .entry))) (length (now (terms .entry))) ⌝ }
-    ensures demand { λ r. ⌜ ConstraintsExpanded (now (s .entry)) (constraintOutcome r
-        (now (work .exit)) (now (pool .exit)) (now (headers .exit)) (now (variables .exit)) (now (terms .exit))) ⌝ }
+        (new work) (new pool) (new headers) (new variables) (new terms)
+        ≡ constraintCall (primeOf (old s)) (old s)
+        (length (old work)) (length (old pool))
+        (length (old headers)) (length (old variables)) (length (old terms)) ⌝ }
+    ensures demand { λ r. ⌜ ConstraintsExpanded (old s) (constraintOutcome r
+        (new work) (new pool) (new headers) (new variables) (new terms)) ⌝ }
 {
     let lists = expansion::expand_constraints(s, work, pool, headers, variables, terms);
     lists
@@ -50,15 +51,15 @@ pub fn expand_interactions(
     denom_variables: &mut [u32],
     denom_terms: &mut [u32],
 ) -> InteractionLists
-    ensures outcome { λ r. ⌜ interactionOutcome r (now (work .exit)) (now (pool .exit))
-        (now (headers .exit)) (now (variables .exit)) (now (terms .exit))
-        (now («denom_headers» .exit)) (now («denom_variables» .exit)) (now («denom_terms» .exit))
-        ≡ interactionCall (primeOf (now (s .entry))) (now (s .entry)) (length (now (work .entry))) (length (now (pool .entry)))
-        (length (now (headers .entry))) (length (now (variables .entry))) (length (now (terms .entry)))
-        (length (now («denom_headers» .entry))) (length (now («denom_variables» .entry))) (length (now («denom_terms» .entry))) ⌝ }
-    ensures demand { λ r. ⌜ InteractionsExpanded (now (s .entry)) (interactionOutcome r (now (work .exit)) (now (pool .exit))
-        (now (headers .exit)) (now (variables .exit)) (now (terms .exit))
-        (now («denom_headers» .exit)) (now («denom_variables» .exit)) (now («denom_terms» .exit))) ⌝ }
+    ensures outcome { λ r. ⌜ interactionOutcome r (new work) (new pool)
+        (new headers) (new variables) (new terms)
+        (new «denom_headers») (new «denom_variables») (new «denom_terms»)
+        ≡ interactionCall (primeOf (old s)) (old s) (length (old work)) (length (old pool))
+        (length (old headers)) (length (old variables)) (length (old terms))
+        (length (old «denom_headers»)) (length (old «denom_variables»)) (length (old «denom_terms»)) ⌝ }
+    ensures demand { λ r. ⌜ InteractionsExpanded (old s) (interactionOutcome r (new work) (new pool)
+        (new headers) (new variables) (new terms)
+        (new «denom_headers») (new «denom_variables») (new «denom_terms»)) ⌝ }
 {
     let lists = expansion::expand_interactions(
         s,

@@ -3,6 +3,7 @@ ghost use mathlib.Core.Path.{_≡_};
 ghost use mathlib.Core.List.{[], _++_, map};
 ghost use Prim.Native.Nat.{ℕ, _+_, _*_, _≤_, _<_};
 ghost use lib.ListN.{length, getD};
+ghost use Rattle.slices.specs.Lent.{old, new};
 ghost use Rattle.semantics.specs.Arithmetic.{prime};
 ghost use Rattle.semantics.specs.Sheet.{GoodRecord};
 ghost use Rattle.semantics.specs.Packing.{packFault};
@@ -32,7 +33,7 @@ pub struct PoolList {
 // The two words of record c in the pool.
 pub fn list_of(pool: &[u32], c: usize) -> PoolList
     requires { ⌜ 2 * c + 1 < length (now pool) ⌝ }
-    ensures { λ x. ⌜ (x .at ≡ getD (now (pool .entry)) (2 * c) 0) × (x .count ≡ getD (now (pool .entry)) (2 * c + 1) 0) ⌝ }
+    ensures { λ x. ⌜ (x .at ≡ getD (old pool) (2 * c) 0) × (x .count ≡ getD (old pool) (2 * c + 1) 0) ⌝ }
 {
     PoolList {
         at: answers::wide(pool[2 * c]),
@@ -76,7 +77,7 @@ fn pack_fault(packed: Packed) -> u32
 // A leaf: one monomial, a constant 0 included.
 pub fn expand_leaf(work: &mut [u32], q: Record) -> Made
     requires { ⌜ (16 ≤ length (now work)) × (q .kind ≤ 5) × ((own : ℕ) × GoodRecord prime own (fiveWords q)) ⌝ }
-    ensures { λ u. ⌜ Makes (now (work .exit)) u (packFault (fiveWords q)) (recordList prime (fiveWords q) (λ c. [])) ⌝ }
+    ensures { λ u. ⌜ Makes (new work) u (packFault (fiveWords q)) (recordList prime (fiveWords q) (λ c. [])) ⌝ }
 {
     if q.kind == 5 {
         lists::put_monomial(work, 0, constant_monomial(q.a));
@@ -93,8 +94,8 @@ pub fn expand_leaf(work: &mut [u32], q: Record) -> Made
 // Neg: the child's list negated.
 pub fn expand_neg(work: &mut [u32], pool: &[u32], x: PoolList) -> Made
     requires { ⌜ (4096 ≤ length (now work)) × (x .count ≤ 256) × ListFits (now pool) (x .at) (x .count) ⌝ }
-    ensures { λ u. ⌜ Makes (now (work .exit)) u (workFault (map (negMonomial prime) (listIn (now (pool .entry)) (x .at) (x .count))))
-        (map (negMonomial prime) (listIn (now (pool .entry)) (x .at) (x .count))) ⌝ }
+    ensures { λ u. ⌜ Makes (new work) u (workFault (map (negMonomial prime) (listIn (old pool) (x .at) (x .count))))
+        (map (negMonomial prime) (listIn (old pool) (x .at) (x .count))) ⌝ }
 {
     lists::negate_list(work, pool, x.at, x.count);
     Made::Held(x.count)
@@ -104,9 +105,9 @@ pub fn expand_neg(work: &mut [u32], pool: &[u32], x: PoolList) -> Made
 pub fn expand_sum(work: &mut [u32], pool: &[u32], l: PoolList, r: PoolList, negated: bool) -> Made
     requires { ⌜ (4096 ≤ length (now work)) × ((l .count ≤ 256) × ListFits (now pool) (l .at) (l .count))
         × (r .count ≤ 256) × ListFits (now pool) (r .at) (r .count) ⌝ }
-    ensures { λ u. ⌜ Makes (now (work .exit)) u
-        (workFault (listIn (now (pool .entry)) (l .at) (l .count) ++ negatedIf negated (listIn (now (pool .entry)) (r .at) (r .count))))
-        (combine prime (listIn (now (pool .entry)) (l .at) (l .count) ++ negatedIf negated (listIn (now (pool .entry)) (r .at) (r .count)))) ⌝ }
+    ensures { λ u. ⌜ Makes (new work) u
+        (workFault (listIn (old pool) (l .at) (l .count) ++ negatedIf negated (listIn (old pool) (r .at) (r .count))))
+        (combine prime (listIn (old pool) (l .at) (l .count) ++ negatedIf negated (listIn (old pool) (r .at) (r .count)))) ⌝ }
 {
     if 256 < l.count + r.count {
         return Made::Fault(12);
@@ -120,9 +121,9 @@ pub fn expand_sum(work: &mut [u32], pool: &[u32], l: PoolList, r: PoolList, nega
 pub fn expand_product(work: &mut [u32], pool: &[u32], l: PoolList, r: PoolList) -> Made
     requires { ⌜ (4096 ≤ length (now work)) × ((l .count ≤ 256) × ListFits (now pool) (l .at) (l .count))
         × (r .count ≤ 256) × ListFits (now pool) (r .at) (r .count) ⌝ }
-    ensures { λ u. ⌜ Makes (now (work .exit)) u
-        (workFault (products prime (listIn (now (pool .entry)) (l .at) (l .count)) (listIn (now (pool .entry)) (r .at) (r .count))))
-        (combine prime (products prime (listIn (now (pool .entry)) (l .at) (l .count)) (listIn (now (pool .entry)) (r .at) (r .count)))) ⌝ }
+    ensures { λ u. ⌜ Makes (new work) u
+        (workFault (products prime (listIn (old pool) (l .at) (l .count)) (listIn (old pool) (r .at) (r .count))))
+        (combine prime (products prime (listIn (old pool) (l .at) (l .count)) (listIn (old pool) (r .at) (r .count)))) ⌝ }
 {
     if 256 < l.count * r.count {
         return Made::Fault(12);

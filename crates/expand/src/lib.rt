@@ -4,6 +4,7 @@ ghost use mathlib.Core.Bool.{false};
 ghost use mathlib.Core.List.{List, _∷_};
 ghost use Prim.Native.Nat.{ℕ, suc};
 ghost use lib.ListN.{length};
+ghost use Rattle.slices.specs.Lent.{old, new};
 ghost use Rattle.semantics.specs.Check.{primeOf};
 ghost use Rattle.semantics.specs.Monomial.{listAt};
 ghost use Rattle.semantics.specs.Expand.{recordFault};
@@ -29,8 +30,8 @@ pub enum Expanded {
 // Makes the list of a record whose children are expanded.
 fn make_list(sheet: &[u32], work: &mut [u32], pool: &[u32], r: usize) -> Made
     requires { ⌜ ((used : ℕ) × Finishing (now sheet) r (now work) (now pool) used) ⌝ }
-    ensures { λ u. ⌜ Makes (now (work .exit)) u (recordFault (primeOf (now (sheet .entry))) (recordsOf (now (sheet .entry))) r)
-        (listAt (primeOf (now (sheet .entry))) (recordsOf (now (sheet .entry))) r) ⌝ }
+    ensures { λ u. ⌜ Makes (new work) u (recordFault (primeOf (old sheet)) (recordsOf (old sheet)) r)
+        (listAt (primeOf (old sheet)) (recordsOf (old sheet)) r) ⌝ }
 {
     let q = records::record_at(sheet, r);
     if q.kind < 6 {
@@ -50,7 +51,7 @@ fn make_list(sheet: &[u32], work: &mut [u32], pool: &[u32], r: usize) -> Made
 // Writes a list behind the words of the pool that are taken, and its place into the record's two words.
 fn store_list(work: &[u32], count: usize, pool: &mut [u32], r: usize, used: usize) -> Expanded
     requires { ⌜ Storing (now work) count (now pool) r used ⌝ }
-    ensures { λ u. ⌜ Stores (now (pool .entry)) (now (pool .exit)) r used (held count (now (work .entry))) u ⌝ }
+    ensures { λ u. ⌜ Stores (old pool) (new pool) r used (held count (old work)) u ⌝ }
 {
     let size = lists::list_size(work, count);
     if pool.len() - used < size {
@@ -87,9 +88,9 @@ fn finish_record(
     used: usize,
 ) -> Expanded
     requires { ⌜ Finishing (now sheet) r (now work) (now pool) used ⌝ }
-    ensures { λ u. ⌜ ((done : List ℕ) → Order (now (sheet .entry)) done → member r done ≡ false
-        → There (now (sheet .entry)) r done → PoolHolds (now (sheet .entry)) done (now (pool .entry)) used
-        → Expands (now (sheet .entry)) (now (pool .exit)) u (r ∷ done)) ⌝ }
+    ensures { λ u. ⌜ ((done : List ℕ) → Order (old sheet) done → member r done ≡ false
+        → There (old sheet) r done → PoolHolds (old sheet) done (old pool) used
+        → Expands (old sheet) (new pool) u (r ∷ done)) ⌝ }
 {
     let made = make_list(sheet, work, pool, r);
     let Made::Held(count) = made else {
@@ -102,8 +103,8 @@ fn finish_record(
 // so a level keeps one answer and no record: a word is read when it is needed.
 fn expand_node(sheet: &[u32], work: &mut [u32], pool: &mut [u32], r: usize, used: usize) -> Expanded
     requires { ⌜ ExpandReady (now sheet) r (now work) (now pool) used ⌝ }
-    ensures { λ u. ⌜ ((done : List ℕ) → Order (now (sheet .entry)) done → PoolHolds (now (sheet .entry)) done (now (pool .entry)) used
-        → Expands (now (sheet .entry)) (now (pool .exit)) u (visit (childrenAt (recordsOf (now (sheet .entry)))) (suc r) done r)) ⌝ }
+    ensures { λ u. ⌜ ((done : List ℕ) → Order (old sheet) done → PoolHolds (old sheet) done (old pool) used
+        → Expands (old sheet) (new pool) u (visit (childrenAt (recordsOf (old sheet))) (suc r) done r)) ⌝ }
 {
     let mut answer = Expanded::Used(used);
     if pool[2 * r] != 0 {
@@ -139,8 +140,8 @@ pub fn expand_references(
     used: usize,
 ) -> Expanded
     requires { ⌜ ExpandWalking (now sheet) (now work) (now pool) used × ReferencesInside (now sheet) at count ⌝ }
-    ensures { λ u. ⌜ Visiting (now (sheet .entry)) (wordsFrom at count (now (sheet .entry))) (λ d. PoolHolds (now (sheet .entry)) d (now (pool .entry)) used)
-        (Expands (now (sheet .entry)) (now (pool .exit)) u) ⌝ }
+    ensures { λ u. ⌜ Visiting (old sheet) (wordsFrom at count (old sheet)) (λ d. PoolHolds (old sheet) d (old pool) used)
+        (Expands (old sheet) (new pool) u) ⌝ }
 {
     let mut taken = used;
     let mut j: usize = 0;
@@ -166,8 +167,8 @@ pub fn expand_counts(
     used: usize,
 ) -> Expanded
     requires { ⌜ ExpandWalking (now sheet) (now work) (now pool) used × AllRootsInside (length (recordsOf (now sheet))) (now sheet) at count ⌝ }
-    ensures { λ u. ⌜ Visiting (now (sheet .entry)) (countWords (now (sheet .entry)) at count)
-        (λ d. PoolHolds (now (sheet .entry)) d (now (pool .entry)) used) (Expands (now (sheet .entry)) (now (pool .exit)) u) ⌝ }
+    ensures { λ u. ⌜ Visiting (old sheet) (countWords (old sheet) at count)
+        (λ d. PoolHolds (old sheet) d (old pool) used) (Expands (old sheet) (new pool) u) ⌝ }
 {
     let mut taken = used;
     let mut from = at;
@@ -195,8 +196,8 @@ pub fn expand_fields(
     used: usize,
 ) -> Expanded
     requires { ⌜ ExpandWalking (now sheet) (now work) (now pool) used × AllRootsInside (length (recordsOf (now sheet))) (now sheet) at count ⌝ }
-    ensures { λ u. ⌜ Visiting (now (sheet .entry)) (fieldWords (now (sheet .entry)) at count)
-        (λ d. PoolHolds (now (sheet .entry)) d (now (pool .entry)) used) (Expands (now (sheet .entry)) (now (pool .exit)) u) ⌝ }
+    ensures { λ u. ⌜ Visiting (old sheet) (fieldWords (old sheet) at count)
+        (λ d. PoolHolds (old sheet) d (old pool) used) (Expands (old sheet) (new pool) u) ⌝ }
 {
     let mut taken = used;
     let mut from = at;

@@ -1,6 +1,7 @@
 // The expansions as calls: each checks its sheet, has its lists made, and zeroes what is not written.
 ghost use mathlib.Core.Path.{_≡_};
 ghost use lib.ListN.{length};
+ghost use Rattle.slices.specs.Lent.{old, new};
 ghost use Rattle.semantics.specs.Check.{primeOf};
 ghost use Rattle.semantics.specs.Call.{onSheet, constraintCall, interactionCall};
 ghost use Rattle.constraint_lists.specs.Lists.{constraintAnswer, constraintsOf, ListsFit};
@@ -21,11 +22,11 @@ fn expand_sheet(
     variables: &mut [u32],
     terms: &mut [u32],
 ) -> ConstraintLists
-    ensures { λ r. ⌜ (constraintAnswer r (now (headers .exit)) (now (variables .exit)) (now (terms .exit))
-        ≡ onSheet (primeOf (now (s .entry))) (now (s .entry))
-        (constraintsOf (length (now (work .entry))) (length (now (pool .entry)))
-        (length (now (headers .entry))) (length (now (variables .entry))) (length (now (terms .entry)))))
-        × ListsFit r (now (headers .exit)) (now (variables .exit)) (now (terms .exit)) ⌝ }
+    ensures { λ r. ⌜ (constraintAnswer r (new headers) (new variables) (new terms)
+        ≡ onSheet (primeOf (old s)) (old s)
+        (constraintsOf (length (old work)) (length (old pool))
+        (length (old headers)) (length (old variables)) (length (old terms))))
+        × ListsFit r (new headers) (new variables) (new terms) ⌝ }
 {
     let checked = sheet::check_sheet(s);
     let Checked::Sheet(head) = checked else {
@@ -59,9 +60,9 @@ fn lengths_of(lists: ConstraintLists) -> Lengths
 
 // Zeros behind the words of three lists.
 fn clear_behind(headers: &mut [u32], variables: &mut [u32], terms: &mut [u32], kept: Lengths)
-    ensures { λ _. ⌜ (now (headers .exit) ≡ cut (kept .headers) (now (headers .entry)))
-        × (now (variables .exit) ≡ cut (kept .variables) (now (variables .entry)))
-        × (now (terms .exit) ≡ cut (kept .terms) (now (terms .entry))) ⌝ }
+    ensures { λ _. ⌜ (new headers ≡ cut (kept .headers) (old headers))
+        × (new variables ≡ cut (kept .variables) (old variables))
+        × (new terms ≡ cut (kept .terms) (old terms)) ⌝ }
 {
     slices::zero_from(headers, kept.headers);
     slices::zero_from(variables, kept.variables);
@@ -77,10 +78,10 @@ pub fn expand_constraints(
     variables: &mut [u32],
     terms: &mut [u32],
 ) -> ConstraintLists
-    ensures { λ r. ⌜ constraintOutcome r (now (work .exit)) (now (pool .exit))
-        (now (headers .exit)) (now (variables .exit)) (now (terms .exit))
-        ≡ constraintCall (primeOf (now (s .entry))) (now (s .entry)) (length (now (work .entry))) (length (now (pool .entry)))
-        (length (now (headers .entry))) (length (now (variables .entry))) (length (now (terms .entry))) ⌝ }
+    ensures { λ r. ⌜ constraintOutcome r (new work) (new pool)
+        (new headers) (new variables) (new terms)
+        ≡ constraintCall (primeOf (old s)) (old s) (length (old work)) (length (old pool))
+        (length (old headers)) (length (old variables)) (length (old terms)) ⌝ }
 {
     let lists = expand_sheet(s, work, pool, headers, variables, terms);
     let kept = lengths_of(lists);
@@ -102,14 +103,14 @@ fn expand_sheet_interactions(
     denom_variables: &mut [u32],
     denom_terms: &mut [u32],
 ) -> InteractionLists
-    ensures { λ r. ⌜ (interactionAnswer r (now (headers .exit)) (now (variables .exit)) (now (terms .exit))
-        (now («denom_headers» .exit)) (now («denom_variables» .exit)) (now («denom_terms» .exit))
-        ≡ onSheet (primeOf (now (s .entry))) (now (s .entry))
-        (interactionsOf (length (now (work .entry))) (length (now (pool .entry)))
-        (length (now (headers .entry))) (length (now (variables .entry))) (length (now (terms .entry)))
-        (length (now («denom_headers» .entry))) (length (now («denom_variables» .entry))) (length (now («denom_terms» .entry)))))
-        × BothInside r (now (headers .exit)) (now (variables .exit)) (now (terms .exit))
-        (now («denom_headers» .exit)) (now («denom_variables» .exit)) (now («denom_terms» .exit)) ⌝ }
+    ensures { λ r. ⌜ (interactionAnswer r (new headers) (new variables) (new terms)
+        (new «denom_headers») (new «denom_variables») (new «denom_terms»)
+        ≡ onSheet (primeOf (old s)) (old s)
+        (interactionsOf (length (old work)) (length (old pool))
+        (length (old headers)) (length (old variables)) (length (old terms))
+        (length (old «denom_headers»)) (length (old «denom_variables»)) (length (old «denom_terms»))))
+        × BothInside r (new headers) (new variables) (new terms)
+        (new «denom_headers») (new «denom_variables») (new «denom_terms») ⌝ }
 {
     let checked = sheet::check_sheet(s);
     let Checked::Sheet(head) = checked else {
@@ -165,12 +166,12 @@ pub fn expand_interactions(
     denom_variables: &mut [u32],
     denom_terms: &mut [u32],
 ) -> InteractionLists
-    ensures { λ r. ⌜ interactionOutcome r (now (work .exit)) (now (pool .exit))
-        (now (headers .exit)) (now (variables .exit)) (now (terms .exit))
-        (now («denom_headers» .exit)) (now («denom_variables» .exit)) (now («denom_terms» .exit))
-        ≡ interactionCall (primeOf (now (s .entry))) (now (s .entry)) (length (now (work .entry))) (length (now (pool .entry)))
-        (length (now (headers .entry))) (length (now (variables .entry))) (length (now (terms .entry)))
-        (length (now («denom_headers» .entry))) (length (now («denom_variables» .entry))) (length (now («denom_terms» .entry))) ⌝ }
+    ensures { λ r. ⌜ interactionOutcome r (new work) (new pool)
+        (new headers) (new variables) (new terms)
+        (new «denom_headers») (new «denom_variables») (new «denom_terms»)
+        ≡ interactionCall (primeOf (old s)) (old s) (length (old work)) (length (old pool))
+        (length (old headers)) (length (old variables)) (length (old terms))
+        (length (old «denom_headers»)) (length (old «denom_variables»)) (length (old «denom_terms»)) ⌝ }
 {
     let lists = expand_sheet_interactions(
         s,

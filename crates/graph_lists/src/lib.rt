@@ -3,6 +3,7 @@ ghost use mathlib.Core.Path.{_≡_};
 ghost use Prim.Native.Nat.{pred, _+_, _%_, _≤_, _<_};
 ghost use lib.Dec.{leb};
 ghost use lib.ListN.{length, getD, set};
+ghost use Rattle.slices.specs.Lent.{old, new};
 ghost use Rattle.semantics.specs.Check.{readSheet};
 ghost use Rattle.records.specs.Access.{constraintsAt, wordsFrom, messageLength};
 ghost use Rattle.nodes.specs.Memory.{tabulate};
@@ -16,7 +17,7 @@ const FLAG: u32 = 65536;
 // The node of a record, flagged or not.
 fn node_number(scratch: &[u32], r: usize) -> usize
     requires { ⌜ (r < length (now scratch)) × (0 < getD (now scratch) r 0 % 65536) ⌝ }
-    ensures { λ n. ⌜ n ≡ pred (getD (now (scratch .entry)) r 0 % 65536) ⌝ }
+    ensures { λ n. ⌜ n ≡ pred (getD (old scratch) r 0 % 65536) ⌝ }
 {
     answers::wide(scratch[r] % FLAG - 1)
 }
@@ -24,7 +25,7 @@ fn node_number(scratch: &[u32], r: usize) -> usize
 // Flags a node that has no flag.
 fn flag_node(scratch: &mut [u32], node: usize)
     requires { ⌜ node < length (now scratch) ⌝ }
-    ensures { λ _. ⌜ now (scratch .exit) ≡ set (now (scratch .entry)) node (flagWord (getD (now (scratch .entry)) node 0)) ⌝ }
+    ensures { λ _. ⌜ new scratch ≡ set (old scratch) node (flagWord (getD (old scratch) node 0)) ⌝ }
 {
     let word = scratch[node];
     if FLAG <= word {
@@ -36,8 +37,8 @@ fn flag_node(scratch: &mut [u32], node: usize)
 // Flags the nodes that the records named from `at` on have.
 fn flag_nodes(sheet: &[u32], at: usize, count: usize, scratch: &mut [u32])
     requires { ⌜ NodesNamed (now sheet) at count (now scratch) ⌝ }
-    ensures { λ _. ⌜ now (scratch .exit) ≡ tabulate 0 (length (now (scratch .entry)))
-        (flagged (marksOf (now (scratch .entry))) (nodeNumbers (marksOf (now (scratch .entry))) (wordsFrom at count (now (sheet .entry))))) ⌝ }
+    ensures { λ _. ⌜ new scratch ≡ tabulate 0 (length (old scratch))
+        (flagged (marksOf (old scratch)) (nodeNumbers (marksOf (old scratch)) (wordsFrom at count (old sheet)))) ⌝ }
 {
     let mut j = 0;
     while j < count {
@@ -50,8 +51,8 @@ fn flag_nodes(sheet: &[u32], at: usize, count: usize, scratch: &mut [u32])
 // Takes the flag off a node, and says whether it had one.
 fn unflag_node(scratch: &mut [u32], node: usize) -> bool
     requires { ⌜ node < length (now scratch) ⌝ }
-    ensures { λ r. ⌜ (r ≡ leb 65536 (getD (now (scratch .entry)) node 0))
-        × (now (scratch .exit) ≡ set (now (scratch .entry)) node (plainWord (getD (now (scratch .entry)) node 0))) ⌝ }
+    ensures { λ r. ⌜ (r ≡ leb 65536 (getD (old scratch) node 0))
+        × (new scratch ≡ set (old scratch) node (plainWord (getD (old scratch) node 0))) ⌝ }
 {
     let word = scratch[node];
     if word < FLAG {
@@ -64,7 +65,7 @@ fn unflag_node(scratch: &mut [u32], node: usize) -> bool
 // Writes a node's number at `at` where it is wanted, and hands back where the output goes on.
 fn put_node(out: &mut [u32], at: usize, node: usize, wanted: bool) -> usize
     requires { ⌜ (node < 4294967296) × Wanted wanted at (now out) ⌝ }
-    ensures { λ r. ⌜ (now (out .exit) ≡ put (now (out .entry)) at (oneIf wanted node)) × (r ≡ at + length (oneIf wanted node)) ⌝ }
+    ensures { λ r. ⌜ (new out ≡ put (old out) at (oneIf wanted node)) × (r ≡ at + length (oneIf wanted node)) ⌝ }
 {
     if !wanted {
         return at;
@@ -76,9 +77,9 @@ fn put_node(out: &mut [u32], at: usize, node: usize, wanted: bool) -> usize
 // Writes the flagged nodes in ascending order from `at` on, takes their flags off, and hands back where the output goes on.
 fn write_flagged(scratch: &mut [u32], nodes: usize, out: &mut [u32], at: usize) -> usize
     requires { ⌜ (nodes ≤ length (now scratch)) × (nodes < 4294967296) × (at + length (flaggedAmong 0 nodes (now scratch)) ≤ length (now out)) ⌝ }
-    ensures { λ r. ⌜ (now (scratch .exit) ≡ tabulate 0 (length (now (scratch .entry))) (plainBelow nodes (now (scratch .entry))))
-        × (now (out .exit) ≡ put (now (out .entry)) at (flaggedAmong 0 nodes (now (scratch .entry))))
-        × (r ≡ at + length (flaggedAmong 0 nodes (now (scratch .entry)))) ⌝ }
+    ensures { λ r. ⌜ (new scratch ≡ tabulate 0 (length (old scratch)) (plainBelow nodes (old scratch)))
+        × (new out ≡ put (old out) at (flaggedAmong 0 nodes (old scratch)))
+        × (r ≡ at + length (flaggedAmong 0 nodes (old scratch))) ⌝ }
 {
     let mut next = at;
     let mut node = 0;
@@ -101,8 +102,8 @@ fn write_references(
     to: usize,
 )
     requires { ⌜ NodesNamed (now sheet) at count (now scratch) × (to + count ≤ length (now out)) ⌝ }
-    ensures { λ _. ⌜ now (out .exit)
-        ≡ put (now (out .entry)) to (nodeNumbers (marksOf (now (scratch .entry))) (wordsFrom at count (now (sheet .entry)))) ⌝ }
+    ensures { λ _. ⌜ new out
+        ≡ put (old out) to (nodeNumbers (marksOf (old scratch)) (wordsFrom at count (old sheet))) ⌝ }
 {
     let mut j = 0;
     while j < count {
@@ -115,8 +116,8 @@ fn write_references(
 // Writes an interaction with its references turned into nodes, and hands back where the output goes on.
 fn write_interaction(sheet: &[u32], at: usize, scratch: &[u32], out: &mut [u32], to: usize) -> usize
     requires { ⌜ NamedInteraction (now sheet) at (now scratch) × (to + (4 + messageLength (now sheet) at) ≤ length (now out)) ⌝ }
-    ensures { λ r. ⌜ (now (out .exit) ≡ put (now (out .entry)) to (renamedWords (now (sheet .entry)) (now (scratch .entry)) at))
-        × (r ≡ to + (4 + messageLength (now (sheet .entry)) at)) ⌝ }
+    ensures { λ r. ⌜ (new out ≡ put (old out) to (renamedWords (old sheet) (old scratch) at))
+        × (r ≡ to + (4 + messageLength (old sheet) at)) ⌝ }
 {
     let x = records::interaction_at(sheet, at);
     let y = records::interaction_from(to, x.message);
@@ -140,8 +141,8 @@ fn write_interactions(
 ) -> usize
     requires { ⌜ NamedInteractions (now sheet) (now scratch) at count
         × (to + length (renamedAll (now sheet) (now scratch) at count) ≤ length (now out)) ⌝ }
-    ensures { λ r. ⌜ (now (out .exit) ≡ put (now (out .entry)) to (renamedAll (now (sheet .entry)) (now (scratch .entry)) at count))
-        × (r ≡ to + length (renamedAll (now (sheet .entry)) (now (scratch .entry)) at count)) ⌝ }
+    ensures { λ r. ⌜ (new out ≡ put (old out) to (renamedAll (old sheet) (old scratch) at count))
+        × (r ≡ to + length (renamedAll (old sheet) (old scratch) at count)) ⌝ }
 {
     let mut from = at;
     let mut next = to;
@@ -168,7 +169,7 @@ pub fn write_graph(
 ) -> usize
     requires { ⌜ ToWriteLists (now sheet) (now scratch) (now out) n × (at ≡ constraintsAt (now sheet))
         × (constraints ≡ length (readSheet (now sheet) .constraints)) × (interactions ≡ length (readSheet (now sheet) .interactions)) ⌝ }
-    ensures { λ r. ⌜ (now (out .exit) ≡ graphOut (length (now (out .entry))) (now (sheet .entry))) × (r ≡ graphLength (now (sheet .entry))) ⌝ }
+    ensures { λ r. ⌜ (new out ≡ graphOut (length (old out)) (old sheet)) × (r ≡ graphLength (old sheet)) ⌝ }
 {
     flag_nodes(sheet, at, constraints, scratch);
     let to = records::records_end(n);

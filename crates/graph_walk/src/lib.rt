@@ -5,6 +5,7 @@ ghost use mathlib.Core.List.{List, _∷_, _++_};
 ghost use Prim.Native.Nat.{ℕ, suc, _+_, _-_, _≤_, _<_};
 ghost use lib.Dec.{eqb};
 ghost use lib.ListN.{length, getD};
+ghost use Rattle.slices.specs.Lent.{old, new};
 ghost use Rattle.semantics.specs.Arithmetic.{prime};
 ghost use Rattle.semantics.specs.Sheet.{place};
 ghost use Rattle.semantics.specs.Graph.{addRule, subRule, mulRule};
@@ -21,9 +22,9 @@ use nodes::rules::Pick;
 // What the rules look at in the node of a record that is added.
 fn built_child(scratch: &[u32], out: &[u32], c: usize) -> Child
     requires { ⌜ (c < length (now scratch)) × (0 < getD (now scratch) c 0) × (place 5 (getD (now scratch) c 0 - 1) + 5 ≤ length (now out)) ⌝ }
-    ensures { λ x. ⌜ (x .number ≡ getD (now (scratch .entry)) c 0 - 1)
-        × (x .kind ≡ nodeIn (now (out .entry)) (getD (now (scratch .entry)) c 0 - 1) .kind)
-        × (x .a ≡ nodeIn (now (out .entry)) (getD (now (scratch .entry)) c 0 - 1) .a) ⌝ }
+    ensures { λ x. ⌜ (x .number ≡ getD (old scratch) c 0 - 1)
+        × (x .kind ≡ nodeIn (old out) (getD (old scratch) c 0 - 1) .kind)
+        × (x .a ≡ nodeIn (old out) (getD (old scratch) c 0 - 1) .a) ⌝ }
 {
     nodes::child(out, scratch[c] - 1)
 }
@@ -46,9 +47,9 @@ fn two_rule(kind: u32, l: Child, r: Child, g: u32) -> Pick
 // The node of a record whose children are added.
 fn pick_node(sheet: &[u32], scratch: &[u32], out: &[u32], r: usize) -> Pick
     requires { ⌜ ((n : ℕ) × Adding (now sheet) r (now scratch) (now out) n) ⌝ }
-    ensures { λ x. ⌜ ((done : List ℕ) → Order (now (sheet .entry)) done → There (now (sheet .entry)) r done
-        → (n : ℕ) → GraphHolds (now (sheet .entry)) done (now (scratch .entry)) (now (out .entry)) n
-        → pickOf x ≡ pickOfRecord (now (sheet .entry)) r done) ⌝ }
+    ensures { λ x. ⌜ ((done : List ℕ) → Order (old sheet) done → There (old sheet) r done
+        → (n : ℕ) → GraphHolds (old sheet) done (old scratch) (old out) n
+        → pickOf x ≡ pickOfRecord (old sheet) r done) ⌝ }
 {
     let q = records::record_at(sheet, r);
     if q.kind < 6 {
@@ -69,9 +70,9 @@ fn pick_node(sheet: &[u32], scratch: &[u32], out: &[u32], r: usize) -> Pick
 // Adds a record whose children are added, and hands back the number of nodes.
 fn add_record(sheet: &[u32], scratch: &mut [u32], out: &mut [u32], r: usize, n: usize) -> usize
     requires { ⌜ Adding (now sheet) r (now scratch) (now out) n ⌝ }
-    ensures { λ u. ⌜ ((done : List ℕ) → Order (now (sheet .entry)) done → member r done ≡ false
-        → There (now (sheet .entry)) r done → GraphHolds (now (sheet .entry)) done (now (scratch .entry)) (now (out .entry)) n
-        → GraphHolds (now (sheet .entry)) (r ∷ done) (now (scratch .exit)) (now (out .exit)) u) ⌝ }
+    ensures { λ u. ⌜ ((done : List ℕ) → Order (old sheet) done → member r done ≡ false
+        → There (old sheet) r done → GraphHolds (old sheet) done (old scratch) (old out) n
+        → GraphHolds (old sheet) (r ∷ done) (new scratch) (new out) u) ⌝ }
 {
     match pick_node(sheet, scratch, out, r) {
         Pick::Present(k) => {
@@ -90,7 +91,7 @@ fn add_record(sheet: &[u32], scratch: &mut [u32], out: &mut [u32], r: usize, n: 
 // The child to which the walk goes from a record with children: left at first, then right; a Neg's only one both times, which changes nothing the second time.
 fn child_at(sheet: &[u32], r: usize, i: usize) -> usize
     requires { ⌜ place 5 r + 5 ≤ length (now sheet) ⌝ }
-    ensures { λ x. ⌜ x ≡ childOf (nodeIn (now (sheet .entry)) r) i ⌝ }
+    ensures { λ x. ⌜ x ≡ childOf (nodeIn (old sheet) r) i ⌝ }
 {
     if i == 0 {
         return records::left_at(sheet, r);
@@ -105,9 +106,9 @@ fn child_at(sheet: &[u32], r: usize, i: usize) -> usize
 // The call for a child stands once, in a loop: a second one would have room of its own in the stack of each level.
 fn add_expr(sheet: &[u32], scratch: &mut [u32], out: &mut [u32], r: usize, n: usize) -> usize
     requires { ⌜ AddReady (now sheet) r (now scratch) (now out) n ⌝ }
-    ensures { λ u. ⌜ ((done : List ℕ) → Order (now (sheet .entry)) done → GraphHolds (now (sheet .entry)) done (now (scratch .entry)) (now (out .entry)) n
-        → GraphHolds (now (sheet .entry)) (visit (childrenAt (recordsOf (now (sheet .entry)))) (suc r) done r) (now (scratch .exit))
-        (now (out .exit)) u) ⌝ }
+    ensures { λ u. ⌜ ((done : List ℕ) → Order (old sheet) done → GraphHolds (old sheet) done (old scratch) (old out) n
+        → GraphHolds (old sheet) (visit (childrenAt (recordsOf (old sheet))) (suc r) done r) (new scratch)
+        (new out) u) ⌝ }
 {
     if scratch[r] != 0 {
         return n;
@@ -135,8 +136,8 @@ pub fn add_references(
     n: usize,
 ) -> usize
     requires { ⌜ AddWalking (now sheet) (now scratch) (now out) n × ReferencesInside (now sheet) at count ⌝ }
-    ensures { λ u. ⌜ Walks (now (sheet .entry)) (wordsFrom at count (now (sheet .entry))) (now (scratch .entry)) (now (out .entry)) n (now (scratch .exit))
-        (now (out .exit)) u ⌝ }
+    ensures { λ u. ⌜ Walks (old sheet) (wordsFrom at count (old sheet)) (old scratch) (old out) n (new scratch)
+        (new out) u ⌝ }
 {
     let mut used = n;
     let mut j: usize = 0;
@@ -157,8 +158,8 @@ fn add_interaction(
     n: usize,
 ) -> usize
     requires { ⌜ AddWalking (now sheet) (now scratch) (now out) n × RootsInside (length (recordsOf (now sheet))) (now sheet) at ⌝ }
-    ensures { λ u. ⌜ Walks (now (sheet .entry)) (fieldsAt (now (sheet .entry)) at ++ countAt (now (sheet .entry)) at) (now (scratch .entry))
-        (now (out .entry)) n (now (scratch .exit)) (now (out .exit)) u ⌝ }
+    ensures { λ u. ⌜ Walks (old sheet) (fieldsAt (old sheet) at ++ countAt (old sheet) at) (old scratch)
+        (old out) n (new scratch) (new out) u ⌝ }
 {
     let x = records::interaction_at(sheet, at);
     let fields = add_references(sheet, x.fields, x.message, scratch, out, n);
@@ -175,8 +176,8 @@ pub fn add_interactions(
     n: usize,
 ) -> usize
     requires { ⌜ AddWalking (now sheet) (now scratch) (now out) n × AllRootsInside (length (recordsOf (now sheet))) (now sheet) at count ⌝ }
-    ensures { λ u. ⌜ Walks (now (sheet .entry)) (rootWords (now (sheet .entry)) at count) (now (scratch .entry)) (now (out .entry)) n
-        (now (scratch .exit)) (now (out .exit)) u ⌝ }
+    ensures { λ u. ⌜ Walks (old sheet) (rootWords (old sheet) at count) (old scratch) (old out) n
+        (new scratch) (new out) u ⌝ }
 {
     let mut used = n;
     let mut from = at;

@@ -1,6 +1,7 @@
 // Grouping the monomials of roots by their variables: each variable list is counted, then the terms are placed.
 ghost use Prim.Native.Nat.{_+_, _≤_};
 ghost use lib.ListN.{length};
+ghost use Rattle.slices.specs.Lent.{old, new};
 ghost use Rattle.monomial.specs.Words.{listIn};
 ghost use Rattle.group.specs.Grouped.{Rows, tallied, tallyAll, talliedTotal, CountedMore, nonZero, Standing, listOf, InPool};
 
@@ -25,8 +26,8 @@ pub enum Tallied {
 fn tally_list(headers: &mut [u32], n: usize, pool: &[u32], at: usize, count: usize) -> Tallied
     requires { ⌜ Rows n (now headers) (now pool) × Standing count (now pool) at
         × (talliedTotal (tallied n (now headers) (now pool)) + count ≤ 4294967295) ⌝ }
-    ensures { λ r. ⌜ CountedMore (now (headers .exit)) (now (pool .entry))
-        (tallyAll (nonZero (listIn (now (pool .entry)) at count)) (tallied n (now (headers .entry)) (now (pool .entry)))) r ⌝ }
+    ensures { λ r. ⌜ CountedMore (new headers) (old pool)
+        (tallyAll (nonZero (listIn (old pool) at count)) (tallied n (old headers) (old pool))) r ⌝ }
 {
     let mut rows = n;
     let mut place = at;
@@ -58,8 +59,8 @@ fn tally_list(headers: &mut [u32], n: usize, pool: &[u32], at: usize, count: usi
 pub fn tally_root(headers: &mut [u32], n: usize, pool: &[u32], node: usize) -> Tallied
     requires { ⌜ Rows n (now headers) (now pool) × InPool (now pool) node
         × (talliedTotal (tallied n (now headers) (now pool)) + length (listOf (now pool) node) ≤ 4294967295) ⌝ }
-    ensures { λ r. ⌜ CountedMore (now (headers .exit)) (now (pool .entry))
-        (tallyAll (nonZero (listOf (now (pool .entry)) node)) (tallied n (now (headers .entry)) (now (pool .entry)))) r ⌝ }
+    ensures { λ r. ⌜ CountedMore (new headers) (old pool)
+        (tallyAll (nonZero (listOf (old pool) node)) (tallied n (old headers) (old pool))) r ⌝ }
 {
     let at = answers::wide(pool[2 * node]);
     let count = answers::wide(pool[2 * node + 1]);

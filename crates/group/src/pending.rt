@@ -7,6 +7,7 @@ ghost use mathlib.Core.List.{[], _∷_};
 ghost use Prim.Native.Nat.{ℕ, _+_, _*_, _-_, _≤_, _<_};
 ghost use lib.ListN.{length, getD, drop};
 ghost use lib.Seq.{sets};
+ghost use Rattle.slices.specs.Lent.{old, new};
 ghost use Rattle.monomial.specs.Words.{readMonomial};
 ghost use Rattle.group.specs.Grouped.{Rows, tallied, talliedTotal, CountedMore, nonZero, Standing};
 ghost use Rattle.group.specs.Waiting.{PlaceInside, poolVars, Batch, batched, MayFollow, Nexts, Ran};
@@ -31,7 +32,7 @@ pub struct Run {
 // The four words of a row.
 fn put_row(headers: &mut [u32], at: usize, place: u32, count: u32)
     requires { ⌜ at + 4 ≤ length (now headers) ⌝ }
-    ensures { λ _. ⌜ now (headers .exit) ≡ sets (now (headers .entry)) at (place ∷ 0 ∷ count ∷ 1 ∷ []) ⌝ }
+    ensures { λ _. ⌜ new headers ≡ sets (old headers) at (place ∷ 0 ∷ count ∷ 1 ∷ []) ⌝ }
 {
     headers[at] = place;
     headers[at + 1] = 0;
@@ -43,7 +44,7 @@ fn put_row(headers: &mut [u32], at: usize, place: u32, count: u32)
 fn may_follow(places: &[usize], b: usize, pool: &[u32], at: usize) -> bool
     requires { ⌜ (b ≤ length (now places)) × (0 < length (now places)) × ((j : ℕ) → j < b → PlaceInside (now pool) (getD (now places) j 0))
         × PlaceInside (now pool) at ⌝ }
-    ensures { λ r. ⌜ MayFollow b (now (places .entry)) (now (pool .entry)) at r ⌝ }
+    ensures { λ r. ⌜ MayFollow b (old places) (old pool) at r ⌝ }
 {
     if b == 0 {
         return true;
@@ -85,8 +86,8 @@ fn tally_near(
 ) -> Next
     requires { ⌜ Batch n b (now headers) (now pool) (now places) (now fronts) × PlaceInside (now pool) at
         × (talliedTotal (tallied n (now headers) (now pool)) < 4294967295) ⌝ }
-    ensures { λ r. ⌜ Nexts n b (poolVars (now (pool .entry)) at ∷ []) (batched n b (now (headers .entry)) (now (pool .entry)) (now (places .entry)))
-        (now (headers .exit)) (now (pool .entry)) (now (places .exit)) (now (fronts .exit)) r ⌝ }
+    ensures { λ r. ⌜ Nexts n b (poolVars (old pool) at ∷ []) (batched n b (old headers) (old pool) (old places))
+        (new headers) (old pool) (new places) (new fronts) r ⌝ }
 {
     let found = search::find_near(headers, n, pool, at, near);
     match found {
@@ -119,9 +120,9 @@ fn tally_kept(
 ) -> Next
     requires { ⌜ Batch n b (now headers) (now pool) (now places) (now fronts) × PlaceInside (now pool) at
         × (talliedTotal (tallied n (now headers) (now pool)) < 4294967295) ⌝ }
-    ensures { λ r. ⌜ Nexts n b (nonZero (readMonomial (drop at (now (pool .entry))) ∷ []))
-        (batched n b (now (headers .entry)) (now (pool .entry)) (now (places .entry))) (now (headers .exit)) (now (pool .entry))
-        (now (places .exit)) (now (fronts .exit)) r ⌝ }
+    ensures { λ r. ⌜ Nexts n b (nonZero (readMonomial (drop at (old pool)) ∷ []))
+        (batched n b (old headers) (old pool) (old places)) (new headers) (old pool)
+        (new places) (new fronts) r ⌝ }
 {
     if pool[at + 1] == 0 {
         return Next::Taken(b, near);
@@ -141,8 +142,8 @@ pub fn tally_run(
 ) -> Run
     requires { ⌜ Rows n (now headers) (now pool) × Standing count (now pool) at × (talliedTotal (tallied n (now headers) (now pool)) + count ≤ 4294967295)
         × (0 < length (now places)) × (length (now fronts) ≡ length (now places)) ⌝ }
-    ensures { λ r. ⌜ Ran n (now (pool .entry)) at count (tallied n (now (headers .entry)) (now (pool .entry))) (now (headers .exit))
-        (now (places .exit)) (now (fronts .exit)) r ⌝ }
+    ensures { λ r. ⌜ Ran n (old pool) at count (tallied n (old headers) (old pool)) (new headers)
+        (new places) (new fronts) r ⌝ }
 {
     let mut place = at;
     let mut near = n;
@@ -179,7 +180,7 @@ pub fn insert_pending(
     b: usize,
 ) -> Tallied
     requires { ⌜ Batch n b (now headers) (now pool) (now places) (now fronts) ⌝ }
-    ensures { λ r. ⌜ CountedMore (now (headers .exit)) (now (pool .entry)) (batched n b (now (headers .entry)) (now (pool .entry)) (now (places .entry))) r ⌝ }
+    ensures { λ r. ⌜ CountedMore (new headers) (old pool) (batched n b (old headers) (old pool) (old places)) r ⌝ }
 {
     if headers.len() - 4 * n < 4 * b {
         return Tallied::Full;

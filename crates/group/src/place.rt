@@ -4,6 +4,7 @@ ghost use mathlib.Core.List.{[], _∷_, _++_};
 ghost use Prim.Native.Nat.{_+_, _*_, _≤_, _<_};
 ghost use lib.ListN.{length, getD, take, drop};
 ghost use lib.Seq.{sets};
+ghost use Rattle.slices.specs.Lent.{old, new};
 ghost use Rattle.semantics.specs.Group.{Item};
 ghost use Rattle.monomial.specs.Words.{readMonomial, listIn};
 ghost use Rattle.group.specs.Grouped.{Rows, tallied, Standing, listOf, InPool, termOf, termWidth, itemAt, itemsAt, ToPlace, Places, varsIn};
@@ -12,7 +13,7 @@ use crate::Found;
 // A term of a constraint, two words; `at` counts terms.
 fn put_constraint_term(terms: &mut [u32], at: usize, index: u32, coef: u32)
     requires { ⌜ 2 * at + 2 ≤ length (now terms) ⌝ }
-    ensures { λ _. ⌜ now (terms .exit) ≡ sets (now (terms .entry)) (2 * at) (index ∷ coef ∷ []) ⌝ }
+    ensures { λ _. ⌜ new terms ≡ sets (old terms) (2 * at) (index ∷ coef ∷ []) ⌝ }
 {
     let i = 2 * at;
     terms[i] = index;
@@ -22,7 +23,7 @@ fn put_constraint_term(terms: &mut [u32], at: usize, index: u32, coef: u32)
 // A term of an interaction, three words.
 fn put_interaction_term(terms: &mut [u32], at: usize, coef: u32, index: u32, field: u32)
     requires { ⌜ 3 * at + 3 ≤ length (now terms) ⌝ }
-    ensures { λ _. ⌜ now (terms .exit) ≡ sets (now (terms .entry)) (3 * at) (coef ∷ index ∷ field ∷ []) ⌝ }
+    ensures { λ _. ⌜ new terms ≡ sets (old terms) (3 * at) (coef ∷ index ∷ field ∷ []) ⌝ }
 {
     let i = 3 * at;
     terms[i] = coef;
@@ -34,7 +35,7 @@ fn put_interaction_term(terms: &mut [u32], at: usize, coef: u32, index: u32, fie
 fn put_term(terms: &mut [u32], at: usize, interaction: bool, index: u32, field: u32, coef: u32)
     requires { ⌜ termWidth interaction * at + termWidth interaction ≤ length (now terms) ⌝ }
     ensures { λ _. ⌜ ((t : Item) → (t .index ≡ index) → (t .field ≡ field) → (t .coef ≡ coef)
-        → now (terms .exit) ≡ sets (now (terms .entry)) (termWidth interaction * at) (termOf interaction t)) ⌝ }
+        → new terms ≡ sets (old terms) (termWidth interaction * at) (termOf interaction t)) ⌝ }
 {
     if interaction {
         put_interaction_term(terms, at, coef, index, field);
@@ -57,8 +58,8 @@ pub fn place_monomial(
 ) -> usize
     requires { ⌜ ToPlace interaction n (now headers) (now pool) (now terms) (itemAt index field (readMonomial (drop at (now pool))) ∷ [])
         × (getD (now pool) at 0 ≤ 14) × (at + 2 + getD (now pool) at 0 ≤ length (now pool)) ⌝ }
-    ensures { λ _. ⌜ Places interaction n (now (pool .entry)) (now (headers .entry)) (now (terms .entry)) (now (headers .exit)) (now (terms .exit))
-        (itemAt index field (readMonomial (drop at (now (pool .entry)))) ∷ []) ⌝ }
+    ensures { λ _. ⌜ Places interaction n (old pool) (old headers) (old terms) (new headers) (new terms)
+        (itemAt index field (readMonomial (drop at (old pool))) ∷ []) ⌝ }
 {
     let coef = pool[at + 1];
     let found = crate::search::find_near(headers, n, pool, at, near);
@@ -93,8 +94,8 @@ fn place_kept(
 ) -> usize
     requires { ⌜ ToPlace interaction n (now headers) (now pool) (now terms) (itemsAt index field (readMonomial (drop at (now pool)) ∷ []))
         × (getD (now pool) at 0 ≤ 14) × (at + 2 + getD (now pool) at 0 ≤ length (now pool)) ⌝ }
-    ensures { λ _. ⌜ Places interaction n (now (pool .entry)) (now (headers .entry)) (now (terms .entry)) (now (headers .exit)) (now (terms .exit))
-        (itemsAt index field (readMonomial (drop at (now (pool .entry))) ∷ [])) ⌝ }
+    ensures { λ _. ⌜ Places interaction n (old pool) (old headers) (old terms) (new headers) (new terms)
+        (itemsAt index field (readMonomial (drop at (old pool)) ∷ [])) ⌝ }
 {
     if pool[at + 1] == 0 {
         return near;
@@ -116,8 +117,8 @@ pub fn place_list(
 )
     requires { ⌜ ToPlace interaction n (now headers) (now pool) (now terms) (itemsAt index field (listIn (now pool) at count))
         × Standing count (now pool) at ⌝ }
-    ensures { λ _. ⌜ Places interaction n (now (pool .entry)) (now (headers .entry)) (now (terms .entry)) (now (headers .exit)) (now (terms .exit))
-        (itemsAt index field (listIn (now (pool .entry)) at count)) ⌝ }
+    ensures { λ _. ⌜ Places interaction n (old pool) (old headers) (old terms) (new headers) (new terms)
+        (itemsAt index field (listIn (old pool) at count)) ⌝ }
 {
     let mut near = n;
     let mut place = at;
@@ -151,8 +152,8 @@ pub fn place_root(
     terms: &mut [u32],
 )
     requires { ⌜ ToPlace interaction n (now headers) (now pool) (now terms) (itemsAt index field (listOf (now pool) node)) × InPool (now pool) node ⌝ }
-    ensures { λ _. ⌜ Places interaction n (now (pool .entry)) (now (headers .entry)) (now (terms .entry)) (now (headers .exit)) (now (terms .exit))
-        (itemsAt index field (listOf (now (pool .entry)) node)) ⌝ }
+    ensures { λ _. ⌜ Places interaction n (old pool) (old headers) (old terms) (new headers) (new terms)
+        (itemsAt index field (listOf (old pool) node)) ⌝ }
 {
     let at = answers::wide(pool[2 * node]);
     let count = answers::wide(pool[2 * node + 1]);
@@ -173,9 +174,9 @@ pub fn place_root(
 fn write_row(headers: &[u32], i: usize, pool: &[u32], variables: &mut [u32], at: usize) -> usize
     requires { ⌜ (4 * i + 4 ≤ length (now headers)) × (getD (now headers) (4 * i) 0 + 2 + getD (now headers) (4 * i + 2) 0 ≤ length (now pool))
         × (at + getD (now headers) (4 * i + 2) 0 ≤ length (now variables)) ⌝ }
-    ensures { λ r. ⌜ (r ≡ at + getD (now (headers .entry)) (4 * i + 2) 0) × (now (variables .exit) ≡ take at (now (variables .entry)) ++
-        (take (getD (now (headers .entry)) (4 * i + 2) 0) (drop (getD (now (headers .entry)) (4 * i) 0 + 2) (now (pool .entry)))
-        ++ drop (at + getD (now (headers .entry)) (4 * i + 2) 0) (now (variables .entry)))) ⌝ }
+    ensures { λ r. ⌜ (r ≡ at + getD (old headers) (4 * i + 2) 0) × (new variables ≡ take at (old variables) ++
+        (take (getD (old headers) (4 * i + 2) 0) (drop (getD (old headers) (4 * i) 0 + 2) (old pool))
+        ++ drop (at + getD (old headers) (4 * i + 2) 0) (old variables))) ⌝ }
 {
     let row = 4 * i;
     let from = answers::wide(headers[row]) + 2;
@@ -188,8 +189,8 @@ fn write_row(headers: &[u32], i: usize, pool: &[u32], variables: &mut [u32], at:
 // The variables of the rows, one after another.
 pub fn write_variables(headers: &[u32], n: usize, pool: &[u32], variables: &mut [u32])
     requires { ⌜ Rows n (now headers) (now pool) × (length (varsIn (tallied n (now headers) (now pool))) ≤ length (now variables)) ⌝ }
-    ensures { λ _. ⌜ now (variables .exit) ≡ varsIn (tallied n (now (headers .entry)) (now (pool .entry)))
-        ++ drop (length (varsIn (tallied n (now (headers .entry)) (now (pool .entry))))) (now (variables .entry)) ⌝ }
+    ensures { λ _. ⌜ new variables ≡ varsIn (tallied n (old headers) (old pool))
+        ++ drop (length (varsIn (tallied n (old headers) (old pool)))) (old variables) ⌝ }
 {
     let mut at: usize = 0;
     let mut i: usize = 0;

@@ -2,6 +2,7 @@
 ghost use mathlib.Core.Path.{_≡_};
 ghost use Prim.Native.Nat.{_+_, _*_, _≤_, _<_};
 ghost use lib.ListN.{length, getD, take, drop};
+ghost use Rattle.slices.specs.Lent.{old};
 ghost use Rattle.monomial.specs.Words.{readMonomial};
 ghost use Rattle.monomial.specs.Orders.{orderOf};
 ghost use Rattle.group.specs.Grouped.{Rows, tallied, Spot, Between};
@@ -13,8 +14,8 @@ use monomial::vars::Order;
 fn order_of_row(headers: &[u32], i: usize, pool: &[u32], at: usize) -> Order
     requires { ⌜ (4 * i + 4 ≤ length (now headers)) × (getD (now headers) (4 * i) 0 + 2 + getD (now headers) (4 * i + 2) 0 ≤ length (now pool))
         × (at + 2 + getD (now pool) at 0 ≤ length (now pool)) ⌝ }
-    ensures { λ r. ⌜ r ≡ orderOf (readMonomial (drop at (now (pool .entry))) .vars)
-        (take (getD (now (headers .entry)) (4 * i + 2) 0) (drop (getD (now (headers .entry)) (4 * i) 0 + 2) (now (pool .entry)))) ⌝ }
+    ensures { λ r. ⌜ r ≡ orderOf (readMonomial (drop at (old pool)) .vars)
+        (take (getD (old headers) (4 * i + 2) 0) (drop (getD (old headers) (4 * i) 0 + 2) (old pool))) ⌝ }
 {
     let row = 4 * i;
     vars::order_at(
@@ -31,7 +32,7 @@ fn order_of_row(headers: &[u32], i: usize, pool: &[u32], at: usize) -> Order
 fn search_rows(headers: &[u32], n: usize, from: usize, to: usize, pool: &[u32], at: usize) -> Found
     requires { ⌜ Rows n (now headers) (now pool) × (at + 2 + getD (now pool) at 0 ≤ length (now pool))
         × Between (readMonomial (drop at (now pool)) .vars) (tallied n (now headers) (now pool)) from to ⌝ }
-    ensures { λ r. ⌜ Spot (readMonomial (drop at (now (pool .entry))) .vars) (tallied n (now (headers .entry)) (now (pool .entry))) r ⌝ }
+    ensures { λ r. ⌜ Spot (readMonomial (drop at (old pool)) .vars) (tallied n (old headers) (old pool)) r ⌝ }
 {
     let mut low = from;
     let mut high = to;
@@ -51,7 +52,7 @@ fn search_rows(headers: &[u32], n: usize, from: usize, to: usize, pool: &[u32], 
 fn search_on(headers: &[u32], n: usize, from: usize, pool: &[u32], at: usize) -> Found
     requires { ⌜ Rows n (now headers) (now pool) × (at + 2 + getD (now pool) at 0 ≤ length (now pool))
         × Between (readMonomial (drop at (now pool)) .vars) (tallied n (now headers) (now pool)) from n ⌝ }
-    ensures { λ r. ⌜ Spot (readMonomial (drop at (now (pool .entry))) .vars) (tallied n (now (headers .entry)) (now (pool .entry))) r ⌝ }
+    ensures { λ r. ⌜ Spot (readMonomial (drop at (old pool)) .vars) (tallied n (old headers) (old pool)) r ⌝ }
 {
     let mut low = from;
     let mut step: usize = 1;
@@ -73,7 +74,7 @@ fn search_on(headers: &[u32], n: usize, from: usize, pool: &[u32], at: usize) ->
 // Searches the n rows for the variables of the monomial that stands at `at`: near row `near` first, where there is one.
 pub fn find_near(headers: &[u32], n: usize, pool: &[u32], at: usize, near: usize) -> Found
     requires { ⌜ Rows n (now headers) (now pool) × (at + 2 + getD (now pool) at 0 ≤ length (now pool)) ⌝ }
-    ensures { λ r. ⌜ Spot (readMonomial (drop at (now (pool .entry))) .vars) (tallied n (now (headers .entry)) (now (pool .entry))) r ⌝ }
+    ensures { λ r. ⌜ Spot (readMonomial (drop at (old pool)) .vars) (tallied n (old headers) (old pool)) r ⌝ }
 {
     if n <= near {
         return search_rows(headers, n, 0, n, pool, at);

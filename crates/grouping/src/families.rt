@@ -4,6 +4,7 @@ ghost use mathlib.Core.Bool.{true, false};
 ghost use mathlib.Core.List.{[]};
 ghost use Prim.Native.Nat.{_+_, _≤_};
 ghost use lib.ListN.{length};
+ghost use Rattle.slices.specs.Lent.{old, new};
 ghost use Rattle.semantics.specs.Answer.{good};
 ghost use Rattle.semantics.specs.Check.{primeOf, readSheet, check};
 ghost use Rattle.semantics.specs.Group.{labelled, items};
@@ -42,9 +43,9 @@ fn tally_references(
     pool: &[u32],
 ) -> Tallied
     requires { ⌜ (at + count ≤ length (now sheet)) × ToTally n (now headers) (now pool) (wordsFrom at count (now sheet)) ⌝ }
-    ensures { λ r. ⌜ CountedMore (now (headers .exit)) (now (pool .entry))
-        (tallyAll (varsNamed (now (pool .entry)) (wordsFrom at count (now (sheet .entry))))
-        (tallied n (now (headers .entry)) (now (pool .entry)))) r ⌝ }
+    ensures { λ r. ⌜ CountedMore (new headers) (old pool)
+        (tallyAll (varsNamed (old pool) (wordsFrom at count (old sheet)))
+        (tallied n (old headers) (old pool))) r ⌝ }
 {
     let mut rows = n;
     let mut j: usize = 0;
@@ -71,9 +72,9 @@ fn tally_counts(
 ) -> Tallied
     requires { ⌜ AllRootsInside (length (recordsOf (now sheet))) (now sheet) at count
         × ToTally n (now headers) (now pool) (countWords (now sheet) at count) ⌝ }
-    ensures { λ r. ⌜ CountedMore (now (headers .exit)) (now (pool .entry))
-        (tallyAll (varsNamed (now (pool .entry)) (countWords (now (sheet .entry)) at count))
-        (tallied n (now (headers .entry)) (now (pool .entry)))) r ⌝ }
+    ensures { λ r. ⌜ CountedMore (new headers) (old pool)
+        (tallyAll (varsNamed (old pool) (countWords (old sheet) at count))
+        (tallied n (old headers) (old pool))) r ⌝ }
 {
     let mut rows = n;
     let mut from = at;
@@ -102,9 +103,9 @@ fn tally_fields(
 ) -> Tallied
     requires { ⌜ AllRootsInside (length (recordsOf (now sheet))) (now sheet) at count
         × ToTally n (now headers) (now pool) (fieldWords (now sheet) at count) ⌝ }
-    ensures { λ r. ⌜ CountedMore (now (headers .exit)) (now (pool .entry))
-        (tallyAll (varsNamed (now (pool .entry)) (fieldWords (now (sheet .entry)) at count))
-        (tallied n (now (headers .entry)) (now (pool .entry)))) r ⌝ }
+    ensures { λ r. ⌜ CountedMore (new headers) (old pool)
+        (tallyAll (varsNamed (old pool) (fieldWords (old sheet) at count))
+        (tallied n (old headers) (old pool))) r ⌝ }
 {
     let mut rows = n;
     let mut from = at;
@@ -134,9 +135,9 @@ fn place_constraints(
 )
     requires { ⌜ (at + count ≤ length (now sheet)) × (count ≤ 4294967295)
         × ToPlaceRoots false n (now headers) (now pool) (now terms) (labelled constraintRoot 0 (wordsFrom at count (now sheet))) ⌝ }
-    ensures { λ _. ⌜ Places false n (now (pool .entry)) (now (headers .entry)) (now (terms .entry))
-        (now (headers .exit)) (now (terms .exit))
-        (items (listOf (now (pool .entry))) (labelled constraintRoot 0 (wordsFrom at count (now (sheet .entry))))) ⌝ }
+    ensures { λ _. ⌜ Places false n (old pool) (old headers) (old terms)
+        (new headers) (new terms)
+        (items (listOf (old pool)) (labelled constraintRoot 0 (wordsFrom at count (old sheet)))) ⌝ }
 {
     let mut j: usize = 0;
     while j < count {
@@ -159,9 +160,9 @@ fn place_references(
 )
     requires { ⌜ (at + count ≤ length (now sheet)) × (count ≤ 4294967295)
         × ToPlaceRoots true n (now headers) (now pool) (now terms) (labelled (fieldRoot index) 0 (wordsFrom at count (now sheet))) ⌝ }
-    ensures { λ _. ⌜ Places true n (now (pool .entry)) (now (headers .entry)) (now (terms .entry))
-        (now (headers .exit)) (now (terms .exit))
-        (items (listOf (now (pool .entry))) (labelled (fieldRoot index) 0 (wordsFrom at count (now (sheet .entry))))) ⌝ }
+    ensures { λ _. ⌜ Places true n (old pool) (old headers) (old terms)
+        (new headers) (new terms)
+        (items (listOf (old pool)) (labelled (fieldRoot index) 0 (wordsFrom at count (old sheet)))) ⌝ }
 {
     let mut j: usize = 0;
     while j < count {
@@ -184,9 +185,9 @@ fn place_counts(
     requires { ⌜ AllRootsInside (length (recordsOf (now sheet))) (now sheet) at count × (count ≤ 4294967295)
         × ToPlaceRoots true n (now headers) (now pool) (now terms)
         (eachRoots (countRootAt (now sheet)) (now sheet) 0 at count) ⌝ }
-    ensures { λ _. ⌜ Places true n (now (pool .entry)) (now (headers .entry)) (now (terms .entry))
-        (now (headers .exit)) (now (terms .exit))
-        (items (listOf (now (pool .entry))) (eachRoots (countRootAt (now (sheet .entry))) (now (sheet .entry)) 0 at count)) ⌝ }
+    ensures { λ _. ⌜ Places true n (old pool) (old headers) (old terms)
+        (new headers) (new terms)
+        (items (listOf (old pool)) (eachRoots (countRootAt (old sheet)) (old sheet) 0 at count)) ⌝ }
 {
     let mut from = at;
     let mut i: usize = 0;
@@ -211,9 +212,9 @@ fn place_fields(
     requires { ⌜ AllRootsInside (length (recordsOf (now sheet))) (now sheet) at count × (count ≤ 4294967295)
         × ToPlaceRoots true n (now headers) (now pool) (now terms)
         (eachRoots (fieldRootsAt (now sheet)) (now sheet) 0 at count) ⌝ }
-    ensures { λ _. ⌜ Places true n (now (pool .entry)) (now (headers .entry)) (now (terms .entry))
-        (now (headers .exit)) (now (terms .exit))
-        (items (listOf (now (pool .entry))) (eachRoots (fieldRootsAt (now (sheet .entry))) (now (sheet .entry)) 0 at count)) ⌝ }
+    ensures { λ _. ⌜ Places true n (old pool) (old headers) (old terms)
+        (new headers) (new terms)
+        (items (listOf (old pool)) (eachRoots (fieldRootsAt (old sheet)) (old sheet) 0 at count)) ⌝ }
 {
     let mut from = at;
     let mut i: usize = 0;
@@ -237,8 +238,8 @@ fn place_fields(
 // Counts the lists of a family's records; the headers are cleared.
 pub fn tally_family(sheet: &[u32], family: Family, headers: &mut [u32], pool: &[u32]) -> Tallied
     requires { ⌜ Grouping (now sheet) (now pool) (rootsOf family (readSheet (now sheet))) × (now headers ≡ zeros (length (now headers))) ⌝ }
-    ensures { λ r. ⌜ CountedMore (now (headers .exit)) (now (pool .entry))
-        (tallyAll (varsNamed (now (pool .entry)) (nodesOf (rootsOf family (readSheet (now (sheet .entry)))))) []) r ⌝ }
+    ensures { λ r. ⌜ CountedMore (new headers) (old pool)
+        (tallyAll (varsNamed (old pool) (nodesOf (rootsOf family (readSheet (old sheet))))) []) r ⌝ }
 {
     match family {
         Family::Constraints => {
@@ -270,9 +271,9 @@ pub fn place_family(
 )
     requires { ⌜ (check (primeOf (now sheet)) (now sheet) ≡ good (readSheet (now sheet)))
         × ToPlaceRoots (isInteraction family) n (now headers) (now pool) (now terms) (rootsOf family (readSheet (now sheet))) ⌝ }
-    ensures { λ _. ⌜ Places (isInteraction family) n (now (pool .entry)) (now (headers .entry)) (now (terms .entry))
-        (now (headers .exit)) (now (terms .exit))
-        (items (listOf (now (pool .entry))) (rootsOf family (readSheet (now (sheet .entry))))) ⌝ }
+    ensures { λ _. ⌜ Places (isInteraction family) n (old pool) (old headers) (old terms)
+        (new headers) (new terms)
+        (items (listOf (old pool)) (rootsOf family (readSheet (old sheet)))) ⌝ }
 {
     match family {
         Family::Constraints => {

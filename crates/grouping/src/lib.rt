@@ -3,6 +3,7 @@ ghost use mathlib.Core.Bool.{Bool};
 ghost use mathlib.Core.List.{[]};
 ghost use Prim.Native.Nat.{_*_, _≤_};
 ghost use lib.ListN.{length};
+ghost use Rattle.slices.specs.Lent.{old, new};
 ghost use Rattle.semantics.specs.Check.{readSheet};
 ghost use Rattle.semantics.specs.Group.{constraintRoots, countRoots, fieldRoots, constraintTerm, interactionTerm};
 ghost use Rattle.group.specs.Grouped.{tallied, talliedTotal, Rows, column, sum, termOf, termWidth, Placing, varsIn, talliedHeaders};
@@ -32,7 +33,7 @@ pub enum Grouped {
 fn room_for(headers: &[u32], n: usize, width: usize, variables: usize, terms: usize) -> Grouped
     requires { ⌜ (4 * n ≤ length (now headers)) × (n ≤ 16777216) × (sum (column 3 n (now headers)) ≤ 16777216) × (width ≤ 3) ⌝ }
     ensures { λ r. ⌜ Measured n width
-        (sum (column 2 n (now (headers .entry)))) (sum (column 3 n (now (headers .entry)))) variables terms r ⌝ }
+        (sum (column 2 n (old headers))) (sum (column 3 n (old headers))) variables terms r ⌝ }
 {
     let v = totals::total_variables(headers, n);
     if variables < v {
@@ -53,9 +54,9 @@ fn room_for(headers: &[u32], n: usize, width: usize, variables: usize, terms: us
 fn start_groups(headers: &mut [u32], n: usize, pool: &[u32], terms: &mut [u32])
     requires { ⌜ Rows n (now headers) (now pool) × (talliedTotal (tallied n (now headers) (now pool)) ≤ 16777216) ⌝ }
     ensures { λ _. ⌜ ((b : Bool)
-        → termWidth b * talliedTotal (tallied n (now (headers .entry)) (now (pool .entry))) ≤ length (now (terms .entry))
-        → Placing b (tallied n (now (headers .entry)) (now (pool .entry))) n
-        (now (headers .exit)) (now (pool .entry)) (now (terms .exit)) []) ⌝ }
+        → termWidth b * talliedTotal (tallied n (old headers) (old pool)) ≤ length (old terms)
+        → Placing b (tallied n (old headers) (old pool)) n
+        (new headers) (old pool) (new terms) []) ⌝ }
 {
     slices::zero_all(terms);
     totals::start_terms(headers, n);
@@ -65,8 +66,8 @@ fn start_groups(headers: &mut [u32], n: usize, pool: &[u32], terms: &mut [u32])
 fn finish_groups(headers: &mut [u32], n: usize, pool: &[u32], variables: &mut [u32])
     requires { ⌜ Rows n (now headers) (now pool) × (n ≤ 16777216) × (talliedTotal (tallied n (now headers) (now pool)) ≤ 16777216)
         × (length (varsIn (tallied n (now headers) (now pool))) ≤ length (now variables)) ⌝ }
-    ensures { λ _. ⌜ Front (talliedHeaders 0 0 (tallied n (now (headers .entry)) (now (pool .entry)))) (now (headers .exit))
-        × Front (varsIn (tallied n (now (headers .entry)) (now (pool .entry)))) (now (variables .exit)) ⌝ }
+    ensures { λ _. ⌜ Front (talliedHeaders 0 0 (tallied n (old headers) (old pool))) (new headers)
+        × Front (varsIn (tallied n (old headers) (old pool))) (new variables) ⌝ }
 {
     place::write_variables(headers, n, pool, variables);
     totals::fill_offsets(headers, n);
@@ -83,8 +84,8 @@ fn group_family(
 ) -> Grouped
     requires { ⌜ Grouping (now sheet) (now pool) (rootsOf family (readSheet (now sheet))) ⌝ }
     ensures { λ r. ⌜ Laid (termOf (isInteraction family))
-        (groupsOf (now (sheet .entry)) (rootsOf family (readSheet (now (sheet .entry)))))
-        (now (headers .exit)) (now (variables .exit)) (now (terms .exit)) r ⌝ }
+        (groupsOf (old sheet) (rootsOf family (readSheet (old sheet))))
+        (new headers) (new variables) (new terms) r ⌝ }
 {
     slices::zero_all(headers);
     let counted = families::tally_family(sheet, family, headers, pool);
@@ -111,8 +112,8 @@ pub fn group_constraints(
     terms: &mut [u32],
 ) -> Grouped
     requires { ⌜ Grouping (now sheet) (now pool) (constraintRoots (readSheet (now sheet))) ⌝ }
-    ensures { λ r. ⌜ Laid constraintTerm (groupsOf (now (sheet .entry)) (constraintRoots (readSheet (now (sheet .entry)))))
-        (now (headers .exit)) (now (variables .exit)) (now (terms .exit)) r ⌝ }
+    ensures { λ r. ⌜ Laid constraintTerm (groupsOf (old sheet) (constraintRoots (readSheet (old sheet))))
+        (new headers) (new variables) (new terms) r ⌝ }
 {
     group_family(sheet, pool, Family::Constraints, headers, variables, terms)
 }
@@ -126,8 +127,8 @@ pub fn group_counts(
     terms: &mut [u32],
 ) -> Grouped
     requires { ⌜ Grouping (now sheet) (now pool) (countRoots (readSheet (now sheet))) ⌝ }
-    ensures { λ r. ⌜ Laid interactionTerm (groupsOf (now (sheet .entry)) (countRoots (readSheet (now (sheet .entry)))))
-        (now (headers .exit)) (now (variables .exit)) (now (terms .exit)) r ⌝ }
+    ensures { λ r. ⌜ Laid interactionTerm (groupsOf (old sheet) (countRoots (readSheet (old sheet))))
+        (new headers) (new variables) (new terms) r ⌝ }
 {
     group_family(sheet, pool, Family::Counts, headers, variables, terms)
 }
@@ -141,8 +142,8 @@ pub fn group_fields(
     terms: &mut [u32],
 ) -> Grouped
     requires { ⌜ Grouping (now sheet) (now pool) (fieldRoots (readSheet (now sheet))) ⌝ }
-    ensures { λ r. ⌜ Laid interactionTerm (groupsOf (now (sheet .entry)) (fieldRoots (readSheet (now (sheet .entry)))))
-        (now (headers .exit)) (now (variables .exit)) (now (terms .exit)) r ⌝ }
+    ensures { λ r. ⌜ Laid interactionTerm (groupsOf (old sheet) (fieldRoots (readSheet (old sheet))))
+        (new headers) (new variables) (new terms) r ⌝ }
 {
     group_family(sheet, pool, Family::Fields, headers, variables, terms)
 }

@@ -1,6 +1,7 @@
 // The offsets of monomial headers.
 ghost use mathlib.Core.Path.{_≡_};
 ghost use Prim.Native.Nat.{_+_, _≤_};
+ghost use Rattle.slices.specs.Lent.{old, new};
 ghost use Rattle.header_offsets.specs.Headers.{numVars, numTerms, columnTotal, withOffsets};
 
 pub mod words;
@@ -18,7 +19,7 @@ pub struct MonomialHeader {
 pub fn fill_offsets(headers: &mut [MonomialHeader], var_offset: u32, term_offset: u32)
     requires { ⌜ («var_offset» + columnTotal numVars (now headers) ≤ 4294967295)
         × («term_offset» + columnTotal numTerms (now headers) ≤ 4294967295) ⌝ }
-    ensures { λ _. ⌜ now (headers .exit) ≡ withOffsets «var_offset» «term_offset» (now (headers .entry)) ⌝ }
+    ensures { λ _. ⌜ new headers ≡ withOffsets «var_offset» «term_offset» (old headers) ⌝ }
 {
     let mut vars = var_offset;
     let mut terms = term_offset;

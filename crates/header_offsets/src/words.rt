@@ -4,6 +4,7 @@ ghost use mathlib.Core.Path.{_≡_};
 ghost use mathlib.Core.List.{[], _∷_, _++_};
 ghost use Prim.Native.Nat.{_+_, _*_, _-_, _≤_, min};
 ghost use lib.ListN.{length, take, drop, replicate};
+ghost use Rattle.slices.specs.Lent.{old, new};
 ghost use Rattle.header_offsets.specs.Headers.{numVars, numTerms, columnTotal, noHeader, headerIn, headersIn, headerWords, filledWords};
 
 fn at_most_sixteen(n: usize) -> usize
@@ -15,7 +16,7 @@ fn at_most_sixteen(n: usize) -> usize
 // The header whose words stand at `at`.
 fn header_at(words: &[u32], at: usize) -> MonomialHeader
     requires { ⌜ at + 4 ≤ length (now words) ⌝ }
-    ensures { λ r. ⌜ r ≡ headerIn (drop at (now (words .entry))) ⌝ }
+    ensures { λ r. ⌜ r ≡ headerIn (drop at (old words)) ⌝ }
 {
     MonomialHeader {
         var_offset: words[at],
@@ -27,7 +28,7 @@ fn header_at(words: &[u32], at: usize) -> MonomialHeader
 
 fn put_header(words: &mut [u32], at: usize, header: MonomialHeader)
     requires { ⌜ at + 4 ≤ length (now words) ⌝ }
-    ensures { λ _. ⌜ now (words .exit) ≡ take at (now (words .entry)) ++ (headerWords (header ∷ []) ++ drop (at + 4) (now (words .entry))) ⌝ }
+    ensures { λ _. ⌜ new words ≡ take at (old words) ++ (headerWords (header ∷ []) ++ drop (at + 4) (old words)) ⌝ }
 {
     words[at] = header.var_offset;
     words[at + 1] = header.term_offset;
@@ -38,7 +39,7 @@ fn put_header(words: &mut [u32], at: usize, header: MonomialHeader)
 // The k headers whose words stand from `at` on, and headers of four zeros.
 fn take_headers(words: &[u32], at: usize, k: usize) -> [MonomialHeader; 16]
     requires { ⌜ (k ≤ 16) × (at + 4 * k ≤ length (now words)) ⌝ }
-    ensures { λ r. ⌜ r ≡ headersIn k (drop at (now (words .entry))) ++ replicate (16 - k) noHeader ⌝ }
+    ensures { λ r. ⌜ r ≡ headersIn k (drop at (old words)) ++ replicate (16 - k) noHeader ⌝ }
 {
     let none = MonomialHeader {
         var_offset: 0,
@@ -58,8 +59,8 @@ fn take_headers(words: &[u32], at: usize, k: usize) -> [MonomialHeader; 16]
 // The first k of these headers, as words from `at` on.
 fn put_headers(words: &mut [u32], at: usize, k: usize, headers: [MonomialHeader; 16])
     requires { ⌜ (k ≤ 16) × (at + 4 * k ≤ length (now words)) ⌝ }
-    ensures { λ _. ⌜ now (words .exit)
-        ≡ take at (now (words .entry)) ++ (headerWords (take k headers) ++ drop (at + 4 * k) (now (words .entry))) ⌝ }
+    ensures { λ _. ⌜ new words
+        ≡ take at (old words) ++ (headerWords (take k headers) ++ drop (at + 4 * k) (old words)) ⌝ }
 {
     let mut j: usize = 0;
     while j < k {
@@ -72,7 +73,7 @@ fn put_headers(words: &mut [u32], at: usize, k: usize, headers: [MonomialHeader;
 pub fn fill_words(words: &mut [u32], n: usize)
     requires { ⌜ (4 * n ≤ length (now words)) × (columnTotal numVars (headersIn n (now words)) ≤ 4294967295)
         × (columnTotal numTerms (headersIn n (now words)) ≤ 4294967295) ⌝ }
-    ensures { λ _. ⌜ now (words .exit) ≡ filledWords n (now (words .entry)) ⌝ }
+    ensures { λ _. ⌜ new words ≡ filledWords n (old words) ⌝ }
 {
     let mut vars: u32 = 0;
     let mut terms: u32 = 0;

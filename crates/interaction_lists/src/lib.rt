@@ -3,6 +3,7 @@ ghost use mathlib.Core.Path.{_≡_};
 ghost use mathlib.Core.List.{[], _∷_, _++_};
 ghost use Prim.Native.Nat.{ℕ, _*_, _≤_};
 ghost use lib.ListN.{length};
+ghost use Rattle.slices.specs.Lent.{old, new};
 ghost use Rattle.semantics.specs.Check.{primeOf, readSheet};
 ghost use Rattle.semantics.specs.Walk.{order};
 ghost use Rattle.semantics.specs.Group.{countRoots, fieldRoots};
@@ -40,9 +41,9 @@ fn walk_interactions(
 ) -> Expanded
     requires { ⌜ ((constraints : ℕ) × CheckedSheet (now s) records constraints interactions) × (4096 ≤ length (now work))
         × (2 * records ≤ length (now pool)) ⌝ }
-    ensures { λ u. ⌜ Expands (now (s .entry)) (now (pool .exit)) u
-        (order (recordsOf (now (s .entry)))
-        (countsOf (readSheet (now (s .entry)) .interactions) ++ fieldsOf (readSheet (now (s .entry)) .interactions))) ⌝ }
+    ensures { λ u. ⌜ Expands (old s) (new pool) u
+        (order (recordsOf (old s))
+        (countsOf (readSheet (old s) .interactions) ++ fieldsOf (readSheet (old s) .interactions))) ⌝ }
 {
     let heads = 2 * records;
     slices::zero_all(&mut pool[..heads]);
@@ -57,7 +58,7 @@ fn walk_interactions(
 // The largest message length of the interactions from `at` on.
 fn max_fields_len(s: &[u32], at: usize, interactions: usize) -> usize
     requires { ⌜ AllRootsInside (length (recordsOf (now s))) (now s) at interactions ⌝ }
-    ensures { λ r. ⌜ r ≡ longestFrom (now (s .entry)) at interactions ⌝ }
+    ensures { λ r. ⌜ r ≡ longestFrom (old s) at interactions ⌝ }
 {
     let mut most: usize = 0;
     let mut from = at;
@@ -86,14 +87,14 @@ fn group_interactions(
     requires { ⌜ Grouping (now s) (now pool) (countRoots (readSheet (now s)))
         × Grouping (now s) (now pool) (fieldRoots (readSheet (now s)))
         × (interactions ≡ length (readSheet (now s) .interactions)) ⌝ }
-    ensures { λ r. ⌜ (interactionAnswer r (now (headers .exit)) (now (variables .exit)) (now (terms .exit))
-        (now («denom_headers» .exit)) (now («denom_variables» .exit)) (now («denom_terms» .exit))
-        ≡ fitted (interactionOutputs (primeOf (now (s .entry))) (readSheet (now (s .entry))))
-        (length (now (headers .entry)) ∷ length (now (variables .entry)) ∷ length (now (terms .entry))
-        ∷ length (now («denom_headers» .entry)) ∷ length (now («denom_variables» .entry)) ∷ length (now («denom_terms» .entry)) ∷ [])
-        (length (readSheet (now (s .entry)) .interactions) ∷ maxFieldsLen (readSheet (now (s .entry))) ∷ []))
-        × BothInside r (now (headers .exit)) (now (variables .exit)) (now (terms .exit))
-        (now («denom_headers» .exit)) (now («denom_variables» .exit)) (now («denom_terms» .exit)) ⌝ }
+    ensures { λ r. ⌜ (interactionAnswer r (new headers) (new variables) (new terms)
+        (new «denom_headers») (new «denom_variables») (new «denom_terms»)
+        ≡ fitted (interactionOutputs (primeOf (old s)) (readSheet (old s)))
+        (length (old headers) ∷ length (old variables) ∷ length (old terms)
+        ∷ length (old «denom_headers») ∷ length (old «denom_variables») ∷ length (old «denom_terms») ∷ [])
+        (length (readSheet (old s) .interactions) ∷ maxFieldsLen (readSheet (old s)) ∷ []))
+        × BothInside r (new headers) (new variables) (new terms)
+        (new «denom_headers») (new «denom_variables») (new «denom_terms») ⌝ }
 {
     let counted = grouping::group_counts(s, pool, headers, variables, terms);
     let Grouped::Written(numerators) = counted else {
@@ -128,14 +129,14 @@ pub fn expand_checked(
     denom_terms: &mut [u32],
 ) -> InteractionLists
     requires { ⌜ CheckedSheet (now s) records constraints interactions ⌝ }
-    ensures { λ r. ⌜ (interactionAnswer r (now (headers .exit)) (now (variables .exit)) (now (terms .exit))
-        (now («denom_headers» .exit)) (now («denom_variables» .exit)) (now («denom_terms» .exit))
-        ≡ interactionsOf (length (now (work .entry))) (length (now (pool .entry)))
-        (length (now (headers .entry))) (length (now (variables .entry))) (length (now (terms .entry)))
-        (length (now («denom_headers» .entry))) (length (now («denom_variables» .entry))) (length (now («denom_terms» .entry)))
-        (readSheet (now (s .entry))))
-        × BothInside r (now (headers .exit)) (now (variables .exit)) (now (terms .exit))
-        (now («denom_headers» .exit)) (now («denom_variables» .exit)) (now («denom_terms» .exit)) ⌝ }
+    ensures { λ r. ⌜ (interactionAnswer r (new headers) (new variables) (new terms)
+        (new «denom_headers») (new «denom_variables») (new «denom_terms»)
+        ≡ interactionsOf (length (old work)) (length (old pool))
+        (length (old headers)) (length (old variables)) (length (old terms))
+        (length (old «denom_headers»)) (length (old «denom_variables»)) (length (old «denom_terms»))
+        (readSheet (old s)))
+        × BothInside r (new headers) (new variables) (new terms)
+        (new «denom_headers») (new «denom_variables») (new «denom_terms») ⌝ }
 {
     if work.len() < 4096 {
         return InteractionLists::Refused(Refusal {

@@ -3,6 +3,7 @@ ghost use mathlib.Core.Path.{_≡_};
 ghost use mathlib.Core.List.{flatMap};
 ghost use Prim.Native.Nat.{_+_, _*_, _≤_};
 ghost use lib.ListN.{length, take, drop};
+ghost use Rattle.slices.specs.Lent.{old, new};
 ghost use Rattle.slices.specs.Rows.{rows};
 ghost use Rattle.semantics.specs.Group.{listedAt};
 ghost use Rattle.listing.specs.Putting.{Room, Puts};
@@ -46,7 +47,7 @@ fn width(family: Family) -> usize
 // The line of the term whose words stand from k on.
 fn put_term(out: &mut [u8], at: usize, family: Family, terms: &[u32], k: usize) -> usize
     requires { ⌜ (k + widthOf family ≤ length (now terms)) × Room (now out) at (lineOf family (take (widthOf family) (drop k (now terms)))) ⌝ }
-    ensures { λ r. ⌜ Puts (now (out .entry)) at (lineOf family (take (widthOf family) (drop k (now (terms .entry))))) (now (out .exit)) r ⌝ }
+    ensures { λ r. ⌜ Puts (old out) at (lineOf family (take (widthOf family) (drop k (old terms)))) (new out) r ⌝ }
 {
     match family {
         Family::Constraints => put_t_line(out, at, terms, k),
@@ -66,8 +67,8 @@ fn put_terms(
 ) -> usize
     requires { ⌜ (from + widthOf family * count ≤ length (now terms))
         × Room (now out) at (flatMap (lineOf family) (rows (widthOf family) count (drop from (now terms)))) ⌝ }
-    ensures { λ r. ⌜ Puts (now (out .entry)) at (flatMap (lineOf family) (rows (widthOf family) count (drop from (now (terms .entry)))))
-        (now (out .exit)) r ⌝ }
+    ensures { λ r. ⌜ Puts (old out) at (flatMap (lineOf family) (rows (widthOf family) count (drop from (old terms))))
+        (new out) r ⌝ }
 {
     let step = width(family);
     let mut next = at;
@@ -85,7 +86,7 @@ fn put_terms(
 // Variables in hex, a space before each.
 fn put_variables(out: &mut [u8], at: usize, variables: &[u32], from: usize, count: usize) -> usize
     requires { ⌜ (from + count ≤ length (now variables)) × Room (now out) at (spaced (take count (drop from (now variables)))) ⌝ }
-    ensures { λ r. ⌜ Puts (now (out .entry)) at (spaced (take count (drop from (now (variables .entry))))) (now (out .exit)) r ⌝ }
+    ensures { λ r. ⌜ Puts (old out) at (spaced (take count (drop from (old variables)))) (new out) r ⌝ }
 {
     let mut next = at;
     let mut i = 0;
@@ -109,7 +110,7 @@ fn put_header_line(
     count: usize,
 ) -> usize
     requires { ⌜ (from + count ≤ length (now variables)) × Room (now out) at (headerLine letter (take count (drop from (now variables)))) ⌝ }
-    ensures { λ r. ⌜ Puts (now (out .entry)) at (headerLine letter (take count (drop from (now (variables .entry))))) (now (out .exit)) r ⌝ }
+    ensures { λ r. ⌜ Puts (old out) at (headerLine letter (take count (drop from (old variables)))) (new out) r ⌝ }
 {
     let start = put_byte(out, at, letter);
     let end = put_variables(out, start, variables, from, count);
@@ -128,10 +129,10 @@ fn put_header(
 ) -> usize
     requires { ⌜ (h + 4 ≤ length (now headers)) × HeaderInside (widthOf family) (take 4 (drop h (now headers))) (now variables) (now terms)
         × Room (now out) at (headerText family (listedAt (widthOf family) (now variables) (now terms) (take 4 (drop h (now headers))))) ⌝ }
-    ensures { λ r. ⌜ Puts (now (out .entry)) at
+    ensures { λ r. ⌜ Puts (old out) at
         (headerText family
-        (listedAt (widthOf family) (now (variables .entry)) (now (terms .entry)) (take 4 (drop h (now (headers .entry))))))
-        (now (out .exit)) r ⌝ }
+        (listedAt (widthOf family) (old variables) (old terms) (take 4 (drop h (old headers)))))
+        (new out) r ⌝ }
 {
     let vars = answers::wide(headers[h]);
     let first = width(family) * answers::wide(headers[h + 1]);
@@ -152,8 +153,8 @@ pub fn put_headers(
 ) -> usize
     requires { ⌜ HeadersInside (widthOf family) (now headers) (now variables) (now terms)
         × Room (now out) at (familyLines family (now headers) (now variables) (now terms)) ⌝ }
-    ensures { λ r. ⌜ Puts (now (out .entry)) at (familyLines family (now (headers .entry)) (now (variables .entry)) (now (terms .entry)))
-        (now (out .exit)) r ⌝ }
+    ensures { λ r. ⌜ Puts (old out) at (familyLines family (old headers) (old variables) (old terms))
+        (new out) r ⌝ }
 {
     let count = headers.len() / 4;
     let mut next = at;

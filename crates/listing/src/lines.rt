@@ -1,5 +1,6 @@
 // The lines that stand alone: words parted by spaces, and the end of the line.
 ghost use mathlib.Core.List.{[], _∷_};
+ghost use Rattle.slices.specs.Lent.{old, new};
 ghost use Rattle.semantics.specs.Sheetlist.{decimal, line, dagText, endText, refusedText};
 ghost use Rattle.listing.specs.Putting.{Room, Puts};
 use crate::numbers::put_byte;
@@ -15,7 +16,7 @@ pub fn put_dag_line(
     rotation: usize,
 ) -> usize
     requires { ⌜ Room (now out) at (line (dagText ∷ decimal nodes ∷ decimal constraints ∷ decimal rotation ∷ [])) ⌝ }
-    ensures { λ r. ⌜ Puts (now (out .entry)) at (line (dagText ∷ decimal nodes ∷ decimal constraints ∷ decimal rotation ∷ [])) (now (out .exit)) r ⌝ }
+    ensures { λ r. ⌜ Puts (old out) at (line (dagText ∷ decimal nodes ∷ decimal constraints ∷ decimal rotation ∷ [])) (new out) r ⌝ }
 {
     let a = put_text(out, at, b"dag");
     let b = put_number(out, a, answers::wide(nodes));
@@ -27,7 +28,7 @@ pub fn put_dag_line(
 // A refusal: the step, its number and its place.
 pub fn put_refused(out: &mut [u8], at: usize, step: &[u8], number: u32, place: usize) -> usize
     requires { ⌜ Room (now out) at (line (refusedText ∷ now step ∷ decimal number ∷ decimal place ∷ [])) ⌝ }
-    ensures { λ r. ⌜ Puts (now (out .entry)) at (line (refusedText ∷ now (step .entry) ∷ decimal number ∷ decimal place ∷ [])) (now (out .exit)) r ⌝ }
+    ensures { λ r. ⌜ Puts (old out) at (line (refusedText ∷ old step ∷ decimal number ∷ decimal place ∷ [])) (new out) r ⌝ }
 {
     let a = put_text(out, at, b"refused ");
     let b = put_text(out, a, step);
@@ -39,7 +40,7 @@ pub fn put_refused(out: &mut [u8], at: usize, step: &[u8], number: u32, place: u
 // The last line.
 pub fn put_end(out: &mut [u8], at: usize) -> usize
     requires { ⌜ Room (now out) at (line (endText ∷ [])) ⌝ }
-    ensures { λ r. ⌜ Puts (now (out .entry)) at (line (endText ∷ [])) (now (out .exit)) r ⌝ }
+    ensures { λ r. ⌜ Puts (old out) at (line (endText ∷ [])) (new out) r ⌝ }
 {
     put_text(out, at, b"end\n")
 }

@@ -2,6 +2,7 @@
 ghost use mathlib.Core.Path.{_≡_};
 ghost use mathlib.Core.List.{[], _∷_};
 ghost use Prim.Native.Nat.{_+_, _<_};
+ghost use Rattle.slices.specs.Lent.{old, new};
 ghost use Rattle.semantics.specs.Arithmetic.{prime};
 ghost use Rattle.semantics.specs.Sheetlist.{digits, decimal, hexDigit, hexDigits, signed};
 ghost use Rattle.listing.specs.Putting.{Room, Puts};
@@ -9,7 +10,7 @@ use packed_var::PackedVar;
 
 pub fn put_byte(out: &mut [u8], at: usize, byte: u8) -> usize
     requires { ⌜ Room (now out) at (byte ∷ []) ⌝ }
-    ensures { λ r. ⌜ Puts (now (out .entry)) at (byte ∷ []) (now (out .exit)) r ⌝ }
+    ensures { λ r. ⌜ Puts (old out) at (byte ∷ []) (new out) r ⌝ }
 {
     out[at] = byte;
     at + 1
@@ -17,7 +18,7 @@ pub fn put_byte(out: &mut [u8], at: usize, byte: u8) -> usize
 
 pub fn put_text(out: &mut [u8], at: usize, text: &[u8]) -> usize
     requires { ⌜ Room (now out) at (now text) ⌝ }
-    ensures { λ r. ⌜ Puts (now (out .entry)) at (now (text .entry)) (now (out .exit)) r ⌝ }
+    ensures { λ r. ⌜ Puts (old out) at (old text) (new out) r ⌝ }
 {
     let mut next = at;
     let mut i = 0;
@@ -40,7 +41,7 @@ fn digit(d: usize) -> u8
 // The low digits of a number in decimal, at most as many as said.
 fn put_digits(out: &mut [u8], at: usize, most: usize, n: usize) -> usize
     requires { ⌜ Room (now out) at (digits most n) ⌝ }
-    ensures { λ r. ⌜ Puts (now (out .entry)) at (digits most n) (now (out .exit)) r ⌝ }
+    ensures { λ r. ⌜ Puts (old out) at (digits most n) (new out) r ⌝ }
 {
     if most == 0 {
         return at;
@@ -55,7 +56,7 @@ fn put_digits(out: &mut [u8], at: usize, most: usize, n: usize) -> usize
 // A number in decimal.
 pub fn put_decimal(out: &mut [u8], at: usize, n: usize) -> usize
     requires { ⌜ Room (now out) at (decimal n) ⌝ }
-    ensures { λ r. ⌜ Puts (now (out .entry)) at (decimal n) (now (out .exit)) r ⌝ }
+    ensures { λ r. ⌜ Puts (old out) at (decimal n) (new out) r ⌝ }
 {
     put_digits(out, at, 10, n)
 }
@@ -63,7 +64,7 @@ pub fn put_decimal(out: &mut [u8], at: usize, n: usize) -> usize
 // A space and a number.
 pub fn put_number(out: &mut [u8], at: usize, n: usize) -> usize
     requires { ⌜ Room (now out) at (32 ∷ decimal n) ⌝ }
-    ensures { λ r. ⌜ Puts (now (out .entry)) at (32 ∷ decimal n) (now (out .exit)) r ⌝ }
+    ensures { λ r. ⌜ Puts (old out) at (32 ∷ decimal n) (new out) r ⌝ }
 {
     let next = put_byte(out, at, b' ');
     put_decimal(out, next, n)
@@ -82,7 +83,7 @@ fn hex_digit(d: u32) -> u8
 // The low digits of a word in hex, as many as said.
 fn put_hex_digits(out: &mut [u8], at: usize, count: usize, word: u32) -> usize
     requires { ⌜ Room (now out) at (hexDigits count word) ⌝ }
-    ensures { λ r. ⌜ Puts (now (out .entry)) at (hexDigits count word) (now (out .exit)) r ⌝ }
+    ensures { λ r. ⌜ Puts (old out) at (hexDigits count word) (new out) r ⌝ }
 {
     if count == 0 {
         return at;
@@ -94,7 +95,7 @@ fn put_hex_digits(out: &mut [u8], at: usize, count: usize, word: u32) -> usize
 // A variable in hex, eight digits.
 pub fn put_hex(out: &mut [u8], at: usize, var: PackedVar) -> usize
     requires { ⌜ Room (now out) at (hexDigits 8 (var .0)) ⌝ }
-    ensures { λ r. ⌜ Puts (now (out .entry)) at (hexDigits 8 (var .0)) (now (out .exit)) r ⌝ }
+    ensures { λ r. ⌜ Puts (old out) at (hexDigits 8 (var .0)) (new out) r ⌝ }
 {
     put_hex_digits(out, at, 8, var.0)
 }
@@ -102,7 +103,7 @@ pub fn put_hex(out: &mut [u8], at: usize, var: PackedVar) -> usize
 // A coefficient as a signed number in decimal.
 pub fn put_signed(out: &mut [u8], at: usize, c: u32) -> usize
     requires { ⌜ Room (now out) at (signed prime c) ⌝ }
-    ensures { λ r. ⌜ Puts (now (out .entry)) at (signed prime c) (now (out .exit)) r ⌝ }
+    ensures { λ r. ⌜ Puts (old out) at (signed prime c) (new out) r ⌝ }
 {
     let value = field::signed(c);
     if 0 <= value {

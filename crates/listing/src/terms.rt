@@ -2,6 +2,7 @@
 ghost use mathlib.Core.List.{[], _∷_};
 ghost use Prim.Native.Nat.{_+_, _≤_};
 ghost use lib.ListN.{length, take, drop};
+ghost use Rattle.slices.specs.Lent.{old, new};
 ghost use Rattle.semantics.specs.Arithmetic.{prime};
 ghost use Rattle.semantics.specs.Sheetlist.{signed, line, tLine, uLine, wLine};
 ghost use Rattle.listing.specs.Putting.{Room, Puts};
@@ -12,7 +13,7 @@ use crate::numbers::put_signed;
 // A space, a coefficient and the end of the line.
 fn put_last(out: &mut [u8], at: usize, c: u32) -> usize
     requires { ⌜ Room (now out) at (32 ∷ line (signed prime c ∷ [])) ⌝ }
-    ensures { λ r. ⌜ Puts (now (out .entry)) at (32 ∷ line (signed prime c ∷ [])) (now (out .exit)) r ⌝ }
+    ensures { λ r. ⌜ Puts (old out) at (32 ∷ line (signed prime c ∷ [])) (new out) r ⌝ }
 {
     let next = put_byte(out, at, b' ');
     let end = put_signed(out, next, c);
@@ -22,7 +23,7 @@ fn put_last(out: &mut [u8], at: usize, c: u32) -> usize
 // A constraint's term, whose words stand from k on: its index and its coefficient.
 pub fn put_t_line(out: &mut [u8], at: usize, terms: &[u32], k: usize) -> usize
     requires { ⌜ (k + 2 ≤ length (now terms)) × Room (now out) at (tLine prime (take 2 (drop k (now terms)))) ⌝ }
-    ensures { λ r. ⌜ Puts (now (out .entry)) at (tLine prime (take 2 (drop k (now (terms .entry))))) (now (out .exit)) r ⌝ }
+    ensures { λ r. ⌜ Puts (old out) at (tLine prime (take 2 (drop k (old terms)))) (new out) r ⌝ }
 {
     let a = put_byte(out, at, b't');
     let b = put_number(out, a, answers::wide(terms[k]));
@@ -32,7 +33,7 @@ pub fn put_t_line(out: &mut [u8], at: usize, terms: &[u32], k: usize) -> usize
 // A numerator's term: its interaction and its coefficient.
 pub fn put_u_line(out: &mut [u8], at: usize, terms: &[u32], k: usize) -> usize
     requires { ⌜ (k + 3 ≤ length (now terms)) × Room (now out) at (uLine prime (take 3 (drop k (now terms)))) ⌝ }
-    ensures { λ r. ⌜ Puts (now (out .entry)) at (uLine prime (take 3 (drop k (now (terms .entry))))) (now (out .exit)) r ⌝ }
+    ensures { λ r. ⌜ Puts (old out) at (uLine prime (take 3 (drop k (old terms)))) (new out) r ⌝ }
 {
     let a = put_byte(out, at, b'u');
     let b = put_number(out, a, answers::wide(terms[k + 1]));
@@ -42,7 +43,7 @@ pub fn put_u_line(out: &mut [u8], at: usize, terms: &[u32], k: usize) -> usize
 // A denominator's term: its interaction, its field and its coefficient.
 pub fn put_w_line(out: &mut [u8], at: usize, terms: &[u32], k: usize) -> usize
     requires { ⌜ (k + 3 ≤ length (now terms)) × Room (now out) at (wLine prime (take 3 (drop k (now terms)))) ⌝ }
-    ensures { λ r. ⌜ Puts (now (out .entry)) at (wLine prime (take 3 (drop k (now (terms .entry))))) (now (out .exit)) r ⌝ }
+    ensures { λ r. ⌜ Puts (old out) at (wLine prime (take 3 (drop k (old terms)))) (new out) r ⌝ }
 {
     let a = put_byte(out, at, b'w');
     let b = put_number(out, a, answers::wide(terms[k + 1]));

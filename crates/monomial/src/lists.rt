@@ -3,6 +3,7 @@ ghost use mathlib.Core.Path.{_≡_};
 ghost use mathlib.Core.List.{[], _∷_, _++_, map};
 ghost use Prim.Native.Nat.{_+_, _*_, _≤_};
 ghost use lib.ListN.{length, drop};
+ghost use Rattle.slices.specs.Lent.{old, new};
 ghost use Rattle.semantics.specs.Arithmetic.{prime};
 ghost use Rattle.semantics.specs.Monomial.{negMonomial, products, insertMonomial};
 ghost use Rattle.semantics.specs.Expand.{listSize};
@@ -22,7 +23,7 @@ use crate::slots::Found;
 // A monomial goes behind the first k of the work list.
 pub fn put_monomial(work: &mut [u32], k: usize, m: Monomial)
     requires { ⌜ (m .count ≤ 14) × (16 * k + 16 ≤ length (now work)) ⌝ }
-    ensures { λ _. ⌜ held (k + 1) (now (work .exit)) ≡ held k (now (work .entry)) ++ (monomialOf m ∷ []) ⌝ }
+    ensures { λ _. ⌜ held (k + 1) (new work) ≡ held k (old work) ++ (monomialOf m ∷ []) ⌝ }
 {
     slots::put_slot(work, k, m)
 }
@@ -30,7 +31,7 @@ pub fn put_monomial(work: &mut [u32], k: usize, m: Monomial)
 // Sums a monomial into the work list, and hands back how many monomials it has then.
 pub fn combine_like_terms(work: &mut [u32], count: usize, m: Monomial) -> usize
     requires { ⌜ (count + 1 ≤ 256) × Summed count (now work) × (m .count ≤ 14) × Fits (monomialOf m) ⌝ }
-    ensures { λ r. ⌜ (held r (now (work .exit)) ≡ insertMonomial prime (monomialOf m) (held count (now (work .entry)))) × (r ≤ count + 1) ⌝ }
+    ensures { λ r. ⌜ (held r (new work) ≡ insertMonomial prime (monomialOf m) (held count (old work))) × (r ≤ count + 1) ⌝ }
 {
     let found = slots::find_monomial(work, count, m);
     match found {
@@ -49,7 +50,7 @@ pub fn combine_list(
     negated: bool,
 ) -> usize
     requires { ⌜ (count + n ≤ 256) × Summed count (now work) × ListFits (now pool) at n ⌝ }
-    ensures { λ r. ⌜ (held r (now (work .exit)) ≡ insertAll (negatedIf negated (listIn (now (pool .entry)) at n)) (held count (now (work .entry))))
+    ensures { λ r. ⌜ (held r (new work) ≡ insertAll (negatedIf negated (listIn (old pool) at n)) (held count (old work)))
         × (r ≤ count + n) ⌝ }
 {
     let mut total = count;
@@ -68,7 +69,7 @@ pub fn combine_list(
 // The negatives of the n monomials that stand at `at`, as they stand.
 pub fn negate_list(work: &mut [u32], pool: &[u32], at: usize, n: usize)
     requires { ⌜ (n ≤ 256) × (4096 ≤ length (now work)) × ListFits (now pool) at n ⌝ }
-    ensures { λ _. ⌜ held n (now (work .exit)) ≡ map (negMonomial prime) (listIn (now (pool .entry)) at n) ⌝ }
+    ensures { λ _. ⌜ held n (new work) ≡ map (negMonomial prime) (listIn (old pool) at n) ⌝ }
 {
     let mut from = at;
     let mut k: usize = 0;
@@ -92,8 +93,8 @@ pub fn multiply_lists(
 ) -> usize
     requires { ⌜ (n * m ≤ 256) × (4096 ≤ length (now work)) × ListFits (now pool) left n
         × ListFits (now pool) right m × (longestOf (listIn (now pool) left n) + longestOf (listIn (now pool) right m) ≤ 14) ⌝ }
-    ensures { λ r. ⌜ (held r (now (work .exit))
-        ≡ insertAll (products prime (listIn (now (pool .entry)) left n) (listIn (now (pool .entry)) right m)) [])
+    ensures { λ r. ⌜ (held r (new work)
+        ≡ insertAll (products prime (listIn (old pool) left n) (listIn (old pool) right m)) [])
         × (r ≤ n * m) ⌝ }
 {
     let mut total: usize = 0;
@@ -112,7 +113,7 @@ pub fn multiply_lists(
 // The most variables of a monomial of the n that stand at `at`.
 pub fn longest(pool: &[u32], at: usize, n: usize) -> usize
     requires { ⌜ ListFits (now pool) at n ⌝ }
-    ensures { λ r. ⌜ r ≡ longestOf (listIn (now (pool .entry)) at n) ⌝ }
+    ensures { λ r. ⌜ r ≡ longestOf (listIn (old pool) at n) ⌝ }
 {
     let mut most: usize = 0;
     let mut from = at;
@@ -129,7 +130,7 @@ pub fn longest(pool: &[u32], at: usize, n: usize) -> usize
 // How many words the work list takes in the pool.
 pub fn list_size(work: &[u32], count: usize) -> usize
     requires { ⌜ (count ≤ 256) × (16 * count ≤ length (now work)) × All Fits (held count (now work)) ⌝ }
-    ensures { λ r. ⌜ r ≡ listSize (held count (now (work .entry))) ⌝ }
+    ensures { λ r. ⌜ r ≡ listSize (held count (old work)) ⌝ }
 {
     let mut total: usize = 0;
     let mut k: usize = 0;
@@ -145,8 +146,8 @@ pub fn list_size(work: &[u32], count: usize) -> usize
 pub fn write_list(work: &[u32], count: usize, out: &mut [u32])
     requires { ⌜ (count ≤ 256) × (16 * count ≤ length (now work)) × All Fits (held count (now work))
         × (listSize (held count (now work)) ≤ length (now out)) ⌝ }
-    ensures { λ _. ⌜ now (out .exit)
-        ≡ listWords (held count (now (work .entry))) ++ drop (listSize (held count (now (work .entry)))) (now (out .entry)) ⌝ }
+    ensures { λ _. ⌜ new out
+        ≡ listWords (held count (old work)) ++ drop (listSize (held count (old work))) (old out) ⌝ }
 {
     let mut at: usize = 0;
     let mut k: usize = 0;

@@ -3,6 +3,7 @@ ghost use mathlib.Core.Path.{_≡_};
 ghost use mathlib.Core.List.{_∷_, _++_};
 ghost use Prim.Native.Nat.{_+_, _*_, _≤_, _<_};
 ghost use lib.ListN.{length, getD, take, drop};
+ghost use Rattle.slices.specs.Lent.{old, new};
 ghost use Rattle.semantics.specs.Arithmetic.{prime};
 ghost use Rattle.semantics.specs.Monomial.{Asc, keep, plus};
 ghost use Rattle.monomial.specs.Words.{nums, monomialOf, held};
@@ -22,8 +23,8 @@ pub enum Found {
 // Writes the sixteen words of slot k.
 pub fn put_slot(work: &mut [u32], k: usize, m: Monomial)
     requires { ⌜ (m .count ≤ 14) × (16 * k + 16 ≤ length (now work)) ⌝ }
-    ensures { λ _. ⌜ now (work .exit)
-        ≡ take (16 * k) (now (work .entry)) ++ ((m .count ∷ m .coef ∷ nums (m .vars)) ++ drop (16 * k + 16) (now (work .entry))) ⌝ }
+    ensures { λ _. ⌜ new work
+        ≡ take (16 * k) (old work) ++ ((m .count ∷ m .coef ∷ nums (m .vars)) ++ drop (16 * k + 16) (old work)) ⌝ }
 {
     let at = 16 * k;
     let vars = m.vars;
@@ -40,7 +41,7 @@ pub fn put_slot(work: &mut [u32], k: usize, m: Monomial)
 // Searches the work list for the variables of m.
 pub fn find_monomial(work: &[u32], count: usize, m: Monomial) -> Found
     requires { ⌜ (count ≤ 256) × (16 * count ≤ length (now work)) × (m .count ≤ 14) × Asc (held count (now work)) ⌝ }
-    ensures { λ r. ⌜ Stands (monomialOf m) (held count (now (work .entry))) r ⌝ }
+    ensures { λ r. ⌜ Stands (monomialOf m) (held count (old work)) r ⌝ }
 {
     let vars = m.vars;
     let mine = vars::numbers(vars);
@@ -76,8 +77,8 @@ pub fn find_monomial(work: &[u32], count: usize, m: Monomial) -> Found
 // Puts m in front of slot k, unless its coefficient is 0.
 pub fn insert_at(work: &mut [u32], count: usize, k: usize, m: Monomial) -> usize
     requires { ⌜ (k ≤ count) × (count + 1 ≤ 256) × (4096 ≤ length (now work)) × (m .count ≤ 14) ⌝ }
-    ensures { λ r. ⌜ (held r (now (work .exit))
-        ≡ take k (held count (now (work .entry))) ++ keep (monomialOf m) (drop k (held count (now (work .entry)))))
+    ensures { λ r. ⌜ (held r (new work)
+        ≡ take k (held count (old work)) ++ keep (monomialOf m) (drop k (held count (old work))))
         × (r ≤ count + 1) ⌝ }
 {
     if m.coef == 0 {
@@ -91,8 +92,8 @@ pub fn insert_at(work: &mut [u32], count: usize, k: usize, m: Monomial) -> usize
 // Sums m into slot k, and takes the slot out where the sum is 0.
 pub fn sum_at(work: &mut [u32], count: usize, k: usize, m: Monomial) -> usize
     requires { ⌜ (k < count) × (count ≤ 256) × (4096 ≤ length (now work)) ⌝ }
-    ensures { λ r. ⌜ (held r (now (work .exit)) ≡ take k (held count (now (work .entry)))
-        ++ keep (plus prime (monomialOf m) (getD (held count (now (work .entry))) k one)) (drop (k + 1) (held count (now (work .entry)))))
+    ensures { λ r. ⌜ (held r (new work) ≡ take k (held count (old work))
+        ++ keep (plus prime (monomialOf m) (getD (held count (old work)) k one)) (drop (k + 1) (held count (old work))))
         × (r ≤ count) ⌝ }
 {
     let sum = field::add(m.coef, work[16 * k + 1]);

@@ -4,6 +4,7 @@ ghost use mathlib.Core.Path.{_≡_};
 ghost use mathlib.Core.List.{_∷_, _++_};
 ghost use Prim.Native.Nat.{_+_, _-_, _≤_, _<_};
 ghost use lib.ListN.{length, take, drop};
+ghost use Rattle.slices.specs.Lent.{old};
 ghost use Rattle.semantics.specs.Monomial.{sort, above};
 ghost use Rattle.semantics.specs.Lists.{Sorted};
 ghost use Rattle.monomial.specs.Words.{num, nums};
@@ -19,7 +20,7 @@ pub enum Order {
 // Where the n variables that stand at `at` are in the order, seen from the m variables that stand at `from` of the other words, which may be the same.
 pub fn order_at(words: &[u32], at: usize, n: usize, other: &[u32], from: usize, m: usize) -> Order
     requires { ⌜ (at + n ≤ length (now words)) × (from + m ≤ length (now other)) ⌝ }
-    ensures { λ r. ⌜ r ≡ orderOf (take n (drop at (now (words .entry)))) (take m (drop from (now (other .entry)))) ⌝ }
+    ensures { λ r. ⌜ r ≡ orderOf (take n (drop at (old words))) (take m (drop from (old other))) ⌝ }
 {
     if n < m {
         return Order::Before;

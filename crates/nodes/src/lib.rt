@@ -3,6 +3,7 @@ ghost use mathlib.Core.Path.{_≡_};
 ghost use mathlib.Core.List.{List};
 ghost use Prim.Native.Nat.{_+_, _≤_};
 ghost use lib.ListN.{length};
+ghost use Rattle.slices.specs.Lent.{old, new};
 ghost use Rattle.semantics.specs.Sheet as semantics;
 ghost use Rattle.semantics.specs.Sheet.{place};
 ghost use Rattle.semantics.specs.Value.{nodeOf};
@@ -26,7 +27,7 @@ pub struct Interned {
 // What the rules look at in a node.
 pub fn child(out: &[u32], number: u32) -> Child
     requires { ⌜ place 5 number + 5 ≤ length (now out) ⌝ }
-    ensures { λ x. ⌜ (x .number ≡ number) × (x .kind ≡ nodeIn (now (out .entry)) number .kind) × (x .a ≡ nodeIn (now (out .entry)) number .a) ⌝ }
+    ensures { λ x. ⌜ (x .number ≡ number) × (x .kind ≡ nodeIn (old out) number .kind) × (x .a ≡ nodeIn (old out) number .a) ⌝ }
 {
     let m = records::record_at(out, answers::wide(number));
     Child {
@@ -58,7 +59,7 @@ pub fn search_from(r: Record) -> usize
 // The first node from `from` on that is equal, or the number of nodes.
 fn find_node(out: &[u32], n: usize, from: usize, r: Record) -> usize
     requires { ⌜ (from ≤ n) × (place 5 n ≤ length (now out)) ⌝ }
-    ensures { λ x. ⌜ FirstEqual (now (out .entry)) n from (fiveWords r) x ⌝ }
+    ensures { λ x. ⌜ FirstEqual (old out) n from (fiveWords r) x ⌝ }
 {
     let mut i = from;
     while i < n {
@@ -73,9 +74,9 @@ fn find_node(out: &[u32], n: usize, from: usize, r: Record) -> usize
 // The node equal to r, which no node below `from` is; appended where there is none.
 pub fn intern_node(out: &mut [u32], n: usize, from: usize, r: Record) -> Interned
     requires { ⌜ (from ≤ n) × (place 5 (n + 1) ≤ length (now out)) ⌝ }
-    ensures { λ x. ⌜ ((ns : List semantics.Record) → now (out .entry) ≡ nodesOut (length (now (out .entry))) ns
+    ensures { λ x. ⌜ ((ns : List semantics.Record) → old out ≡ nodesOut (length (old out)) ns
         → n ≡ length ns → NoneBefore from (fiveWords r) ns
-        → (x .index ≡ find (fiveWords r) ns) × (now (out .exit) ≡ nodesOut (length (now (out .entry))) (intern (fiveWords r) ns))
+        → (x .index ≡ find (fiveWords r) ns) × (new out ≡ nodesOut (length (old out)) (intern (fiveWords r) ns))
         × (x .count ≡ length (intern (fiveWords r) ns))) ⌝ }
 {
     let at = find_node(out, n, from, r);

@@ -4,6 +4,7 @@ ghost use mathlib.Core.List.{[], _∷_};
 ghost use Prim.Native.Nat.{_+_, _^_, _≤_, _<_};
 ghost use lib.ListN.{length, getD};
 ghost use lib.Seq.{sets};
+ghost use Rattle.slices.specs.Lent.{old, new};
 ghost use Rattle.semantics.specs.Answer.{good};
 ghost use Rattle.semantics.specs.Sheet.{recordWords, place};
 ghost use Rattle.semantics.specs.Check.{primeOf, readSheet, check};
@@ -30,7 +31,7 @@ pub fn records_end(n: usize) -> usize
 // The five words of record r.
 pub fn record_at(sheet: &[u32], r: usize) -> Record
     requires { ⌜ place 5 r + 5 ≤ length (now sheet) ⌝ }
-    ensures { λ x. ⌜ fiveWords x ≡ nodeIn (now (sheet .entry)) r ⌝ }
+    ensures { λ x. ⌜ fiveWords x ≡ nodeIn (old sheet) r ⌝ }
 {
     let at = 4 + 5 * r;
     Record {
@@ -45,7 +46,7 @@ pub fn record_at(sheet: &[u32], r: usize) -> Record
 // The kind of record r.
 pub fn kind_at(sheet: &[u32], r: usize) -> u32
     requires { ⌜ place 5 r + 5 ≤ length (now sheet) ⌝ }
-    ensures { λ x. ⌜ x ≡ nodeIn (now (sheet .entry)) r .kind ⌝ }
+    ensures { λ x. ⌜ x ≡ nodeIn (old sheet) r .kind ⌝ }
 {
     sheet[4 + 5 * r]
 }
@@ -53,7 +54,7 @@ pub fn kind_at(sheet: &[u32], r: usize) -> u32
 // Its left child, which is a Neg's only one.
 pub fn left_at(sheet: &[u32], r: usize) -> usize
     requires { ⌜ place 5 r + 5 ≤ length (now sheet) ⌝ }
-    ensures { λ x. ⌜ x ≡ nodeIn (now (sheet .entry)) r .a ⌝ }
+    ensures { λ x. ⌜ x ≡ nodeIn (old sheet) r .a ⌝ }
 {
     answers::wide(sheet[4 + 5 * r + 1])
 }
@@ -61,7 +62,7 @@ pub fn left_at(sheet: &[u32], r: usize) -> usize
 // Its right child.
 pub fn right_at(sheet: &[u32], r: usize) -> usize
     requires { ⌜ place 5 r + 5 ≤ length (now sheet) ⌝ }
-    ensures { λ x. ⌜ x ≡ nodeIn (now (sheet .entry)) r .b ⌝ }
+    ensures { λ x. ⌜ x ≡ nodeIn (old sheet) r .b ⌝ }
 {
     answers::wide(sheet[4 + 5 * r + 2])
 }
@@ -69,7 +70,7 @@ pub fn right_at(sheet: &[u32], r: usize) -> usize
 // Whether record r is equal to q in all five words.
 pub fn same_record(out: &[u32], r: usize, q: Record) -> bool
     requires { ⌜ place 5 r + 5 ≤ length (now out) ⌝ }
-    ensures { λ x. ⌜ x ≡ equalRecords (fiveWords q) (nodeIn (now (out .entry)) r) ⌝ }
+    ensures { λ x. ⌜ x ≡ equalRecords (fiveWords q) (nodeIn (old out) r) ⌝ }
 {
     let m = record_at(out, r);
     if q.kind != m.kind {
@@ -90,7 +91,7 @@ pub fn same_record(out: &[u32], r: usize, q: Record) -> bool
 // Writes q as record r.
 pub fn put_record(out: &mut [u32], r: usize, q: Record)
     requires { ⌜ place 5 r + 5 ≤ length (now out) ⌝ }
-    ensures { λ _. ⌜ now (out .exit) ≡ sets (now (out .entry)) (place 5 r) (recordWords (fiveWords q)) ⌝ }
+    ensures { λ _. ⌜ new out ≡ sets (old out) (place 5 r) (recordWords (fiveWords q)) ⌝ }
 {
     let at = records_end(r);
     out[at] = q.kind;
@@ -103,7 +104,7 @@ pub fn put_record(out: &mut [u32], r: usize, q: Record)
 // Writes the head of a sheet with so many records, constraints and interactions.
 pub fn put_head(out: &mut [u32], records: usize, constraints: usize, interactions: usize)
     requires { ⌜ (4 ≤ length (now out)) × (records < 2 ^ 32) × (constraints < 2 ^ 32) × (interactions < 2 ^ 32) ⌝ }
-    ensures { λ _. ⌜ now (out .exit) ≡ sets (now (out .entry)) 0 (1 ∷ records ∷ constraints ∷ interactions ∷ []) ⌝ }
+    ensures { λ _. ⌜ new out ≡ sets (old out) 0 (1 ∷ records ∷ constraints ∷ interactions ∷ []) ⌝ }
 {
     out[0] = 1;
     out[1] = records as u32;
@@ -114,7 +115,7 @@ pub fn put_head(out: &mut [u32], records: usize, constraints: usize, interaction
 // How many constraints a checked sheet has.
 pub fn num_constraints(sheet: &[u32]) -> usize
     requires { ⌜ check (primeOf (now sheet)) (now sheet) ≡ good (readSheet (now sheet)) ⌝ }
-    ensures { λ r. ⌜ r ≡ length (readSheet (now (sheet .entry)) .constraints) ⌝ }
+    ensures { λ r. ⌜ r ≡ length (readSheet (old sheet) .constraints) ⌝ }
 {
     answers::wide(sheet[2])
 }
@@ -122,7 +123,7 @@ pub fn num_constraints(sheet: &[u32]) -> usize
 // How many interactions it has.
 pub fn num_interactions(sheet: &[u32]) -> usize
     requires { ⌜ check (primeOf (now sheet)) (now sheet) ≡ good (readSheet (now sheet)) ⌝ }
-    ensures { λ r. ⌜ r ≡ length (readSheet (now (sheet .entry)) .interactions) ⌝ }
+    ensures { λ r. ⌜ r ≡ length (readSheet (old sheet) .interactions) ⌝ }
 {
     answers::wide(sheet[3])
 }
@@ -130,7 +131,7 @@ pub fn num_interactions(sheet: &[u32]) -> usize
 // Where the constraints of a checked sheet start.
 pub fn constraints_at(sheet: &[u32]) -> usize
     requires { ⌜ check (primeOf (now sheet)) (now sheet) ≡ good (readSheet (now sheet)) ⌝ }
-    ensures { λ r. ⌜ r ≡ constraintsAt (now (sheet .entry)) ⌝ }
+    ensures { λ r. ⌜ r ≡ constraintsAt (old sheet) ⌝ }
 {
     records_end(answers::wide(sheet[1]))
 }
@@ -138,7 +139,7 @@ pub fn constraints_at(sheet: &[u32]) -> usize
 // Where its interactions start.
 pub fn interactions_at(sheet: &[u32]) -> usize
     requires { ⌜ check (primeOf (now sheet)) (now sheet) ≡ good (readSheet (now sheet)) ⌝ }
-    ensures { λ r. ⌜ r ≡ interactionsAt (now (sheet .entry)) ⌝ }
+    ensures { λ r. ⌜ r ≡ interactionsAt (old sheet) ⌝ }
 {
     constraints_at(sheet) + num_constraints(sheet)
 }
@@ -169,7 +170,7 @@ pub fn interaction_from(at: usize, message: usize) -> Interaction
 // The interaction that starts at `at` in the sheet.
 pub fn interaction_at(sheet: &[u32], at: usize) -> Interaction
     requires { ⌜ at + (4 + messageLength (now sheet) at) ≤ length (now sheet) ⌝ }
-    ensures { λ x. ⌜ x ≡ interactionFrom at (messageLength (now (sheet .entry)) at) ⌝ }
+    ensures { λ x. ⌜ x ≡ interactionFrom at (messageLength (old sheet) at) ⌝ }
 {
     interaction_from(at, answers::wide(sheet[at + 3]))
 }
@@ -177,7 +178,7 @@ pub fn interaction_at(sheet: &[u32], at: usize) -> Interaction
 // Copies the bus and the weight of the interaction that starts at `at` to the one that starts at `to`.
 pub fn copy_bus_and_weight(sheet: &[u32], at: usize, out: &mut [u32], to: usize)
     requires { ⌜ (at + 2 ≤ length (now sheet)) × (to + 2 ≤ length (now out)) ⌝ }
-    ensures { λ _. ⌜ now (out .exit) ≡ sets (now (out .entry)) to (getD (now (sheet .entry)) at 0 ∷ getD (now (sheet .entry)) (at + 1) 0 ∷ []) ⌝ }
+    ensures { λ _. ⌜ new out ≡ sets (old out) to (getD (old sheet) at 0 ∷ getD (old sheet) (at + 1) 0 ∷ []) ⌝ }
 {
     out[to] = sheet[at];
     out[to + 1] = sheet[at + 1];

@@ -1,5 +1,6 @@
 // Sheets: the check, with which every call on a sheet begins.
 ghost use mathlib.Core.Path.{_≡_};
+ghost use Rattle.slices.specs.Lent.{old};
 ghost use Rattle.semantics.specs.Check.{primeOf};
 ghost use Rattle.semantics.specs.Call.{checkCall};
 ghost use Rattle.sheet.specs.Replies.{checkedOutcome, checkedRefusal};
@@ -25,7 +26,7 @@ pub enum Checked {
 
 // The sheet check: words are read from the front and the first that fails decides.
 pub fn check_sheet(s: &[u32]) -> Checked
-    ensures { λ r. ⌜ checkedOutcome r ≡ checkCall (primeOf (now (s .entry))) (now (s .entry)) ⌝ }
+    ensures { λ r. ⌜ checkedOutcome r ≡ checkCall (primeOf (old s)) (old s) ⌝ }
 {
     let head = scan::check_head(s);
     let Scanned::Next(first) = head else {

@@ -5,6 +5,7 @@ ghost use mathlib.Core.Bool.{true, _&&_};
 ghost use Prim.Native.Nat.{_+_, _≤_};
 ghost use lib.Dec.{eqb, leb};
 ghost use lib.ListN.{length, drop, replicate};
+ghost use Rattle.slices.specs.Lent.{old};
 ghost use Rattle.semantics.specs.Arithmetic.{prime};
 ghost use Rattle.semantics.specs.Sheet.{fits, row, recordTests, interactionTests, headTests, refers};
 ghost use Rattle.semantics.specs.Check.{primeOf, reading, scanWords, scanPart, scanParts, scanSpare};
@@ -78,8 +79,8 @@ fn row_of(kind: usize) -> [u8; 4]
 // One word of a record.
 fn check_word(s: &[u32], at: usize, how: u8, own: usize, a: u32) -> Scanned
     requires { ⌜ at ≤ length (now s) ⌝ }
-    ensures { λ r. ⌜ (scanOf (now (s .entry)) r ≡ scanWords 5 (fits (primeOf (now (s .entry))) own a how ∷ []) (reading at (drop at (now (s .entry)))))
-        × Ends (now (s .entry)) r ⌝ }
+    ensures { λ r. ⌜ (scanOf (old s) r ≡ scanWords 5 (fits (primeOf (old s)) own a how ∷ []) (reading at (drop at (old s))))
+        × Ends (old s) r ⌝ }
 {
     if s.len() <= at {
         return Scanned::Stop(Refusal {
@@ -99,8 +100,8 @@ fn check_word(s: &[u32], at: usize, how: u8, own: usize, a: u32) -> Scanned
 // The words a to d of a record, used as the row of its kind says.
 fn check_row(s: &[u32], at: usize, row: [u8; 4], own: usize, a: u32) -> Scanned
     requires { ⌜ at ≤ length (now s) ⌝ }
-    ensures { λ r. ⌜ (scanOf (now (s .entry)) r ≡ scanWords 5 (map (fits (primeOf (now (s .entry))) own a) row) (reading at (drop at (now (s .entry)))))
-        × Ends (now (s .entry)) r ⌝ }
+    ensures { λ r. ⌜ (scanOf (old s) r ≡ scanWords 5 (map (fits (primeOf (old s)) own a) row) (reading at (drop at (old s))))
+        × Ends (old s) r ⌝ }
 {
     let mut next = at;
     let mut j = 0;
@@ -118,8 +119,8 @@ fn check_row(s: &[u32], at: usize, row: [u8; 4], own: usize, a: u32) -> Scanned
 // A record: its kind, then its words a to d by the row of that kind.
 fn check_record(s: &[u32], at: usize, own: usize) -> Scanned
     requires { ⌜ at ≤ length (now s) ⌝ }
-    ensures { λ r. ⌜ (scanOf (now (s .entry)) r ≡ scanPart 5 (recordTests (primeOf (now (s .entry))) own) (reading at (drop at (now (s .entry)))))
-        × Ends (now (s .entry)) r ⌝ }
+    ensures { λ r. ⌜ (scanOf (old s) r ≡ scanPart 5 (recordTests (primeOf (old s)) own) (reading at (drop at (old s))))
+        × Ends (old s) r ⌝ }
 {
     if s.len() <= at {
         return Scanned::Stop(Refusal {
@@ -148,8 +149,8 @@ fn check_record(s: &[u32], at: usize, own: usize) -> Scanned
 // The records, from the front.
 pub fn check_records(s: &[u32], at: usize, count: usize) -> Scanned
     requires { ⌜ at ≤ length (now s) ⌝ }
-    ensures { λ r. ⌜ (scanOf (now (s .entry)) r ≡ scanParts 5 (recordTests (primeOf (now (s .entry)))) count 0 (reading at (drop at (now (s .entry)))))
-        × Ends (now (s .entry)) r ⌝ }
+    ensures { λ r. ⌜ (scanOf (old s) r ≡ scanParts 5 (recordTests (primeOf (old s))) count 0 (reading at (drop at (old s))))
+        × Ends (old s) r ⌝ }
 {
     let mut next = at;
     let mut own = 0;
@@ -167,8 +168,8 @@ pub fn check_records(s: &[u32], at: usize, count: usize) -> Scanned
 // Words that name records, of which there are `records`.
 pub fn check_references(s: &[u32], at: usize, count: usize, records: usize) -> Scanned
     requires { ⌜ at ≤ length (now s) ⌝ }
-    ensures { λ r. ⌜ (scanOf (now (s .entry)) r ≡ scanWords 6 (replicate count (refers records)) (reading at (drop at (now (s .entry)))))
-        × Ends (now (s .entry)) r × EndsAt (at + count) r ⌝ }
+    ensures { λ r. ⌜ (scanOf (old s) r ≡ scanWords 6 (replicate count (refers records)) (reading at (drop at (old s))))
+        × Ends (old s) r × EndsAt (at + count) r ⌝ }
 {
     let mut i = at;
     let mut k = 0;
@@ -194,8 +195,8 @@ pub fn check_references(s: &[u32], at: usize, count: usize, records: usize) -> S
 // A word that is at most a limit.
 fn check_limit(s: &[u32], at: usize, number: u32, limit: u32) -> Scanned
     requires { ⌜ at ≤ length (now s) ⌝ }
-    ensures { λ r. ⌜ (scanOf (now (s .entry)) r ≡ scanWords number ((λ w. leb w limit) ∷ []) (reading at (drop at (now (s .entry)))))
-        × Ends (now (s .entry)) r × EndsAt (at + 1) r ⌝ }
+    ensures { λ r. ⌜ (scanOf (old s) r ≡ scanWords number ((λ w. leb w limit) ∷ []) (reading at (drop at (old s))))
+        × Ends (old s) r × EndsAt (at + 1) r ⌝ }
 {
     if s.len() <= at {
         return Scanned::Stop(Refusal {
@@ -215,8 +216,8 @@ fn check_limit(s: &[u32], at: usize, number: u32, limit: u32) -> Scanned
 // A word that may be any.
 fn check_any(s: &[u32], at: usize) -> Scanned
     requires { ⌜ at ≤ length (now s) ⌝ }
-    ensures { λ r. ⌜ (scanOf (now (s .entry)) r ≡ scanWords 6 ((λ w. true) ∷ []) (reading at (drop at (now (s .entry)))))
-        × Ends (now (s .entry)) r × EndsAt (at + 1) r ⌝ }
+    ensures { λ r. ⌜ (scanOf (old s) r ≡ scanWords 6 ((λ w. true) ∷ []) (reading at (drop at (old s))))
+        × Ends (old s) r × EndsAt (at + 1) r ⌝ }
 {
     if s.len() <= at {
         return Scanned::Stop(Refusal {
@@ -230,8 +231,8 @@ fn check_any(s: &[u32], at: usize) -> Scanned
 // An interaction: bus, weight, count, message length, then as many references as that says.
 fn check_interaction(s: &[u32], at: usize, records: usize) -> Scanned
     requires { ⌜ at ≤ length (now s) ⌝ }
-    ensures { λ r. ⌜ (scanOf (now (s .entry)) r ≡ scanPart 6 (interactionTests records) (reading at (drop at (now (s .entry)))))
-        × Ends (now (s .entry)) r ⌝ }
+    ensures { λ r. ⌜ (scanOf (old s) r ≡ scanPart 6 (interactionTests records) (reading at (drop at (old s))))
+        × Ends (old s) r ⌝ }
 {
     let bus = check_limit(s, at, 6, 65535);
     let Scanned::Next(one) = bus else {
@@ -255,8 +256,8 @@ fn check_interaction(s: &[u32], at: usize, records: usize) -> Scanned
 // The interactions, from the front.
 pub fn check_interactions(s: &[u32], at: usize, count: usize, records: usize) -> Scanned
     requires { ⌜ at ≤ length (now s) ⌝ }
-    ensures { λ r. ⌜ (scanOf (now (s .entry)) r ≡ scanParts 6 (λ own. interactionTests records) count 0 (reading at (drop at (now (s .entry)))))
-        × Ends (now (s .entry)) r ⌝ }
+    ensures { λ r. ⌜ (scanOf (old s) r ≡ scanParts 6 (λ own. interactionTests records) count 0 (reading at (drop at (old s))))
+        × Ends (old s) r ⌝ }
 {
     let mut next = at;
     let mut i = 0;
@@ -274,7 +275,7 @@ pub fn check_interactions(s: &[u32], at: usize, count: usize, records: usize) ->
 // The spare words: at most 126, all zero.
 pub fn check_spare(s: &[u32], at: usize) -> Scanned
     requires { ⌜ at ≤ length (now s) ⌝ }
-    ensures { λ r. ⌜ scanOf (now (s .entry)) r ≡ scanSpare 126 (reading at (drop at (now (s .entry)))) ⌝ }
+    ensures { λ r. ⌜ scanOf (old s) r ≡ scanSpare 126 (reading at (drop at (old s))) ⌝ }
 {
     let mut i = at;
     let mut k: usize = 0;
@@ -299,8 +300,8 @@ pub fn check_spare(s: &[u32], at: usize) -> Scanned
 
 // The form is 1.
 fn check_form(s: &[u32]) -> Scanned
-    ensures { λ r. ⌜ (scanOf (now (s .entry)) r ≡ scanWords 3 ((λ w. eqb w 1) ∷ []) (reading 0 (now (s .entry))))
-        × Ends (now (s .entry)) r × EndsAt 1 r ⌝ }
+    ensures { λ r. ⌜ (scanOf (old s) r ≡ scanWords 3 ((λ w. eqb w 1) ∷ []) (reading 0 (old s)))
+        × Ends (old s) r × EndsAt 1 r ⌝ }
 {
     if s.len() <= 0 {
         return Scanned::Stop(Refusal {
@@ -319,7 +320,7 @@ fn check_form(s: &[u32]) -> Scanned
 
 // The head: form, records, constraints, interactions.
 pub fn check_head(s: &[u32]) -> Scanned
-    ensures { λ r. ⌜ (scanOf (now (s .entry)) r ≡ scanWords 3 headTests (reading 0 (now (s .entry)))) × Ends (now (s .entry)) r × EndsAt 4 r ⌝ }
+    ensures { λ r. ⌜ (scanOf (old s) r ≡ scanWords 3 headTests (reading 0 (old s))) × Ends (old s) r × EndsAt 4 r ⌝ }
 {
     let form = check_form(s);
     let Scanned::Next(one) = form else {

@@ -1,6 +1,7 @@
 // The calls that only read or copy a sheet.
 ghost use mathlib.Core.Path.{_≡_};
 ghost use lib.ListN.{length};
+ghost use Rattle.slices.specs.Lent.{old, new};
 ghost use Rattle.semantics.specs.Check.{primeOf};
 ghost use Rattle.semantics.specs.Call.{maxRotationCall, numConstraintsCall, conversionCall};
 ghost use Rattle.answers.specs.Replies.{writtenOutcome, restZeroed, countedOutcome};
@@ -13,7 +14,7 @@ mod rotation;
 
 // The largest offset over all variables, used or unused.
 pub fn max_rotation(s: &[u32]) -> Counted
-    ensures { λ r. ⌜ countedOutcome r ≡ maxRotationCall (primeOf (now (s .entry))) (now (s .entry)) ⌝ }
+    ensures { λ r. ⌜ countedOutcome r ≡ maxRotationCall (primeOf (old s)) (old s) ⌝ }
 {
     let checked = sheet::check_sheet(s);
     let Checked::Sheet(head) = checked else {
@@ -24,7 +25,7 @@ pub fn max_rotation(s: &[u32]) -> Counted
 
 // How many constraints the sheet has.
 pub fn num_constraints(s: &[u32]) -> Counted
-    ensures { λ r. ⌜ countedOutcome r ≡ numConstraintsCall (primeOf (now (s .entry))) (now (s .entry)) ⌝ }
+    ensures { λ r. ⌜ countedOutcome r ≡ numConstraintsCall (primeOf (old s)) (old s) ⌝ }
 {
     let checked = sheet::check_sheet(s);
     let Checked::Sheet(head) = checked else {
@@ -35,7 +36,7 @@ pub fn num_constraints(s: &[u32]) -> Counted
 
 // The words of a sheet go to the front of the output.
 fn copy_sheet(s: &[u32], out: &mut [u32]) -> Written
-    ensures { λ r. ⌜ restZeroed r (now (out .exit)) ≡ conversionCall (primeOf (now (s .entry))) (now (s .entry)) (length (now (out .entry))) ⌝ }
+    ensures { λ r. ⌜ restZeroed r (new out) ≡ conversionCall (primeOf (old s)) (old s) (length (old out)) ⌝ }
 {
     let checked = sheet::check_sheet(s);
     let Checked::Sheet(head) = checked else {
@@ -54,7 +55,7 @@ fn copy_sheet(s: &[u32], out: &mut [u32]) -> Written
 
 // The words of the sheet, without the spare ones.
 pub fn convert(s: &[u32], out: &mut [u32]) -> Written
-    ensures { λ r. ⌜ writtenOutcome r (now (out .exit)) ≡ conversionCall (primeOf (now (s .entry))) (now (s .entry)) (length (now (out .entry))) ⌝ }
+    ensures { λ r. ⌜ writtenOutcome r (new out) ≡ conversionCall (primeOf (old s)) (old s) (length (old out)) ⌝ }
 {
     let copied = copy_sheet(s, out);
     slices::zero_from(out, answers::count_of(copied));

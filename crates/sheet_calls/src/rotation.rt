@@ -4,6 +4,7 @@ ghost use mathlib.Core.Bool.{cond};
 ghost use Prim.Native.Nat.{_≤_};
 ghost use lib.Dec.{eqb};
 ghost use lib.ListN.{length, drop};
+ghost use Rattle.slices.specs.Lent.{old};
 ghost use Rattle.semantics.specs.Sheet.{place};
 ghost use Rattle.semantics.specs.Check.{readRecords};
 ghost use Rattle.sheet_calls.specs.Replies.{largest};
@@ -21,7 +22,7 @@ fn offset_of(kind: u32, c: u32) -> usize
 // The largest offset of the records behind the head.
 pub fn largest_offset(s: &[u32], records: usize) -> usize
     requires { ⌜ place 5 records ≤ length (now s) ⌝ }
-    ensures { λ r. ⌜ r ≡ largest (readRecords records (drop 4 (now (s .entry)))) ⌝ }
+    ensures { λ r. ⌜ r ≡ largest (readRecords records (drop 4 (old s))) ⌝ }
 {
     let mut most = 0;
     let mut i = 0;

@@ -3,6 +3,7 @@ ghost use mathlib.Core.Path.{_≡_};
 ghost use mathlib.Core.List.{List, [], _∷_, _++_};
 ghost use Prim.Native.Nat.{ℕ, _<_};
 ghost use lib.ListN.{length, take};
+ghost use Rattle.slices.specs.Lent.{old, new};
 ghost use Rattle.semantics.specs.Arithmetic.{prime};
 ghost use Rattle.semantics.specs.Call.{padded, constraintCall, interactionCall};
 ghost use Rattle.semantics.specs.Sheetlist.{line, endText, consText, interText, step, interactionLines, constraintLines, graphLines, sheetLines, sheetlist};
@@ -38,8 +39,8 @@ fn put_lists(
 ) -> usize
     requires { ⌜ Fronts family n (now headers) (now variables) (now terms)
         × Room (now out) at (frontLines family n (now headers) (now variables) (now terms)) ⌝ }
-    ensures { λ r. ⌜ Puts (now (out .entry)) at (frontLines family n (now (headers .entry)) (now (variables .entry)) (now (terms .entry)))
-        (now (out .exit)) r ⌝ }
+    ensures { λ r. ⌜ Puts (old out) at (frontLines family n (old headers) (old variables) (old terms))
+        (new out) r ⌝ }
 {
     let h = n.headers;
     let v = n.variables;
@@ -64,11 +65,11 @@ fn put_both_lists(
         × Room (now out) at (frontLines Numerators (n .numerators) (now headers) (now variables) (now terms)
         ++ (frontLines Denominators (n .denominators) (now «denom_headers») (now «denom_variables») (now «denom_terms»)
         ++ line (endText ∷ []))) ⌝ }
-    ensures { λ r. ⌜ Puts (now (out .entry)) at
-        (frontLines Numerators (n .numerators) (now (headers .entry)) (now (variables .entry)) (now (terms .entry))
-        ++ (frontLines Denominators (n .denominators) (now («denom_headers» .entry)) (now («denom_variables» .entry))
-        (now («denom_terms» .entry)) ++ line (endText ∷ [])))
-        (now (out .exit)) r ⌝ }
+    ensures { λ r. ⌜ Puts (old out) at
+        (frontLines Numerators (n .numerators) (old headers) (old variables) (old terms)
+        ++ (frontLines Denominators (n .denominators) (old «denom_headers») (old «denom_variables»)
+        (old «denom_terms») ++ line (endText ∷ [])))
+        (new out) r ⌝ }
 {
     let numerators = n.numerators;
     let denominators = n.denominators;
@@ -98,11 +99,11 @@ fn put_interactions(out: &mut [u8], at: usize, graph: &[u32]) -> usize
     requires { ⌜ Room (now out) at
         (step interText (interactionCall (primeOf (now graph)) (now graph) 4096 4096 512 512 512 512 512 512)
         (interactionLines (primeOf (now graph)) (interactionCall (primeOf (now graph)) (now graph) 4096 4096 512 512 512 512 512 512))) ⌝ }
-    ensures { λ r. ⌜ Puts (now (out .entry)) at
-        (step interText (interactionCall (primeOf (now (graph .entry))) (now (graph .entry)) 4096 4096 512 512 512 512 512 512)
-        (interactionLines (primeOf (now (graph .entry)))
-        (interactionCall (primeOf (now (graph .entry))) (now (graph .entry)) 4096 4096 512 512 512 512 512 512)))
-        (now (out .exit)) r ⌝ }
+    ensures { λ r. ⌜ Puts (old out) at
+        (step interText (interactionCall (primeOf (old graph)) (old graph) 4096 4096 512 512 512 512 512 512)
+        (interactionLines (primeOf (old graph))
+        (interactionCall (primeOf (old graph)) (old graph) 4096 4096 512 512 512 512 512 512)))
+        (new out) r ⌝ }
 {
     let mut work = [0u32; 4096];
     let mut pool = [0u32; 4096];
@@ -145,11 +146,11 @@ fn put_constraints(out: &mut [u8], at: usize, graph: &[u32]) -> usize
     requires { ⌜ Room (now out) at
         (step consText (constraintCall (primeOf (now graph)) (now graph) 4096 4096 1024 1024 1024)
         (constraintLines (primeOf (now graph)) (now graph) (constraintCall (primeOf (now graph)) (now graph) 4096 4096 1024 1024 1024))) ⌝ }
-    ensures { λ r. ⌜ Puts (now (out .entry)) at
-        (step consText (constraintCall (primeOf (now (graph .entry))) (now (graph .entry)) 4096 4096 1024 1024 1024)
-        (constraintLines (primeOf (now (graph .entry))) (now (graph .entry))
-        (constraintCall (primeOf (now (graph .entry))) (now (graph .entry)) 4096 4096 1024 1024 1024)))
-        (now (out .exit)) r ⌝ }
+    ensures { λ r. ⌜ Puts (old out) at
+        (step consText (constraintCall (primeOf (old graph)) (old graph) 4096 4096 1024 1024 1024)
+        (constraintLines (primeOf (old graph)) (old graph)
+        (constraintCall (primeOf (old graph)) (old graph) 4096 4096 1024 1024 1024)))
+        (new out) r ⌝ }
 {
     let mut work = [0u32; 4096];
     let mut pool = [0u32; 4096];
@@ -183,7 +184,7 @@ fn put_constraints(out: &mut [u8], at: usize, graph: &[u32]) -> usize
 // What a graph prints: its numbers, then its lists.
 fn put_graph(out: &mut [u8], at: usize, graph: &[u32]) -> usize
     requires { ⌜ (2 < length (now graph)) × Room (now out) at (graphLines (primeOf (now graph)) (now graph)) ⌝ }
-    ensures { λ r. ⌜ Puts (now (out .entry)) at (graphLines (primeOf (now (graph .entry))) (now (graph .entry))) (now (out .exit)) r ⌝ }
+    ensures { λ r. ⌜ Puts (old out) at (graphLines (primeOf (old graph)) (old graph)) (new out) r ⌝ }
 {
     let rotated = sheet_calls::max_rotation(graph);
     let Counted::Number(rotation) = rotated else {
@@ -197,7 +198,7 @@ fn put_graph(out: &mut [u8], at: usize, graph: &[u32]) -> usize
 // What a sheet prints: its graph.
 fn put_sheet(out: &mut [u8], at: usize, sheet: &[u32]) -> usize
     requires { ⌜ Room (now out) at (sheetLines (primeOf (now sheet)) (now sheet)) ⌝ }
-    ensures { λ r. ⌜ Puts (now (out .entry)) at (sheetLines (primeOf (now (sheet .entry))) (now (sheet .entry))) (now (out .exit)) r ⌝ }
+    ensures { λ r. ⌜ Puts (old out) at (sheetLines (primeOf (old sheet)) (old sheet)) (new out) r ⌝ }
 {
     let mut scratch = [0u32; 1016];
     let mut graph = [0u32; 1016];
@@ -212,7 +213,7 @@ fn put_sheet(out: &mut [u8], at: usize, sheet: &[u32]) -> usize
 // What bytes print: the sheet that is read from them.
 fn put_bytes(out: &mut [u8], at: usize, bytes: &[u8]) -> usize
     requires { ⌜ Room (now out) at (sheetlist prime (now bytes)) ⌝ }
-    ensures { λ r. ⌜ Puts (now (out .entry)) at (sheetlist prime (now (bytes .entry))) (now (out .exit)) r ⌝ }
+    ensures { λ r. ⌜ Puts (old out) at (sheetlist prime (old bytes)) (new out) r ⌝ }
 {
     if 4096 < bytes.len() {
         return lines::put_refused(out, at, b"read", 1, 0);
@@ -228,7 +229,7 @@ fn put_bytes(out: &mut [u8], at: usize, bytes: &[u8]) -> usize
 
 // The bytes that `sheetlist` prints for an input go to the front of `out`, with zeros behind them; their number is handed back.
 pub fn list_sheet(bytes: &[u8], out: &mut [u8; 65536]) -> usize
-    ensures { λ r. ⌜ (now (out .exit) ≡ padded (sheetlist prime (now (bytes .entry))) 65536) × (r ≡ length (sheetlist prime (now (bytes .entry)))) ⌝ }
+    ensures { λ r. ⌜ (new out ≡ padded (sheetlist prime (old bytes)) 65536) × (r ≡ length (sheetlist prime (old bytes))) ⌝ }
 {
     let printed = put_bytes(out, 0, bytes);
     slices::zero_bytes_from(out, printed);
@@ -237,8 +238,8 @@ pub fn list_sheet(bytes: &[u8], out: &mut [u8; 65536]) -> usize
 
 // The same for the first n bytes, or for all of them where there are fewer.
 fn list_front(bytes: &[u8], n: usize, out: &mut [u8; 65536]) -> usize
-    ensures { λ r. ⌜ (now (out .exit) ≡ padded (sheetlist prime (take n (now (bytes .entry)))) 65536)
-        × (r ≡ length (sheetlist prime (take n (now (bytes .entry))))) ⌝ }
+    ensures { λ r. ⌜ (new out ≡ padded (sheetlist prime (take n (old bytes))) 65536)
+        × (r ≡ length (sheetlist prime (take n (old bytes)))) ⌝ }
 {
     if bytes.len() < n {
         return list_sheet(bytes, out);
@@ -248,8 +249,8 @@ fn list_front(bytes: &[u8], n: usize, out: &mut [u8; 65536]) -> usize
 
 // The same for an input of which n bytes were read: all of it, or as much as the buffer takes.
 pub fn list_read(buffer: &[u8; 4097], n: usize, out: &mut [u8; 65536]) -> usize
-    ensures { λ r. ⌜ ((input : List ℕ) → ReadOf (now (buffer .entry)) n input
-        → (now (out .exit) ≡ padded (sheetlist prime input) 65536) × (r ≡ length (sheetlist prime input))) ⌝ }
+    ensures { λ r. ⌜ ((input : List ℕ) → ReadOf (old buffer) n input
+        → (new out ≡ padded (sheetlist prime input) 65536) × (r ≡ length (sheetlist prime input))) ⌝ }
 {
     list_front(buffer, n, out)
 }

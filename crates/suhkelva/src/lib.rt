@@ -1,6 +1,7 @@
 // Every entry point of the C library. include/suhkelva.h tells C of them.
 ghost use mathlib.Core.List.{[], _∷_};
 ghost use lib.ListN.{length};
+ghost use Rattle.slices.specs.Lent.{old, new};
 ghost use Rattle.semantics.specs.Sheet.{recordOf};
 ghost use Rattle.semantics.specs.Check.{primeOf};
 ghost use Rattle.semantics.specs.Call.{Handed, blockCheckCall, packCall, unpackCall, checkCall, maxRotationCall, numConstraintsCall, conversionCall};
@@ -33,60 +34,60 @@ pub extern "C" fn suhkelva_unpack(packed: u32) -> SuhkelvaRecord
 
 #[no_mangle]
 pub extern "C" fn suhkelva_block_check(bytes: &[u8], number: u32) -> SuhkelvaBlock
-    ensures { λ r. ⌜ Handed blockFields r [] (blockCheckCall (now (bytes .entry)) number) ⌝ }
+    ensures { λ r. ⌜ Handed blockFields r [] (blockCheckCall (old bytes) number) ⌝ }
 {
     c_replies::block_fields(block::block_check(bytes, number))
 }
 
 #[no_mangle]
 pub extern "C" fn suhkelva_check_sheet(s: &[u32]) -> SuhkelvaSheet
-    ensures { λ r. ⌜ Handed sheetFields r [] (checkCall (primeOf (now (s .entry))) (now (s .entry))) ⌝ }
+    ensures { λ r. ⌜ Handed sheetFields r [] (checkCall (primeOf (old s)) (old s)) ⌝ }
 {
     c_replies::sheet_fields(sheet::check_sheet(s))
 }
 
 #[no_mangle]
 pub extern "C" fn suhkelva_max_rotation(s: &[u32]) -> SuhkelvaNumber
-    ensures { λ r. ⌜ Handed numberFields r [] (maxRotationCall (primeOf (now (s .entry))) (now (s .entry))) ⌝ }
+    ensures { λ r. ⌜ Handed numberFields r [] (maxRotationCall (primeOf (old s)) (old s)) ⌝ }
 {
     c_replies::number_fields(sheet_calls::max_rotation(s))
 }
 
 #[no_mangle]
 pub extern "C" fn suhkelva_num_constraints(s: &[u32]) -> SuhkelvaNumber
-    ensures { λ r. ⌜ Handed numberFields r [] (numConstraintsCall (primeOf (now (s .entry))) (now (s .entry))) ⌝ }
+    ensures { λ r. ⌜ Handed numberFields r [] (numConstraintsCall (primeOf (old s)) (old s)) ⌝ }
 {
     c_replies::number_fields(sheet_calls::num_constraints(s))
 }
 
 #[no_mangle]
 pub extern "C" fn suhkelva_convert(s: &[u32], out: &mut [u32]) -> SuhkelvaWritten
-    ensures { λ r. ⌜ Handed writtenFields r (now (out .exit) ∷ [])
-        (conversionCall (primeOf (now (s .entry))) (now (s .entry)) (length (now (out .entry)))) ⌝ }
+    ensures { λ r. ⌜ Handed writtenFields r (new out ∷ [])
+        (conversionCall (primeOf (old s)) (old s) (length (old out))) ⌝ }
 {
     c_replies::written_fields(sheet_calls::convert(s, out))
 }
 
 #[no_mangle]
 pub extern "C" fn suhkelva_read_blocks(bytes: &[u8], out: &mut [u32]) -> SuhkelvaWritten
-    ensures { λ r. ⌜ Handed writtenFields r (now (out .exit) ∷ [])
-        (readerCall (now (bytes .entry)) (length (now (out .entry)))) ⌝ }
+    ensures { λ r. ⌜ Handed writtenFields r (new out ∷ [])
+        (readerCall (old bytes) (length (old out))) ⌝ }
 {
     c_replies::written_fields(block_reader::read_blocks(bytes, out))
 }
 
 #[no_mangle]
 pub extern "C" fn suhkelva_write_blocks(s: &[u32], out: &mut [u8]) -> SuhkelvaWritten
-    ensures { λ r. ⌜ Handed writtenFields r (now (out .exit) ∷ [])
-        (writerCall (primeOf (now (s .entry))) (now (s .entry)) (length (now (out .entry)))) ⌝ }
+    ensures { λ r. ⌜ Handed writtenFields r (new out ∷ [])
+        (writerCall (primeOf (old s)) (old s) (length (old out))) ⌝ }
 {
     c_replies::written_fields(block_writer::write_blocks(s, out))
 }
 
 #[no_mangle]
 pub extern "C" fn suhkelva_build(s: &[u32], scratch: &mut [u32], out: &mut [u32]) -> SuhkelvaWritten
-    ensures { λ r. ⌜ Handed writtenFields r (now (scratch .exit) ∷ now (out .exit) ∷ [])
-        (builderCall (primeOf (now (s .entry))) (now (s .entry)) (length (now (scratch .entry))) (length (now (out .entry)))) ⌝ }
+    ensures { λ r. ⌜ Handed writtenFields r (new scratch ∷ new out ∷ [])
+        (builderCall (primeOf (old s)) (old s) (length (old scratch)) (length (old out))) ⌝ }
 {
     c_replies::written_fields(dag::build(s, scratch, out))
 }
@@ -101,9 +102,9 @@ pub extern "C" fn suhkelva_expand_constraints(
     terms: &mut [u32],
 ) -> SuhkelvaLists
     ensures { λ r. ⌜ Handed listFields r
-        (now (work .exit) ∷ now (pool .exit) ∷ now (headers .exit) ∷ now (variables .exit) ∷ now (terms .exit) ∷ [])
-        (constraintCall (primeOf (now (s .entry))) (now (s .entry)) (length (now (work .entry))) (length (now (pool .entry)))
-        (length (now (headers .entry))) (length (now (variables .entry))) (length (now (terms .entry)))) ⌝ }
+        (new work ∷ new pool ∷ new headers ∷ new variables ∷ new terms ∷ [])
+        (constraintCall (primeOf (old s)) (old s) (length (old work)) (length (old pool))
+        (length (old headers)) (length (old variables)) (length (old terms))) ⌝ }
 {
     let lists = expansion::expand_constraints(s, work, pool, headers, variables, terms);
     c_list_replies::list_fields(lists)
@@ -122,11 +123,11 @@ pub extern "C" fn suhkelva_expand_interactions(
     denom_terms: &mut [u32],
 ) -> SuhkelvaInteractionLists
     ensures { λ r. ⌜ Handed interactionListFields r
-        (now (work .exit) ∷ now (pool .exit) ∷ now (headers .exit) ∷ now (variables .exit) ∷ now (terms .exit)
-        ∷ now («denom_headers» .exit) ∷ now («denom_variables» .exit) ∷ now («denom_terms» .exit) ∷ [])
-        (interactionCall (primeOf (now (s .entry))) (now (s .entry)) (length (now (work .entry))) (length (now (pool .entry)))
-        (length (now (headers .entry))) (length (now (variables .entry))) (length (now (terms .entry)))
-        (length (now («denom_headers» .entry))) (length (now («denom_variables» .entry))) (length (now («denom_terms» .entry)))) ⌝ }
+        (new work ∷ new pool ∷ new headers ∷ new variables ∷ new terms
+        ∷ new «denom_headers» ∷ new «denom_variables» ∷ new «denom_terms» ∷ [])
+        (interactionCall (primeOf (old s)) (old s) (length (old work)) (length (old pool))
+        (length (old headers)) (length (old variables)) (length (old terms))
+        (length (old «denom_headers»)) (length (old «denom_variables»)) (length (old «denom_terms»))) ⌝ }
 {
     let lists = expansion::expand_interactions(
         s,

@@ -1,6 +1,7 @@
 // Replays stored answers: for each sheet on standard input the calls must answer as written behind it. oracle/README.md has the form of the input.
 ghost use Prim.Native.Nat.{_≤_};
 ghost use lib.ListN.{length};
+ghost use Rattle.slices.specs.Lent.{new};
 use answers::Refusal;
 use answers::Written;
 use constraint_lists::ConstraintLists;
@@ -50,7 +51,7 @@ fn next_length(most: usize) -> usize
 
 // Reads how many words a sheet has, and the words.
 fn read_sheet(sheet: &mut [u32]) -> usize
-    ensures { λ r. ⌜ r ≤ length (now (sheet .exit)) ⌝ }
+    ensures { λ r. ⌜ r ≤ length (new sheet) ⌝ }
 {
     let n = next_length(sheet.len());
     let mut i: usize = 0;
@@ -293,7 +294,7 @@ fn replay_words(kind: u32, words: &[u32], n: usize) -> bool
 // Item i: where it is a sheet, its words are read; otherwise the sheet stays.
 fn next_sheet(kind: u32, sheet: &mut [u32], n: usize) -> usize
     requires { ⌜ n ≤ length (now sheet) ⌝ }
-    ensures { λ r. ⌜ r ≤ length (now (sheet .exit)) ⌝ }
+    ensures { λ r. ⌜ r ≤ length (new sheet) ⌝ }
 {
     if kind == 0 {
         return read_sheet(sheet);
