@@ -9,7 +9,7 @@
  * Calls. Every call returns, keeps nothing between calls, takes no memory of its own but some stack, and reads and writes
  * nothing but what it is lent. Calls may run at the same time in several threads.
  *
- * Replies. Every reply is a struct that begins with `number`, 32 bits, and `place`, 64 bits:
+ * Replies. Every reply is a struct that begins with `number` and `place`:
  *     number 0   accepted: place is 0, and the further fields are the answer;
  *     otherwise  refused: number says why and place says where (table below), and every further field is 0.
  *
@@ -128,7 +128,7 @@ extern "C" {
  */
 typedef struct {
     uint32_t number; /* 0, 5, 8, 9, 10 or 11 */
-    uint64_t place;
+    uint32_t place;
     uint32_t packed;
 } SuhkelvaPacked;
 
@@ -143,7 +143,7 @@ SuhkelvaPacked suhkelva_pack(uint32_t kind, uint32_t a, uint32_t b, uint32_t c, 
 /* The five words of a record. */
 typedef struct {
     uint32_t number; /* 0 or 5 */
-    uint64_t place;
+    uint32_t place;
     uint32_t kind;
     uint32_t a;
     uint32_t b;
@@ -161,7 +161,7 @@ SuhkelvaRecord suhkelva_unpack(uint32_t packed);
 
 typedef struct {
     uint32_t number; /* 0 or 1 */
-    uint64_t place;
+    uint32_t place;
     uint32_t good; /* 1 yes, 0 no */
 } SuhkelvaBlock;
 

@@ -24,7 +24,7 @@ typedef struct {
     const char *what;
     uint32_t words[5];
     uint32_t number;
-    uint64_t place;
+    uint32_t place;
     uint32_t packed;
 } Packing;
 
@@ -1042,9 +1042,9 @@ static void check_expansions(void)
 
 int main(void)
 {
-    check(sizeof(SuhkelvaPacked) == 24, "the size of SuhkelvaPacked");
-    check(sizeof(SuhkelvaRecord) == 40, "the size of SuhkelvaRecord");
-    check(sizeof(SuhkelvaBlock) == 24, "the size of SuhkelvaBlock");
+    check(sizeof(SuhkelvaPacked) == 12, "the size of SuhkelvaPacked");
+    check(sizeof(SuhkelvaRecord) == 28, "the size of SuhkelvaRecord");
+    check(sizeof(SuhkelvaBlock) == 12, "the size of SuhkelvaBlock");
     check(sizeof(SuhkelvaSheet) == 56, "the size of SuhkelvaSheet");
     check(sizeof(SuhkelvaNumber) == 24, "the size of SuhkelvaNumber");
     check(sizeof(SuhkelvaWritten) == 24, "the size of SuhkelvaWritten");

@@ -149,20 +149,20 @@ module _ (bs o : List ℕ) {lent : ℕ} (l : length o ≡ lent) where
   abbrev reads : Answer Result
   reads = andThen (readBlocks (length bs / 512) 0 bs) (λ (ws : List ℕ). result (ws ∷ []) [])
 
-  pub length-bad : true ≡ badLength (length bs) → restZeroed (Refused (record { number = 1; place = 0 })) o ≡ readerCall bs lent
+  pub length-bad : true ≡ badLength (length bs) → restZeroed (Refused (record { number = 1; place = 0 })) o ≡ readerCall bs (lent ∷ [])
   unfolding readerCall
   length-bad b = refused-outcome o l _ ∙ ap (outcome [] (lent ∷ [])) (sym (cond-true (badLength (length bs)) _ _ (sym b)))
 
   module _ (b : false ≡ badLength (length bs)) where
     pub output-short : lent < 127 * (length bs / 512)
-        → restZeroed (Refused (record { number = 15; place = 127 * (length bs / 512) })) o ≡ readerCall bs lent
+        → restZeroed (Refused (record { number = 15; place = 127 * (length bs / 512) })) o ≡ readerCall bs (lent ∷ [])
     unfolding readerCall
     output-short h =
         refused-outcome o l _
         ∙ ap (outcome [] (lent ∷ [])) (needs-short 15 _ lent reads h ∙ sym (cond-false (badLength (length bs)) _ _ (sym b)))
 
     pub blocks-read : (r : Written) → 127 * (length bs / 512) ≤ lent → restZeroed r o ≡ wordsOutcome lent (readBlocks (length bs / 512) 0 bs)
-        → restZeroed r o ≡ readerCall bs lent
+        → restZeroed r o ≡ readerCall bs (lent ∷ [])
     unfolding readerCall
     blocks-read r h e =
         e ∙ ap (outcome [] (lent ∷ [])) (sym (needs-met 15 _ lent reads h) ∙ sym (cond-false (badLength (length bs)) _ _ (sym b)))

@@ -1,12 +1,12 @@
 // The block reader: blocks as words.
 ghost use mathlib.Core.Path.{_≡_};
-ghost use mathlib.Core.List.{_++_};
+ghost use mathlib.Core.List.{_++_, [], _∷_};
 ghost use Prim.Native.Nat.{_+_, _*_, _≤_};
 ghost use lib.ListN.{length, take, drop};
-ghost use Rattle.slices.specs.Lent.{old, new};
+ghost use Rattle.slices.specs.Lent.{old, new, lengths};
 ghost use Rattle.semantics.specs.Block.{wordsOf, badLength, readBlocks};
-ghost use Rattle.semantics.specs.Call.{readerCall};
-ghost use Rattle.answers.specs.Replies.{writtenOutcome, restZeroed};
+ghost use Rattle.semantics.specs.Call.{readerCall, Gives};
+ghost use Rattle.answers.specs.Replies.{restZeroed, writtenReply};
 ghost use Rattle.block_reader.specs.Replies.{wordsOutcome};
 use answers::Refusal;
 use answers::Written;
@@ -58,7 +58,7 @@ fn read_each(bytes: &[u8], blocks: usize, out: &mut [u32]) -> Written
 
 // The words of the blocks go to the front of the output.
 fn read_all(bytes: &[u8], out: &mut [u32]) -> Written
-    ensures { λ r. ⌜ restZeroed r (new out) ≡ readerCall (old bytes) (length (old out)) ⌝ }
+    ensures { λ r. ⌜ restZeroed r (new out) ≡ readerCall (old bytes) (lengths (out ∷ [])) ⌝ }
 {
     if bad_length(bytes.len()) {
         return Written::Refused(Refusal {
@@ -79,7 +79,7 @@ fn read_all(bytes: &[u8], out: &mut [u32]) -> Written
 
 // The words of blocks.
 pub fn read_blocks(bytes: &[u8], out: &mut [u32]) -> Written
-    ensures { λ r. ⌜ writtenOutcome r (new out) ≡ readerCall (old bytes) (length (old out)) ⌝ }
+    ensures { λ r. ⌜ Gives writtenReply r (out ∷ []) (readerCall (old bytes)) ⌝ }
 {
     let read = read_all(bytes, out);
     slices::zero_from(out, answers::count_of(read));

@@ -1,13 +1,13 @@
 // The block writer: the words of a sheet as blocks.
 ghost use mathlib.Core.Path.{_≡_};
-ghost use mathlib.Core.List.{_++_, flatMap};
+ghost use mathlib.Core.List.{_++_, flatMap, [], _∷_};
 ghost use Prim.Native.Nat.{_+_, _*_, _≤_, _<_};
 ghost use lib.ListN.{length, getD, take, drop};
-ghost use Rattle.slices.specs.Lent.{old, new};
+ghost use Rattle.slices.specs.Lent.{old, new, lengths};
 ghost use Rattle.semantics.specs.Check.{primeOf};
 ghost use Rattle.semantics.specs.Block.{wordsOf, wordBytes, firstWords, blockBytes, writeBlocks};
-ghost use Rattle.semantics.specs.Call.{writerCall};
-ghost use Rattle.answers.specs.Replies.{writtenOutcome, restZeroed};
+ghost use Rattle.semantics.specs.Call.{writerCall, Gives};
+ghost use Rattle.answers.specs.Replies.{restZeroed, writtenReply};
 use answers::Refusal;
 use answers::Written;
 use block::words;
@@ -73,7 +73,7 @@ fn write_each(s: &[u32], blocks: usize, out: &mut [u8])
 
 // The blocks of a sheet go to the front of the output.
 fn write_all(s: &[u32], out: &mut [u8]) -> Written
-    ensures { λ r. ⌜ restZeroed r (new out) ≡ writerCall (primeOf (old s)) (old s) (length (old out)) ⌝ }
+    ensures { λ r. ⌜ restZeroed r (new out) ≡ writerCall (primeOf (old s)) (old s) (lengths (out ∷ [])) ⌝ }
 {
     let checked = sheet::check_sheet(s);
     let Checked::Sheet(head) = checked else {
@@ -94,7 +94,7 @@ fn write_all(s: &[u32], out: &mut [u8]) -> Written
 
 // The sheet in blocks: its words, zero fill and the check words.
 pub fn write_blocks(s: &[u32], out: &mut [u8]) -> Written
-    ensures { λ r. ⌜ writtenOutcome r (new out) ≡ writerCall (primeOf (old s)) (old s) (length (old out)) ⌝ }
+    ensures { λ r. ⌜ Gives writtenReply r (out ∷ []) (writerCall (primeOf (old s)) (old s)) ⌝ }
 {
     let written = write_all(s, out);
     slices::zero_bytes_from(out, answers::count_of(written));

@@ -1,5 +1,6 @@
 // A reply for C: its number, its place, and its counts or numbers, 0 where it has none.
 ghost use mathlib.Core.Path.{_≡_};
+ghost use Prim.Native.Nat.{_≤_};
 ghost use Rattle.packed_var.specs.Packed.{packedReply};
 ghost use Rattle.packing.specs.Leaves.{unpackedReply};
 ghost use Rattle.block.specs.Checked.{blockReply};
@@ -16,14 +17,14 @@ use sheet::Checked;
 #[repr(C)]
 pub struct SuhkelvaPacked {
     pub number: u32,
-    pub place: u64,
+    pub place: u32,
     pub packed: u32,
 }
 
 #[repr(C)]
 pub struct SuhkelvaRecord {
     pub number: u32,
-    pub place: u64,
+    pub place: u32,
     pub kind: u32,
     pub a: u32,
     pub b: u32,
@@ -34,7 +35,7 @@ pub struct SuhkelvaRecord {
 #[repr(C)]
 pub struct SuhkelvaBlock {
     pub number: u32,
-    pub place: u64,
+    pub place: u32,
     pub good: u32,
 }
 
@@ -64,6 +65,7 @@ pub struct SuhkelvaWritten {
 }
 
 pub fn packed_fields(packed: Packed) -> SuhkelvaPacked
+    requires { ⌜ packedReply packed .place ≤ 4294967295 ⌝ }
     ensures { λ r. ⌜ r ≡ packedFields (packedReply packed) ⌝ }
 {
     match packed {
@@ -74,13 +76,14 @@ pub fn packed_fields(packed: Packed) -> SuhkelvaPacked
         },
         Packed::Refused(r) => SuhkelvaPacked {
             number: r.number,
-            place: r.place as u64,
+            place: r.place as u32,
             packed: 0,
         },
     }
 }
 
 pub fn record_fields(unpacked: Unpacked) -> SuhkelvaRecord
+    requires { ⌜ unpackedReply unpacked .place ≤ 4294967295 ⌝ }
     ensures { λ r. ⌜ r ≡ recordFields (unpackedReply unpacked) ⌝ }
 {
     match unpacked {
@@ -95,7 +98,7 @@ pub fn record_fields(unpacked: Unpacked) -> SuhkelvaRecord
         },
         Unpacked::Refused(r) => SuhkelvaRecord {
             number: r.number,
-            place: r.place as u64,
+            place: r.place as u32,
             kind: 0,
             a: 0,
             b: 0,
@@ -106,6 +109,7 @@ pub fn record_fields(unpacked: Unpacked) -> SuhkelvaRecord
 }
 
 pub fn block_fields(checked: BlockChecked) -> SuhkelvaBlock
+    requires { ⌜ blockReply checked .place ≤ 4294967295 ⌝ }
     ensures { λ r. ⌜ r ≡ blockFields (blockReply checked) ⌝ }
 {
     match checked {
@@ -121,7 +125,7 @@ pub fn block_fields(checked: BlockChecked) -> SuhkelvaBlock
         },
         BlockChecked::Refused(r) => SuhkelvaBlock {
             number: r.number,
-            place: r.place as u64,
+            place: r.place as u32,
             good: 0,
         },
     }

@@ -13,7 +13,7 @@ use Rattle.semantics.specs.Check.{readSheet}
 use Rattle.semantics.specs.Walk.{order}
 use Rattle.semantics.specs.Expand.{expandAll}
 use Rattle.semantics.specs.Group.{Root, Item, Group, constraintRoots, constraintTerm, headers, variables, terms, layout}
-use Rattle.semantics.specs.Call.{Result, needs, result, fitted, firstShort, family, constraintOutputs}
+use Rattle.semantics.specs.Call.{Result, needs, result, fitted, firstShort, family, constraintOutputs, expansionOf, constraintsOf}
 use Rattle.semantics.proofs.Basics.{cond-true, cond-false, by-test}
 use Rattle.semantics.proofs.Calls.{needs-met, needs-short}
 use Rattle.semantics.proofs.Demands.{constraint-nodes}
@@ -28,7 +28,7 @@ use Rattle.grouping.specs.declared.Grouped.the-variants as grouped
 use Rattle.constraint_lists.specs.declared.ConstraintLists.{ConstraintLists}
 use Rattle.constraint_lists.specs.declared.ConstraintLists.the-variants.{Refused}
 use Rattle.grouping.specs.Families.{groupsOf, Front, Laid}
-use Rattle.constraint_lists.specs.Lists.{expandedRefusal, ListsFit, expansionOf, constraintAnswer, constraintsIn, constraintsOf, ShortFew, Fit}
+use Rattle.constraint_lists.specs.Lists.{expandedRefusal, ListsFit, constraintAnswer, constraintsIn, ShortFew, Fit}
 
 -- There are three slices.
 first-bound : (k : ℕ) (ws : List (List ℕ)) (ns : List ℕ) → firstShort (suc k) ws ns ≤ k + length ws
@@ -48,7 +48,7 @@ short-few term gs h v t (grouped.Short k) l =
 module _ (work pool : ℕ) (lent : List ℕ) (roots : Sheet → List Root) (outputs : Sheet → List (List ℕ)) (numbers : Sheet → List ℕ)
     (s : Sheet) where
   abbrev whole : Answer Result
-  whole = expansionOf work pool lent roots outputs numbers s
+  whole = expansionOf prime (work ∷ pool ∷ lent) roots outputs numbers s
 
   abbrev walk : Answer ℕ
   walk = expandAll prime (s .records) pool (order (s .records) (map (λ (r : Root). r .node) (roots s)))
@@ -57,10 +57,12 @@ module _ (work pool : ℕ) (lent : List ℕ) (roots : Sheet → List Root) (outp
   ends a = andThen a (λ used. fitted (outputs s) lent (numbers s))
 
   pub work-short : work < 4096 → refused 14 4096 ≡ whole
+  unfolding expansionOf
   work-short l = needs-short 14 4096 work (needs 14 (2 * length (s .records)) pool (ends walk)) l
 
   module _ (enough : 4096 ≤ work) where
     then-pool : needs 14 (2 * length (s .records)) pool (ends walk) ≡ whole
+    unfolding expansionOf
     then-pool = sym (needs-met 14 4096 work (needs 14 (2 * length (s .records)) pool (ends walk)) enough)
 
     pub pool-short : (k : ℕ) → k ≡ 2 * length (s .records) → pool < k → refused 14 k ≡ whole
@@ -138,7 +140,7 @@ module _ (ws : List ℕ) (work pool : ℕ) {h v t : List ℕ} {lh lv lt : ℕ} (
   s = readSheet ws
 
   abbrev call : Answer Result
-  call = constraintsOf work pool lh lv lt s
+  call = constraintsOf prime (work ∷ pool ∷ lh ∷ lv ∷ lt ∷ []) s
 
   abbrev reached : List ℕ
   reached = order (recordsOf ws) (s .constraints)

@@ -1,16 +1,14 @@
 -- The lists of the constraints, or why there are none (01, "What each call hands back").
 use mathlib.Core.Path.{_≡_}
-use mathlib.Core.List.{List, [], _∷_, map}
-use Prim.Native.Nat.{ℕ, _+_, _*_, _≤_}
-use lib.ListN.{length, take}
-use Rattle.semantics.specs.Arithmetic.{prime}
-use Rattle.semantics.specs.Answer.{Answer, good, refused, andThen}
+use mathlib.Core.List.{List, [], _∷_}
+use Prim.Native.Nat.{ℕ, _+_, _≤_}
+use lib.ListN.{length, take, getD}
+use Rattle.slices.specs.Lent.{Lent, lengths, contents}
+use Rattle.semantics.specs.Answer.{Answer, good, refused}
 use Rattle.semantics.specs.Sheet.{Sheet}
-use Rattle.semantics.specs.Check.{primeOf, readSheet, check}
-use Rattle.semantics.specs.Walk.{order}
-use Rattle.semantics.specs.Expand.{expandAll}
-use Rattle.semantics.specs.Group.{Root, constraintRoots}
-use Rattle.semantics.specs.Call.{Result, needs, fitted, constraintOutputs}
+use Rattle.semantics.specs.Check.{primeOf, readSheet}
+use Rattle.semantics.specs.Call.{Result, onSheet}
+use Rattle.records.specs.Access.{IsSheet}
 use Rattle.answers.specs.declared.Refusal.{Refusal}
 use Rattle.grouping.specs.declared.Lengths.{Lengths}
 use Rattle.grouping.specs.declared.Grouped.{Grouped}
@@ -22,7 +20,7 @@ use Rattle.constraint_lists.specs.declared.ConstraintLists.the-variants.
 
 -- A checked sheet with its E, C and I.
 pub record CheckedSheet (ws : List ℕ) (records constraints interactions : ℕ) : Type 0 where
-  pub checked : check (primeOf ws) ws ≡ good (readSheet ws)
+  pub checked : IsSheet ws
   pub records-are : records ≡ length (readSheet ws .records)
   pub constraints-are : constraints ≡ length (readSheet ws .constraints)
   pub interactions-are : interactions ≡ length (readSheet ws .interactions)
@@ -40,17 +38,22 @@ abbrev pub ListsFit : ConstraintLists → (headers variables terms : List ℕ) �
 ListsFit (Written n) headers variables terms = Fit n headers variables terms
 ListsFit (Refused r) headers variables terms = Unit {0}
 
--- An expansion of a sheet that was checked.
-abbrev pub expansionOf : (work pool : ℕ) (lent : List ℕ)
-    → (roots : Sheet → List Root) (outputs : Sheet → List (List ℕ)) (numbers : Sheet → List ℕ) → Sheet → Answer Result
-expansionOf work pool lent roots outputs numbers s =
-    needs 14 4096 work (needs 14 (2 * length (s .records)) pool
-    (andThen (expandAll prime (s .records) pool (order (s .records) (map (λ (r : Root). r .node) (roots s))))
-    (λ used. fitted (outputs s) lent (numbers s))))
+-- Output k of some lent slices, behind so many slices of scratch.
+abbrev pub outputAt : (scratch : ℕ) → List Lent → (k : ℕ) → List ℕ
+outputAt scratch lent k = getD (contents lent) (scratch + k) []
 
-abbrev pub constraintsOf : (work pool headers variables terms : ℕ) → Sheet → Answer Result
-constraintsOf work pool headers variables terms =
-    expansionOf work pool (headers ∷ variables ∷ terms ∷ []) constraintRoots (constraintOutputs prime) (λ s. [])
+-- The lists stand in the outputs, and are those of an answer for the lent lengths.
+abbrev pub ConstraintsAre : (scratch : ℕ) → ConstraintLists → List Lent → (answer : List ℕ → Answer Result) → Type 0
+ConstraintsAre scratch r lent answer =
+    let o : ℕ → List ℕ = outputAt scratch lent in
+    (constraintAnswer r (o 0) (o 1) (o 2) ≡ answer (lengths lent)) × ListsFit r (o 0) (o 1) (o 2)
+
+-- The answer for a sheet's words, and for the sheet that checked words are.
+abbrev pub onWords : (ws : List ℕ) → ((p : ℕ) (lent : List ℕ) → Sheet → Answer Result) → (lent : List ℕ) → Answer Result
+onWords ws answer lent = onSheet (primeOf ws) ws (answer (primeOf ws) lent)
+
+abbrev pub onRead : (ws : List ℕ) → ((p : ℕ) (lent : List ℕ) → Sheet → Answer Result) → (lent : List ℕ) → Answer Result
+onRead ws answer lent = answer (primeOf ws) lent (readSheet ws)
 
 -- The refusal of a walk that refused; and 17 for a slice that is too short.
 abbrev pub expandedRefusal : Expanded → Refusal

@@ -2,12 +2,14 @@
 ghost use mathlib.Core.Path.{_≡_};
 ghost use Prim.Native.Nat.{ℕ, _*_, _≤_};
 ghost use lib.ListN.{length};
+ghost use mathlib.Core.List.{[], _∷_};
+ghost use Rattle.semantics.specs.Call.{constraintsOf};
 ghost use Rattle.slices.specs.Lent.{old, new};
 ghost use Rattle.semantics.specs.Check.{readSheet};
 ghost use Rattle.semantics.specs.Walk.{order};
 ghost use Rattle.records.specs.Access.{recordsOf};
 ghost use Rattle.expand.specs.Walking.{Expands};
-ghost use Rattle.constraint_lists.specs.Lists.{expandedRefusal, shortOf, ShortFew, constraintsIn, constraintAnswer, constraintsOf, ListsFit, CheckedSheet};
+ghost use Rattle.constraint_lists.specs.Lists.{expandedRefusal, shortOf, ShortFew, constraintsIn, CheckedSheet, ConstraintsAre, onRead};
 use answers::Refusal;
 use expand::Expanded;
 use grouping::Grouped;
@@ -90,10 +92,7 @@ pub fn expand_checked(
     terms: &mut [u32],
 ) -> ConstraintLists
     requires { ⌜ ((interactions : ℕ) × CheckedSheet (now s) records constraints interactions) ⌝ }
-    ensures { λ r. ⌜ (constraintAnswer r (new headers) (new variables) (new terms)
-        ≡ constraintsOf (length (old work)) (length (old pool))
-        (length (old headers)) (length (old variables)) (length (old terms)) (readSheet (old s)))
-        × ListsFit r (new headers) (new variables) (new terms) ⌝ }
+    ensures { λ r. ⌜ ConstraintsAre 2 r (work ∷ pool ∷ headers ∷ variables ∷ terms ∷ []) (onRead (old s) constraintsOf) ⌝ }
 {
     if work.len() < 4096 {
         return ConstraintLists::Refused(Refusal {

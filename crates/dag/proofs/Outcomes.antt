@@ -51,7 +51,7 @@ module _ (ws : List ℕ) (lent n : ℕ) where
   refused-outcome v = refl
 
   pub call-refused : {r : Checked} {v u : Refusal} → checkedOutcome r ≡ checkCall prime ws → r ≡ checked.Refused v → u ≡ checkedRefusal r
-      → builtOutcome (Refused u) (zeros lent) (zeros n) ≡ builderCall prime ws lent n
+      → builtOutcome (Refused u) (zeros lent) (zeros n) ≡ builderCall prime ws (lent ∷ n ∷ [])
   unfolding builderCall
   call-refused {v} e q f =
       ap (λ (x : Refusal). builtOutcome (Refused x) (zeros lent) (zeros n)) (f ∙ ap checkedRefusal q)
@@ -75,7 +75,7 @@ module _ {ws : List ℕ} {records words : ℕ} {scratch out : List ℕ} (h : Cle
   refused-clear : (v : Refusal) → builtOutcome (Refused v) (zeros lent) out ≡ outcome (lent ∷ []) (n ∷ []) (refused (v .number) (v .place))
   refused-clear v = ap (builtOutcome (Refused v) (zeros lent)) (h .out-is) ∙ refused-outcome ws lent n v
 
-  pub scratch-short : lent < records → builtOutcome (Refused (record { number = 14; place = records })) (zeros lent) out ≡ builderCall prime ws lent n
+  pub scratch-short : lent < records → builtOutcome (Refused (record { number = 14; place = records })) (zeros lent) out ≡ builderCall prime ws (lent ∷ n ∷ [])
   unfolding builderCall needs
   scratch-short l =
       refused-clear (record { number = 14; place = records })
@@ -92,7 +92,7 @@ module _ {ws : List ℕ} {records words : ℕ} {scratch out : List ℕ} (h : Cle
       (le-leb (length (s .records)) lent (omega (arith, h .records-are))))
 
   pub out-short : records ≤ lent → n < words
-      → builtOutcome (Refused (record { number = 15; place = words })) (zeros lent) out ≡ builderCall prime ws lent n
+      → builtOutcome (Refused (record { number = 15; place = words })) (zeros lent) out ≡ builderCall prime ws (lent ∷ n ∷ [])
   unfolding builderCall needs
   out-short l k =
       refused-clear (record { number = 15; place = words })
@@ -103,7 +103,7 @@ module _ {ws : List ℕ} {records words : ℕ} {scratch out : List ℕ} (h : Cle
       ∙ enough l ∙ on-found prime ws (rest ws lent n) (h .checked))
 
   pub graph-built : records ≤ lent → words ≤ n → (written : ℕ) (out′ : List ℕ) → out′ ≡ graphOut n ws → written ≡ graphLength ws
-      → builtOutcome (Words written) (zeros lent) out′ ≡ builderCall prime ws lent n
+      → builtOutcome (Words written) (zeros lent) out′ ≡ builderCall prime ws (lent ∷ n ∷ [])
   unfolding builderCall needs outcome paddedAll result
   graph-built l k written out′ eo ew =
       (λ i. record { reply = record { number = 0; place = 0; counts = ew i ∷ []; numbers = [] }; slices = zeros lent ∷ eo i ∷ [] })

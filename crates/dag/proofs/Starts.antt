@@ -15,7 +15,7 @@ use Rattle.records.specs.Access.{recordsOf, constraintsAt, interactionsAt, word
 use Rattle.records.proofs.Rooting.{order-none, references-below}
 use Rattle.records.proofs.Reading.{constraints-are, constraints-inside, interactions-stand, interactions-inside, roots-are}
 use Rattle.nodes.specs.Memory.{tabulate, mark, nodesOut, builtOf, GraphHolds}
-use Rattle.graph_lists.specs.Lists.{ToWriteLists}
+use Rattle.graph_lists.specs.Lists.{ToWriteLists, ListsAt}
 use Rattle.graph_walk.specs.Walking.{AddWalking, Walks}
 use Rattle.graph_walk.proofs.Rooting.{walking-after, walks-both}
 use Rattle.dag.specs.Calls.{Starting}
@@ -24,12 +24,6 @@ table-zeros : (k n : ℕ) (f : ℕ → ℕ) → ((i : ℕ) → f i ≡ 0) → re
 unfolding tabulate
 table-zeros k zero f h = refl
 table-zeros k (suc n) f h = λ i. sym (h k) i ∷ table-zeros (suc k) n f h i
-
--- Where the constraints of a sheet start, and how many constraints and interactions it has.
-pub record Counted (ws : List ℕ) (at count ints : ℕ) : Type 0 where
-  pub located : at ≡ constraintsAt ws
-  pub constraints : count ≡ length (readSheet ws .constraints)
-  pub interactions : ints ≡ length (readSheet ws .interactions)
 
 module _ {ws scratch out : List ℕ} (b : Starting ws scratch out) where
   abbrev s : Sheet
@@ -56,11 +50,11 @@ module _ {ws scratch out : List ℕ} (b : Starting ws scratch out) where
   start-walking = record { checked = b .checked; room = room; done = []; order = order-none ws; holds = holds-none }
 
   -- The records that the constraints and the interactions name.
-  module _ {at count ints : ℕ} (n : Counted ws at count ints) where
+  module _ {at count ints : ℕ} (n : ListsAt ws at count ints) where
     pub references-inside : ReferencesInside ws at count
     references-inside =
-        subst (λ (a : ℕ). ReferencesInside ws a count) (sym (n .located))
-        (subst (ReferencesInside ws (constraintsAt ws)) (sym (n .constraints)) (constraints-inside ws (b .checked)))
+        subst (λ (a : ℕ). ReferencesInside ws a count) (sym (n .at-is))
+        (subst (ReferencesInside ws (constraintsAt ws)) (sym (n .constraints-are)) (constraints-inside ws (b .checked)))
 
     -- When the constraints are added.
     pub walking-next : (s₁ o₁ : List ℕ) (n₁ : ℕ) → length o₁ ≡ length out → Walks ws (wordsFrom at count ws) scratch out 0 s₁ o₁ n₁ → AddWalking ws s₁ o₁ n₁
@@ -68,18 +62,18 @@ module _ {ws scratch out : List ℕ} (b : Starting ws scratch out) where
 
     -- The interactions stand behind the constraints.
     behind : at + count ≡ interactionsAt ws
-    behind = omega (arith, n .located, n .constraints)
+    behind = omega (arith, n .at-is, n .constraints-are)
 
-    pub all-inside : AllRootsInside E ws (at + count) ints
+    pub all-inside : AllRootsInside ws (at + count) ints
     all-inside =
-        subst (λ (a : ℕ). AllRootsInside E ws a ints) (sym behind)
-        (subst (AllRootsInside E ws (interactionsAt ws)) (sym (n .interactions)) (interactions-inside ws (b .checked)))
+        subst (λ (a : ℕ). AllRootsInside ws a ints) (sym behind)
+        (subst (AllRootsInside ws (interactionsAt ws)) (sym (n .interactions-are)) (interactions-inside ws (b .checked)))
 
     roots-all : wordsFrom at count ws ++ rootWords ws (at + count) ints ≡ graphRoots s
     unfolding graphRoots
     roots-all =
         let stands = interactions-stand ws (b .checked) in
-        (λ i. wordsFrom (n .located i) (n .constraints i) ws ++ rootWords ws (behind i) (n .interactions i))
+        (λ i. wordsFrom (n .at-is i) (n .constraints-are i) ws ++ rootWords ws (behind i) (n .interactions-are i))
         ∙ (λ i. constraints-are ws (b .checked) i ++ roots-are (stands .0) ws (interactionsAt ws) (s .interactions) (stands .1) i)
 
     -- When all are.

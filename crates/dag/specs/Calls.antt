@@ -3,10 +3,10 @@ use mathlib.Core.Path.{_≡_}
 use mathlib.Core.List.{List, [], _∷_}
 use Prim.Native.Nat.{ℕ, _≤_}
 use lib.ListN.{length}
-use Rattle.semantics.specs.Answer.{good}
 use Rattle.semantics.specs.Sheet.{lengthOf}
-use Rattle.semantics.specs.Check.{primeOf, readSheet, check}
+use Rattle.semantics.specs.Check.{readSheet}
 use Rattle.semantics.specs.Call.{Outcome, zeros}
+use Rattle.records.specs.Access.{IsSheet}
 use Rattle.answers.specs.declared.Written.{Written}
 use Rattle.answers.specs.Replies.{writtenReply}
 
@@ -16,7 +16,7 @@ builtOutcome r scratch out = record { reply = writtenReply r; slices = scratch �
 
 -- A checked sheet with its E and L, and nothing but zeros in what is lent for writing.
 pub record Clear (ws : List ℕ) (records words : ℕ) (scratch out : List ℕ) : Type 0 where
-  pub checked : check (primeOf ws) ws ≡ good (readSheet ws)
+  pub checked : IsSheet ws
   pub records-are : records ≡ length (readSheet ws .records)
   pub words-are : words ≡ lengthOf (readSheet ws)
   pub scratch-is : scratch ≡ zeros (length scratch)
@@ -24,7 +24,7 @@ pub record Clear (ws : List ℕ) (records words : ℕ) (scratch out : List ℕ) 
 
 -- What building asks: a checked sheet, scratch of E zeros, and an output of zeros that has room for the sheet.
 pub record Starting (ws scratch out : List ℕ) : Type 0 where
-  pub checked : check (primeOf ws) ws ≡ good (readSheet ws)
+  pub checked : IsSheet ws
   pub room : lengthOf (readSheet ws) ≤ length out
   pub scratch-is : scratch ≡ zeros (length (readSheet ws .records))
   pub out-is : out ≡ zeros (length out)

@@ -1,9 +1,11 @@
 // The builder: port of dag.rs over a sheet, scratch and an output that are lent.
 ghost use mathlib.Core.Path.{_≡_};
 ghost use lib.ListN.{length};
-ghost use Rattle.slices.specs.Lent.{old, new};
+ghost use mathlib.Core.List.{[], _∷_};
+ghost use Rattle.answers.specs.Replies.{writtenReply};
+ghost use Rattle.slices.specs.Lent.{old, new, lengths};
 ghost use Rattle.semantics.specs.Check.{primeOf};
-ghost use Rattle.semantics.specs.Call.{builderCall, zeros};
+ghost use Rattle.semantics.specs.Call.{builderCall, zeros, Gives};
 ghost use Rattle.dag.specs.Calls.{builtOutcome, Clear};
 
 mod graph;
@@ -22,7 +24,7 @@ fn build_checked(
 ) -> Written
     requires { ⌜ Clear (now s) records words (now scratch) (now out) ⌝ }
     ensures { λ r. ⌜ builtOutcome r (zeros (length (old scratch))) (new out)
-        ≡ builderCall (primeOf (old s)) (old s) (length (old scratch)) (length (old out)) ⌝ }
+        ≡ builderCall (primeOf (old s)) (old s) (lengths (scratch ∷ out ∷ [])) ⌝ }
 {
     if scratch.len() < records {
         return Written::Refused(Refusal {
@@ -44,7 +46,7 @@ fn build_checked(
 fn build_clear(s: &[u32], scratch: &mut [u32], out: &mut [u32]) -> Written
     requires { ⌜ (now scratch ≡ zeros (length (now scratch))) × (now out ≡ zeros (length (now out))) ⌝ }
     ensures { λ r. ⌜ builtOutcome r (zeros (length (old scratch))) (new out)
-        ≡ builderCall (primeOf (old s)) (old s) (length (old scratch)) (length (old out)) ⌝ }
+        ≡ builderCall (primeOf (old s)) (old s) (lengths (scratch ∷ out ∷ [])) ⌝ }
 {
     let checked = sheet::check_sheet(s);
     let Checked::Sheet(head) = checked else {
@@ -55,8 +57,7 @@ fn build_clear(s: &[u32], scratch: &mut [u32], out: &mut [u32]) -> Written
 
 // The builder: checks the sheet and writes its graph; scratch ends all zero.
 pub fn build(s: &[u32], scratch: &mut [u32], out: &mut [u32]) -> Written
-    ensures { λ r. ⌜ builtOutcome r (new scratch) (new out)
-        ≡ builderCall (primeOf (old s)) (old s) (length (old scratch)) (length (old out)) ⌝ }
+    ensures { λ r. ⌜ Gives writtenReply r (scratch ∷ out ∷ []) (builderCall (primeOf (old s)) (old s)) ⌝ }
 {
     slices::zero_all(scratch);
     slices::zero_all(out);

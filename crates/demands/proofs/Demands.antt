@@ -1,6 +1,6 @@
 -- Demand 3 from the contracts: the definitions' own demand, carried over the equations that the contracts promise.
 use mathlib.Core.Path.{_≡_, refl, sym, ap, subst, _∙_}
-use mathlib.Core.List.{List}
+use mathlib.Core.List.{List, [], _∷_}
 use Prim.Native.Nat.{ℕ}
 use lib.ListN.{take}
 use Rattle.semantics.specs.Arithmetic.{prime}
@@ -24,32 +24,32 @@ words-back (Words n) scratch out = refl
 words-back (Refused v) scratch out = refl
 
 pub build-demand : (ws : List ℕ) (scratch-lent out-lent : ℕ) (r : Written) (scratch out : List ℕ)
-    → builtOutcome r scratch out ≡ builderCall prime ws scratch-lent out-lent → GraphBuilt ws r out
+    → builtOutcome r scratch out ≡ builderCall prime ws (scratch-lent ∷ out-lent ∷ []) → GraphBuilt ws r out
 build-demand ws scratch-lent out-lent r scratch out e a =
     let g = demand-prime .graph ws scratch-lent out-lent (number-is e a) in
     (g .0, g .1, subst (GraphRule prime (g .0)) (ap (λ (x : Outcome). handedBack 1 x 0) (sym e) ∙ words-back r scratch out) (g .2))
 
-pub constraints-demand : (ws : List ℕ) (work pool h v t : ℕ) (o : Outcome) → o ≡ constraintCall prime ws work pool h v t → ConstraintsExpanded ws o
+pub constraints-demand : (ws : List ℕ) (work pool h v t : ℕ) (o : Outcome) → o ≡ constraintCall prime ws (work ∷ pool ∷ h ∷ v ∷ t ∷ []) → ConstraintsExpanded ws o
 constraints-demand ws work pool h v t o e = record {
   own = λ a.
       let g = demand-prime .constraints ws work pool h v t (number-is e a) in
       (g .0, g .1, subst (ConstraintRule prime (g .0)) (sym e) (g .2));
   source = λ a source s w.
-      let f : constraintCall prime (handedBack 1 (builderCall prime source (w .scratch) (w .out)) 0) work pool h v t ≡ o =
-      ap (λ (g : List ℕ). constraintCall prime g work pool h v t) (w .words) ∙ sym e in
+      let f : constraintCall prime (handedBack 1 (builderCall prime source ((w .scratch) ∷ (w .out) ∷ [])) 0) (work ∷ pool ∷ h ∷ v ∷ t ∷ []) ≡ o =
+      ap (λ (g : List ℕ). constraintCall prime g (work ∷ pool ∷ h ∷ v ∷ t ∷ [])) (w .words) ∙ sym e in
       subst (GraphConstraintRule prime s) f
       (demand-prime .graphConstraints source (w .scratch) (w .out) s (w .accepted) (w .sheet) work pool h v t (number-is (sym f) a));
 }
 
-pub interactions-demand : (ws : List ℕ) (work pool h v t h₂ v₂ t₂ : ℕ) (o : Outcome) → o ≡ interactionCall prime ws work pool h v t h₂ v₂ t₂
+pub interactions-demand : (ws : List ℕ) (work pool h v t h₂ v₂ t₂ : ℕ) (o : Outcome) → o ≡ interactionCall prime ws (work ∷ pool ∷ h ∷ v ∷ t ∷ h₂ ∷ v₂ ∷ t₂ ∷ [])
     → InteractionsExpanded ws o
 interactions-demand ws work pool h v t h₂ v₂ t₂ o e = record {
   own = λ a.
       let g = demand-prime .interactions ws work pool h v t h₂ v₂ t₂ (number-is e a) in
       (g .0, g .1, subst (InteractionRule prime (g .0)) (sym e) (g .2));
   source = λ a source s w.
-      let f : interactionCall prime (handedBack 1 (builderCall prime source (w .scratch) (w .out)) 0) work pool h v t h₂ v₂ t₂ ≡ o =
-      ap (λ (g : List ℕ). interactionCall prime g work pool h v t h₂ v₂ t₂) (w .words) ∙ sym e in
+      let f : interactionCall prime (handedBack 1 (builderCall prime source ((w .scratch) ∷ (w .out) ∷ [])) 0) (work ∷ pool ∷ h ∷ v ∷ t ∷ h₂ ∷ v₂ ∷ t₂ ∷ []) ≡ o =
+      ap (λ (g : List ℕ). interactionCall prime g (work ∷ pool ∷ h ∷ v ∷ t ∷ h₂ ∷ v₂ ∷ t₂ ∷ [])) (w .words) ∙ sym e in
       subst (GraphInteractionRule prime s) f
       (demand-prime .graphInteractions source (w .scratch) (w .out) s (w .accepted) (w .sheet) work pool h v t h₂ v₂ t₂ (number-is (sym f) a));
 }

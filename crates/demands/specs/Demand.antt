@@ -1,7 +1,7 @@
 -- Demand 3, whole, as a caller has it of `build`, `expand_constraints` and `expand_interactions` (01, "For demand 3"): what holds of their
 -- answers and of the slices that they leave, and that it follows from their contracts.
 use mathlib.Core.Path.{_≡_}
-use mathlib.Core.List.{List}
+use mathlib.Core.List.{List, [], _∷_}
 use Prim.Native.Nat.{ℕ}
 use lib.ListN.{take}
 use Rattle.semantics.specs.Answer.{good}
@@ -25,9 +25,9 @@ GraphBuilt ws r out = writtenReply r .number ≡ 0 → (s : Sheet) × (check (pr
 pub record GraphWords (source : List ℕ) (s : Sheet) (ws : List ℕ) : Type 0 where
   pub scratch : ℕ
   pub out : ℕ
-  pub accepted : Accepted (builderCall (primeOf source) source scratch out)
+  pub accepted : Accepted (builderCall (primeOf source) source (scratch ∷ out ∷ []))
   pub sheet : check (primeOf source) source ≡ good s
-  pub words : handedBack 1 (builderCall (primeOf source) source scratch out) 0 ≡ ws
+  pub words : handedBack 1 (builderCall (primeOf source) source (scratch ∷ out ∷ [])) 0 ≡ ws
 
 -- Where an expansion's number is 0, the words given are a sheet, and the lists in the slices are those that expanding and grouping give:
 -- each constraint is the sum of its terms. Where the words are the graph of a source, each constraint of the source is the sum of the terms
@@ -44,10 +44,10 @@ pub record InteractionsExpanded (ws : List ℕ) (o : Outcome) : Type 0 where
 -- For any words and any lent lengths, from what the contracts of the three calls promise of an answer r and of the slices.
 pub record CallsDemand : Type 0 where
   pub build : (ws : List ℕ) (scratch-lent out-lent : ℕ) (r : Written) (scratch out : List ℕ)
-      → builtOutcome r scratch out ≡ builderCall (primeOf ws) ws scratch-lent out-lent → GraphBuilt ws r out
+      → builtOutcome r scratch out ≡ builderCall (primeOf ws) ws (scratch-lent ∷ out-lent ∷ []) → GraphBuilt ws r out
   pub constraints : (ws : List ℕ) (work pool h v t : ℕ) (r : ConstraintLists) (work′ pool′ h′ v′ t′ : List ℕ)
-      → constraintOutcome r work′ pool′ h′ v′ t′ ≡ constraintCall (primeOf ws) ws work pool h v t
+      → constraintOutcome r work′ pool′ h′ v′ t′ ≡ constraintCall (primeOf ws) ws (work ∷ pool ∷ h ∷ v ∷ t ∷ [])
       → ConstraintsExpanded ws (constraintOutcome r work′ pool′ h′ v′ t′)
   pub interactions : (ws : List ℕ) (work pool h v t h₂ v₂ t₂ : ℕ) (r : InteractionLists) (work′ pool′ h′ v′ t′ h₃ v₃ t₃ : List ℕ)
-      → interactionOutcome r work′ pool′ h′ v′ t′ h₃ v₃ t₃ ≡ interactionCall (primeOf ws) ws work pool h v t h₂ v₂ t₂
+      → interactionOutcome r work′ pool′ h′ v′ t′ h₃ v₃ t₃ ≡ interactionCall (primeOf ws) ws (work ∷ pool ∷ h ∷ v ∷ t ∷ h₂ ∷ v₂ ∷ t₂ ∷ [])
       → InteractionsExpanded ws (interactionOutcome r work′ pool′ h′ v′ t′ h₃ v₃ t₃)

@@ -1,19 +1,17 @@
 // Demand 3 as a caller has it: the builder and the expansions, each with its own contract and with the promise that the demand makes of it.
-ghost use mathlib.Core.Path.{_≡_};
-ghost use lib.ListN.{length};
+ghost use mathlib.Core.List.{[], _∷_};
+ghost use Rattle.answers.specs.Replies.{writtenReply};
 ghost use Rattle.slices.specs.Lent.{old, new};
 ghost use Rattle.semantics.specs.Check.{primeOf};
-ghost use Rattle.semantics.specs.Call.{builderCall, constraintCall, interactionCall};
-ghost use Rattle.dag.specs.Calls.{builtOutcome};
-ghost use Rattle.expansion.specs.Answers.{constraintOutcome, interactionOutcome};
+ghost use Rattle.semantics.specs.Call.{builderCall, constraintCall, interactionCall, Gives, handed};
+ghost use Rattle.expansion.specs.Answers.{constraintReply, interactionReply};
 ghost use Rattle.demands.specs.Demand.{GraphBuilt, ConstraintsExpanded, InteractionsExpanded};
 use answers::Written;
 use constraint_lists::ConstraintLists;
 use interaction_lists::InteractionLists;
 
 pub fn build(s: &[u32], scratch: &mut [u32], out: &mut [u32]) -> Written
-    ensures outcome { λ r. ⌜ builtOutcome r (new scratch) (new out)
-        ≡ builderCall (primeOf (old s)) (old s) (length (old scratch)) (length (old out)) ⌝ }
+    ensures outcome { λ r. ⌜ Gives writtenReply r (scratch ∷ out ∷ []) (builderCall (primeOf (old s)) (old s)) ⌝ }
     ensures demand { λ r. ⌜ GraphBuilt (old s) r (new out) ⌝ }
 {
     let built = dag::build(s, scratch, out);
@@ -28,13 +26,10 @@ pub fn expand_constraints(
     variables: &mut [u32],
     terms: &mut [u32],
 ) -> ConstraintLists
-    ensures outcome { λ r. ⌜ constraintOutcome r
-        (new work) (new pool) (new headers) (new variables) (new terms)
-        ≡ constraintCall (primeOf (old s)) (old s)
-        (length (old work)) (length (old pool))
-        (length (old headers)) (length (old variables)) (length (old terms)) ⌝ }
-    ensures demand { λ r. ⌜ ConstraintsExpanded (old s) (constraintOutcome r
-        (new work) (new pool) (new headers) (new variables) (new terms)) ⌝ }
+    ensures outcome { λ r. ⌜ Gives constraintReply r (work ∷ pool ∷ headers ∷ variables ∷ terms ∷ [])
+        (constraintCall (primeOf (old s)) (old s)) ⌝ }
+    ensures demand { λ r. ⌜ ConstraintsExpanded (old s)
+        (handed constraintReply r (work ∷ pool ∷ headers ∷ variables ∷ terms ∷ [])) ⌝ }
 {
     let lists = expansion::expand_constraints(s, work, pool, headers, variables, terms);
     lists
@@ -51,15 +46,11 @@ pub fn expand_interactions(
     denom_variables: &mut [u32],
     denom_terms: &mut [u32],
 ) -> InteractionLists
-    ensures outcome { λ r. ⌜ interactionOutcome r (new work) (new pool)
-        (new headers) (new variables) (new terms)
-        (new «denom_headers») (new «denom_variables») (new «denom_terms»)
-        ≡ interactionCall (primeOf (old s)) (old s) (length (old work)) (length (old pool))
-        (length (old headers)) (length (old variables)) (length (old terms))
-        (length (old «denom_headers»)) (length (old «denom_variables»)) (length (old «denom_terms»)) ⌝ }
-    ensures demand { λ r. ⌜ InteractionsExpanded (old s) (interactionOutcome r (new work) (new pool)
-        (new headers) (new variables) (new terms)
-        (new «denom_headers») (new «denom_variables») (new «denom_terms»)) ⌝ }
+    ensures outcome { λ r. ⌜ Gives interactionReply r
+        (work ∷ pool ∷ headers ∷ variables ∷ terms ∷ «denom_headers» ∷ «denom_variables» ∷ «denom_terms» ∷ [])
+        (interactionCall (primeOf (old s)) (old s)) ⌝ }
+    ensures demand { λ r. ⌜ InteractionsExpanded (old s) (handed interactionReply r
+        (work ∷ pool ∷ headers ∷ variables ∷ terms ∷ «denom_headers» ∷ «denom_variables» ∷ «denom_terms» ∷ [])) ⌝ }
 {
     let lists = expansion::expand_interactions(
         s,

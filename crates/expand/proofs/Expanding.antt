@@ -15,8 +15,9 @@ use Rattle.records.specs.Access.{nodeIn, recordsOf}
 use Rattle.records.proofs.Steps.{child-low, child-inside}
 use Rattle.records.proofs.Children.{none-read, one-read, left-read, two-read}
 use Rattle.records.proofs.Rooting.{visiting-one}
+use Rattle.records.specs.Orders.{Visits, Finishes}
 use Rattle.records.proofs.Visited as visited
-use Rattle.records.proofs.Visited.{Visits, Finishes, children-new, all-there}
+use Rattle.records.proofs.Visited.{children-new, all-there}
 use Rattle.expand.specs.declared.Expanded.{Expanded}
 use Rattle.expand.specs.declared.Expanded.the-variants.{Used, Refused}
 use Rattle.expand.specs.Walking.{PoolHolds, Expands, ExpandWalking, ExpandReady, Finishing}

@@ -24,7 +24,7 @@ use Rattle.records.specs.Orders.{Order}
 use Rattle.records.proofs.Steps.{lows}
 use Rattle.records.proofs.Visits.{record-good, kind-limits, is, kind-is, a-is, b-is, has-a, has-b}
 use Rattle.monomial.specs.Words.{held, listIn, negatedIf, ListFits, Stored}
-use Rattle.expand.specs.Making.{Makes}
+use Rattle.expand.specs.Making.{Makes, ListStands}
 use Rattle.expand.specs.Walking.{PoolHolds, Expands, refusedBy, Storing, Stores, Finishing}
 use Rattle.expand.specs.declared.kinds.Made.{Made}
 use Rattle.expand.specs.declared.kinds.Made.the-variants.{Held, Fault}
@@ -172,7 +172,7 @@ module _ {ws : List ℕ} {r : ℕ} {work pool : List ℕ} {used : ℕ} {q : decl
   left-list : X ≡ listAt prime (recordsOf ws) (recordAt (recordsOf ws) r .a)
   left-list = child-list p₁ (h .child) left-in x (h .reads) ∙ ap (listAt prime (recordsOf ws)) (h .child-is ∙ a-is ws (checked p₁) r (l p₁) q (h .words-are))
 
-  pub left-fits : (x .count ≤ 256) × ListFits pool (x .at) (x .count)
+  pub left-fits : ListStands pool x
   left-fits = child-fits p₁ (h .child) left-in x (h .reads)
 
   pub finishes-neg : q .kind ≡ 8 → (work′ : List ℕ) (u : Made) → Makes work′ u (workFault (map (negMonomial prime) X)) (map (negMonomial prime) X)
@@ -199,8 +199,8 @@ module _ {ws : List ℕ} {r : ℕ} {work pool : List ℕ} {used : ℕ} {q : decl
   right-list : Y ≡ listAt prime (recordsOf ws) (recordAt (recordsOf ws) r .b)
   right-list = child-list p₂ (h .child) right-in y (h .reads) ∙ ap (listAt prime (recordsOf ws)) (h .child-is ∙ b-is ws (checked p₂) r (l p₂) q (h .left .words-are))
 
-  pub both-fit : ((x .count ≤ 256) × ListFits pool (x .at) (x .count)) × (y .count ≤ 256) × ListFits pool (y .at) (y .count)
-  both-fit = let f = child-fits p₂ (h .child) right-in y (h .reads) in (left-fits (h .left), f .0, f .1)
+  pub both-fit : ListStands pool x × ListStands pool y
+  both-fit = (left-fits (h .left), child-fits p₂ (h .child) right-in y (h .reads))
 
   -- What is made from the children's lists as its working list is made from them.
   abbrev worked : Node → List Monomial

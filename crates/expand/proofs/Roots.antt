@@ -78,7 +78,7 @@ pub record Passing (one : ℕ → List ℕ) (ws : List ℕ) (at count : ℕ) (wo
   pub far : Far ws roots work₀ pool₀ used₀ work pool used
 
 module _ {one : ℕ → List ℕ} {ws : List ℕ} {at count : ℕ} {work₀ pool₀ : List ℕ} {used₀ : ℕ} (p : ExpandWalking ws work₀ pool₀ used₀) where
-  pub passing-none : AllRootsInside (length (recordsOf ws)) ws at count → Passing one ws at count work₀ pool₀ used₀ work₀ pool₀ used₀ at 0
+  pub passing-none : AllRootsInside ws at count → Passing one ws at count work₀ pool₀ used₀ work₀ pool₀ used₀ at 0
   passing-none h = record { roots = []; passed = passed-none one ws at count h; far = far-none ws work₀ pool₀ used₀ p }
 
   module _ {work pool : List ℕ} {used from i : ℕ} (h : Passing one ws at count work₀ pool₀ used₀ work pool used from i) where
@@ -89,7 +89,7 @@ module _ {one : ℕ → List ℕ} {ws : List ℕ} {at count : ℕ} {work₀ pool
     passing-done l = subst (λ (xs : List ℕ). Roots ws xs pool₀ used₀ pool (Used used)) (passed-done one ws at count from i (h .roots) (h .passed) l) (h .far .walks)
 
     module _ (l : i < count) where
-      pub next-inside : RootsInside (length (recordsOf ws)) ws from
+      pub next-inside : RootsInside ws from
       next-inside = passed-next one ws at count from i (h .roots) (h .passed) l
 
       -- One more interaction.

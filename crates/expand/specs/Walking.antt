@@ -5,12 +5,12 @@ use mathlib.Core.List.{List, _++_}
 use Prim.Native.Nat.{ℕ, _+_, _*_, _≤_, _<_}
 use lib.ListN.{length, getD, set, take, drop}
 use Rattle.semantics.specs.Answer.{good, refused}
-use Rattle.semantics.specs.Check.{primeOf, readSheet, check}
+use Rattle.semantics.specs.Check.{primeOf}
 use Rattle.semantics.specs.Walk.{member}
 use Rattle.semantics.specs.Monomial.{Monomial, listAt}
 use Rattle.semantics.specs.Expand.{listSize, expandAll}
 use Rattle.semantics.specs.Lists.{All}
-use Rattle.records.specs.Access.{recordsOf}
+use Rattle.records.specs.Access.{IsSheet, recordsOf}
 use Rattle.records.specs.Orders.{Order, There}
 use Rattle.monomial.specs.Words.{held, listWords, Fits, Stored}
 use Rattle.expand.specs.declared.kinds.Made.{Made}
@@ -61,7 +61,7 @@ pub record Storing (work : List ℕ) (count : ℕ) (pool : List ℕ) (r used : �
 
 -- What expanding asks: a checked sheet, work of 4,096 words, and a pool that holds what the walk expanded so far.
 pub record ExpandWalking (ws work pool : List ℕ) (used : ℕ) : Type 0 where
-  pub checked : check (primeOf ws) ws ≡ good (readSheet ws)
+  pub checked : IsSheet ws
   pub room : 4096 ≤ length work
   pub done : List ℕ
   pub order : Order ws done

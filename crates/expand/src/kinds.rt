@@ -7,11 +7,11 @@ ghost use Rattle.slices.specs.Lent.{old, new};
 ghost use Rattle.semantics.specs.Arithmetic.{prime};
 ghost use Rattle.semantics.specs.Sheet.{GoodRecord};
 ghost use Rattle.semantics.specs.Packing.{packFault};
-ghost use Rattle.semantics.specs.Monomial.{negMonomial, products, combine, recordList};
+ghost use Rattle.semantics.specs.Monomial.{negMonomial, products, recordList};
 ghost use Rattle.semantics.specs.Expand.{workFault};
 ghost use Rattle.records.specs.Access.{fiveWords};
-ghost use Rattle.monomial.specs.Words.{monomialOf, listIn, negatedIf, ListFits};
-ghost use Rattle.expand.specs.Making.{single, constantMonomial, faultOf, Makes};
+ghost use Rattle.monomial.specs.Words.{monomialOf, negatedIf};
+ghost use Rattle.expand.specs.Making.{single, constantMonomial, faultOf, Makes, MakesCombined, listFrom, ListStands};
 use monomial::Monomial;
 use monomial::lists;
 use packed_var::Packed;
@@ -93,9 +93,9 @@ pub fn expand_leaf(work: &mut [u32], q: Record) -> Made
 
 // Neg: the child's list negated.
 pub fn expand_neg(work: &mut [u32], pool: &[u32], x: PoolList) -> Made
-    requires { ⌜ (4096 ≤ length (now work)) × (x .count ≤ 256) × ListFits (now pool) (x .at) (x .count) ⌝ }
-    ensures { λ u. ⌜ Makes (new work) u (workFault (map (negMonomial prime) (listIn (old pool) (x .at) (x .count))))
-        (map (negMonomial prime) (listIn (old pool) (x .at) (x .count))) ⌝ }
+    requires { ⌜ (4096 ≤ length (now work)) × ListStands (now pool) x ⌝ }
+    ensures { λ u. ⌜ Makes (new work) u (workFault (map (negMonomial prime) (listFrom (old pool) x)))
+        (map (negMonomial prime) (listFrom (old pool) x)) ⌝ }
 {
     lists::negate_list(work, pool, x.at, x.count);
     Made::Held(x.count)
@@ -103,11 +103,8 @@ pub fn expand_neg(work: &mut [u32], pool: &[u32], x: PoolList) -> Made
 
 // Add and Sub: both children's lists summed, the right one negated for Sub.
 pub fn expand_sum(work: &mut [u32], pool: &[u32], l: PoolList, r: PoolList, negated: bool) -> Made
-    requires { ⌜ (4096 ≤ length (now work)) × ((l .count ≤ 256) × ListFits (now pool) (l .at) (l .count))
-        × (r .count ≤ 256) × ListFits (now pool) (r .at) (r .count) ⌝ }
-    ensures { λ u. ⌜ Makes (new work) u
-        (workFault (listIn (old pool) (l .at) (l .count) ++ negatedIf negated (listIn (old pool) (r .at) (r .count))))
-        (combine prime (listIn (old pool) (l .at) (l .count) ++ negatedIf negated (listIn (old pool) (r .at) (r .count)))) ⌝ }
+    requires { ⌜ (4096 ≤ length (now work)) × ListStands (now pool) l × ListStands (now pool) r ⌝ }
+    ensures { λ u. ⌜ MakesCombined (new work) u (listFrom (old pool) l ++ negatedIf negated (listFrom (old pool) r)) ⌝ }
 {
     if 256 < l.count + r.count {
         return Made::Fault(12);
@@ -119,11 +116,8 @@ pub fn expand_sum(work: &mut [u32], pool: &[u32], l: PoolList, r: PoolList, nega
 
 // Mul: every left monomial times every right one, summed.
 pub fn expand_product(work: &mut [u32], pool: &[u32], l: PoolList, r: PoolList) -> Made
-    requires { ⌜ (4096 ≤ length (now work)) × ((l .count ≤ 256) × ListFits (now pool) (l .at) (l .count))
-        × (r .count ≤ 256) × ListFits (now pool) (r .at) (r .count) ⌝ }
-    ensures { λ u. ⌜ Makes (new work) u
-        (workFault (products prime (listIn (old pool) (l .at) (l .count)) (listIn (old pool) (r .at) (r .count))))
-        (combine prime (products prime (listIn (old pool) (l .at) (l .count)) (listIn (old pool) (r .at) (r .count)))) ⌝ }
+    requires { ⌜ (4096 ≤ length (now work)) × ListStands (now pool) l × ListStands (now pool) r ⌝ }
+    ensures { λ u. ⌜ MakesCombined (new work) u (products prime (listFrom (old pool) l) (listFrom (old pool) r)) ⌝ }
 {
     if 256 < l.count * r.count {
         return Made::Fault(12);

@@ -1,16 +1,12 @@
 // The walk of an expansion: each reached record is expanded once, after its children, and its list is kept in the pool.
 ghost use mathlib.Core.Path.{_≡_};
-ghost use mathlib.Core.Bool.{false};
-ghost use mathlib.Core.List.{List, _∷_};
-ghost use Prim.Native.Nat.{ℕ, suc};
-ghost use lib.ListN.{length};
+ghost use Prim.Native.Nat.{ℕ};
 ghost use Rattle.slices.specs.Lent.{old, new};
 ghost use Rattle.semantics.specs.Check.{primeOf};
 ghost use Rattle.semantics.specs.Monomial.{listAt};
 ghost use Rattle.semantics.specs.Expand.{recordFault};
-ghost use Rattle.semantics.specs.Walk.{member, visit, childrenAt};
 ghost use Rattle.records.specs.Access.{recordsOf, wordsFrom, countWords, fieldWords, ReferencesInside, AllRootsInside};
-ghost use Rattle.records.specs.Orders.{Order, There, Visiting};
+ghost use Rattle.records.specs.Orders.{Visiting, Visits, Finishes};
 ghost use Rattle.monomial.specs.Words.{held};
 ghost use Rattle.expand.specs.Making.{Makes};
 ghost use Rattle.expand.specs.Walking.{PoolHolds, Expands, refusedBy, Storing, Stores, ExpandWalking, ExpandReady, Finishing};
@@ -88,9 +84,8 @@ fn finish_record(
     used: usize,
 ) -> Expanded
     requires { ⌜ Finishing (now sheet) r (now work) (now pool) used ⌝ }
-    ensures { λ u. ⌜ ((done : List ℕ) → Order (old sheet) done → member r done ≡ false
-        → There (old sheet) r done → PoolHolds (old sheet) done (old pool) used
-        → Expands (old sheet) (new pool) u (r ∷ done)) ⌝ }
+    ensures { λ u. ⌜ Finishes (old sheet) r (λ d. PoolHolds (old sheet) d (old pool) used)
+        (Expands (old sheet) (new pool) u) ⌝ }
 {
     let made = make_list(sheet, work, pool, r);
     let Made::Held(count) = made else {
@@ -103,8 +98,8 @@ fn finish_record(
 // so a level keeps one answer and no record: a word is read when it is needed.
 fn expand_node(sheet: &[u32], work: &mut [u32], pool: &mut [u32], r: usize, used: usize) -> Expanded
     requires { ⌜ ExpandReady (now sheet) r (now work) (now pool) used ⌝ }
-    ensures { λ u. ⌜ ((done : List ℕ) → Order (old sheet) done → PoolHolds (old sheet) done (old pool) used
-        → Expands (old sheet) (new pool) u (visit (childrenAt (recordsOf (old sheet))) (suc r) done r)) ⌝ }
+    ensures { λ u. ⌜ Visits (old sheet) r (λ d. PoolHolds (old sheet) d (old pool) used)
+        (Expands (old sheet) (new pool) u) ⌝ }
 {
     let mut answer = Expanded::Used(used);
     if pool[2 * r] != 0 {
@@ -166,7 +161,7 @@ pub fn expand_counts(
     pool: &mut [u32],
     used: usize,
 ) -> Expanded
-    requires { ⌜ ExpandWalking (now sheet) (now work) (now pool) used × AllRootsInside (length (recordsOf (now sheet))) (now sheet) at count ⌝ }
+    requires { ⌜ ExpandWalking (now sheet) (now work) (now pool) used × AllRootsInside (now sheet) at count ⌝ }
     ensures { λ u. ⌜ Visiting (old sheet) (countWords (old sheet) at count)
         (λ d. PoolHolds (old sheet) d (old pool) used) (Expands (old sheet) (new pool) u) ⌝ }
 {
@@ -195,7 +190,7 @@ pub fn expand_fields(
     pool: &mut [u32],
     used: usize,
 ) -> Expanded
-    requires { ⌜ ExpandWalking (now sheet) (now work) (now pool) used × AllRootsInside (length (recordsOf (now sheet))) (now sheet) at count ⌝ }
+    requires { ⌜ ExpandWalking (now sheet) (now work) (now pool) used × AllRootsInside (now sheet) at count ⌝ }
     ensures { λ u. ⌜ Visiting (old sheet) (fieldWords (old sheet) at count)
         (λ d. PoolHolds (old sheet) d (old pool) used) (Expands (old sheet) (new pool) u) ⌝ }
 {

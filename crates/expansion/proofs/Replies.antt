@@ -9,7 +9,7 @@ use Rattle.semantics.specs.Arithmetic.{prime}
 use Rattle.semantics.specs.Answer.{Answer, good, refused}
 use Rattle.semantics.specs.Sheet.{Sheet}
 use Rattle.semantics.specs.Check.{readSheet, check}
-use Rattle.semantics.specs.Call.{Result, zeros, padded, paddedAll, outcome, onSheet, checkCall, expansion, constraintCall, interactionCall}
+use Rattle.semantics.specs.Call.{Result, zeros, padded, paddedAll, outcome, onSheet, checkCall, expansion, constraintsOf, constraintCall, interactionsOf, interactionCall}
 use Rattle.records.proofs.Reading.{read-found}
 use Rattle.answers.specs.declared.Refusal.{Refusal}
 use Rattle.sheet.specs.declared.Head.{Head}
@@ -23,9 +23,9 @@ use Rattle.constraint_lists.specs.declared.ConstraintLists.the-variants.{Writte
 use Rattle.interaction_lists.specs.declared.InteractionLengths.{InteractionLengths}
 use Rattle.interaction_lists.specs.declared.InteractionLists.{InteractionLists}
 use Rattle.interaction_lists.specs.declared.InteractionLists.the-variants as interaction
-use Rattle.constraint_lists.specs.Lists.{constraintAnswer, ListsFit, constraintsOf, CheckedSheet}
+use Rattle.constraint_lists.specs.Lists.{constraintAnswer, ListsFit, CheckedSheet}
 use Rattle.constraint_lists.proofs.Steps.{Kept}
-use Rattle.interaction_lists.specs.Lists.{interactionAnswer, BothInside, interactionsOf}
+use Rattle.interaction_lists.specs.Lists.{interactionAnswer, BothInside}
 use Rattle.expansion.specs.Answers.{constraintOutcome, lengthsOf, cut, interactionOutcome, bothLengths}
 
 -- Words that stay, and zeros behind them.
@@ -94,10 +94,10 @@ zeroed-again e l = e ∙ ap (λ (k : ℕ). replicate k 0) l
 
 module _ (ws : List ℕ) (work pool : ℕ) {headers variables terms : ℕ} (r : ConstraintLists) {h v t : List ℕ}
     (long : Kept headers variables terms h v t)
-    (answer : constraintAnswer r h v t ≡ onSheet prime ws (constraintsOf work pool headers variables terms)) (inside : ListsFit r h v t) where
+    (answer : constraintAnswer r h v t ≡ onSheet prime ws (constraintsOf prime (work ∷ pool ∷ headers ∷ variables ∷ terms ∷ []))) (inside : ListsFit r h v t) where
   pub constraint-done : (kept : Lengths) → kept ≡ lengthsOf r → (work′ pool′ : List ℕ) → work′ ≡ replicate work 0 → pool′ ≡ replicate pool 0
       → (h′ v′ t′ : List ℕ) → Cleared kept h v t h′ v′ t′
-      → constraintOutcome r work′ pool′ h′ v′ t′ ≡ constraintCall prime ws work pool headers variables terms
+      → constraintOutcome r work′ pool′ h′ v′ t′ ≡ constraintCall prime ws (work ∷ pool ∷ headers ∷ variables ∷ terms ∷ [])
   unfolding constraintCall expansion
   constraint-done kept k work′ pool′ ew ep h′ v′ t′ (eh, ev, et) =
       (λ i. constraintOutcome r (ew i) (ep i) (eh i) (ev i) (et i))
@@ -140,13 +140,13 @@ interaction-finish (interaction.Refused q) h v t h₂ v₂ t₂ i work pool = λ
 
 module _ (ws : List ℕ) (work pool : ℕ) {lh lv lt lh₂ lv₂ lt₂ : ℕ} (r : InteractionLists) {h v t h₂ v₂ t₂ : List ℕ}
     (numerators : Kept lh lv lt h v t) (denominators : Kept lh₂ lv₂ lt₂ h₂ v₂ t₂)
-    (answer : interactionAnswer r h v t h₂ v₂ t₂ ≡ onSheet prime ws (interactionsOf work pool lh lv lt lh₂ lv₂ lt₂))
+    (answer : interactionAnswer r h v t h₂ v₂ t₂ ≡ onSheet prime ws (interactionsOf prime (work ∷ pool ∷ lh ∷ lv ∷ lt ∷ lh₂ ∷ lv₂ ∷ lt₂ ∷ [])))
     (inside : BothInside r h v t h₂ v₂ t₂) where
   pub interaction-done : (kept : InteractionLengths) → kept ≡ bothLengths r
       → (work′ pool′ : List ℕ) → work′ ≡ replicate work 0 → pool′ ≡ replicate pool 0
       → (h′ v′ t′ : List ℕ) → Cleared (kept .numerators) h v t h′ v′ t′
       → (h₃ v₃ t₃ : List ℕ) → Cleared (kept .denominators) h₂ v₂ t₂ h₃ v₃ t₃
-      → interactionOutcome r work′ pool′ h′ v′ t′ h₃ v₃ t₃ ≡ interactionCall prime ws work pool lh lv lt lh₂ lv₂ lt₂
+      → interactionOutcome r work′ pool′ h′ v′ t′ h₃ v₃ t₃ ≡ interactionCall prime ws (work ∷ pool ∷ lh ∷ lv ∷ lt ∷ lh₂ ∷ lv₂ ∷ lt₂ ∷ [])
   unfolding interactionCall expansion
   interaction-done kept k work′ pool′ ew ep h′ v′ t′ (a, b, c) h₃ v₃ t₃ (d, e, f) =
       (λ i. interactionOutcome r (ew i) (ep i) (a i) (b i) (c i) (d i) (e i) (f i))

@@ -2,6 +2,8 @@
 use mathlib.Core.List.{List, [], _∷_, _++_}
 use Prim.Native.Nat.{ℕ, _-_}
 use lib.ListN.{length, take, replicate}
+use mathlib.Core.Path.{_≡_}
+use Rattle.slices.specs.Lent.{Lent, old, new}
 use Rattle.semantics.specs.Call.{Reply, Outcome, acceptedWith}
 use Rattle.answers.specs.Replies.{refusedReply}
 use Rattle.grouping.specs.declared.Lengths.{Lengths}
@@ -32,6 +34,9 @@ lengthsOf (Refused r) = nothing
 -- The first k words of an output, and zeros behind them.
 abbrev pub cut : ℕ → List ℕ → List ℕ
 cut k o = take k o ++ replicate (length o - k) 0
+
+abbrev pub Cut : Lent → ℕ → Type 0
+Cut o k = new o ≡ cut k (old o)
 
 -- The same for the interactions: "the interaction call adds `num_interactions` and `max_fields_len`".
 abbrev pub interactionReply : InteractionLists → Reply

@@ -1,12 +1,12 @@
 // The expansions as calls: each checks its sheet, has its lists made, and zeroes what is not written.
 ghost use mathlib.Core.Path.{_≡_};
-ghost use lib.ListN.{length};
-ghost use Rattle.slices.specs.Lent.{old, new};
+ghost use mathlib.Core.List.{[], _∷_};
+ghost use Rattle.slices.specs.Lent.{old};
 ghost use Rattle.semantics.specs.Check.{primeOf};
-ghost use Rattle.semantics.specs.Call.{onSheet, constraintCall, interactionCall};
-ghost use Rattle.constraint_lists.specs.Lists.{constraintAnswer, constraintsOf, ListsFit};
-ghost use Rattle.interaction_lists.specs.Lists.{interactionAnswer, interactionsOf, BothInside};
-ghost use Rattle.expansion.specs.Answers.{constraintOutcome, lengthsOf, cut, interactionOutcome, bothLengths};
+ghost use Rattle.semantics.specs.Call.{constraintCall, interactionCall, Gives, constraintsOf, interactionsOf};
+ghost use Rattle.constraint_lists.specs.Lists.{ConstraintsAre, onWords};
+ghost use Rattle.interaction_lists.specs.Lists.{InteractionsAre};
+ghost use Rattle.expansion.specs.Answers.{lengthsOf, bothLengths, constraintReply, interactionReply, Cut};
 use constraint_lists::ConstraintLists;
 use grouping::Lengths;
 use interaction_lists::InteractionLengths;
@@ -22,11 +22,7 @@ fn expand_sheet(
     variables: &mut [u32],
     terms: &mut [u32],
 ) -> ConstraintLists
-    ensures { λ r. ⌜ (constraintAnswer r (new headers) (new variables) (new terms)
-        ≡ onSheet (primeOf (old s)) (old s)
-        (constraintsOf (length (old work)) (length (old pool))
-        (length (old headers)) (length (old variables)) (length (old terms))))
-        × ListsFit r (new headers) (new variables) (new terms) ⌝ }
+    ensures { λ r. ⌜ ConstraintsAre 2 r (work ∷ pool ∷ headers ∷ variables ∷ terms ∷ []) (onWords (old s) constraintsOf) ⌝ }
 {
     let checked = sheet::check_sheet(s);
     let Checked::Sheet(head) = checked else {
@@ -60,9 +56,7 @@ fn lengths_of(lists: ConstraintLists) -> Lengths
 
 // Zeros behind the words of three lists.
 fn clear_behind(headers: &mut [u32], variables: &mut [u32], terms: &mut [u32], kept: Lengths)
-    ensures { λ _. ⌜ (new headers ≡ cut (kept .headers) (old headers))
-        × (new variables ≡ cut (kept .variables) (old variables))
-        × (new terms ≡ cut (kept .terms) (old terms)) ⌝ }
+    ensures { λ _. ⌜ Cut headers (kept .headers) × Cut variables (kept .variables) × Cut terms (kept .terms) ⌝ }
 {
     slices::zero_from(headers, kept.headers);
     slices::zero_from(variables, kept.variables);
@@ -78,10 +72,8 @@ pub fn expand_constraints(
     variables: &mut [u32],
     terms: &mut [u32],
 ) -> ConstraintLists
-    ensures { λ r. ⌜ constraintOutcome r (new work) (new pool)
-        (new headers) (new variables) (new terms)
-        ≡ constraintCall (primeOf (old s)) (old s) (length (old work)) (length (old pool))
-        (length (old headers)) (length (old variables)) (length (old terms)) ⌝ }
+    ensures { λ r. ⌜ Gives constraintReply r (work ∷ pool ∷ headers ∷ variables ∷ terms ∷ [])
+        (constraintCall (primeOf (old s)) (old s)) ⌝ }
 {
     let lists = expand_sheet(s, work, pool, headers, variables, terms);
     let kept = lengths_of(lists);
@@ -103,14 +95,9 @@ fn expand_sheet_interactions(
     denom_variables: &mut [u32],
     denom_terms: &mut [u32],
 ) -> InteractionLists
-    ensures { λ r. ⌜ (interactionAnswer r (new headers) (new variables) (new terms)
-        (new «denom_headers») (new «denom_variables») (new «denom_terms»)
-        ≡ onSheet (primeOf (old s)) (old s)
-        (interactionsOf (length (old work)) (length (old pool))
-        (length (old headers)) (length (old variables)) (length (old terms))
-        (length (old «denom_headers»)) (length (old «denom_variables»)) (length (old «denom_terms»))))
-        × BothInside r (new headers) (new variables) (new terms)
-        (new «denom_headers») (new «denom_variables») (new «denom_terms») ⌝ }
+    ensures { λ r. ⌜ InteractionsAre 2 r
+        (work ∷ pool ∷ headers ∷ variables ∷ terms ∷ «denom_headers» ∷ «denom_variables» ∷ «denom_terms» ∷ [])
+        (onWords (old s) interactionsOf) ⌝ }
 {
     let checked = sheet::check_sheet(s);
     let Checked::Sheet(head) = checked else {
@@ -166,12 +153,9 @@ pub fn expand_interactions(
     denom_variables: &mut [u32],
     denom_terms: &mut [u32],
 ) -> InteractionLists
-    ensures { λ r. ⌜ interactionOutcome r (new work) (new pool)
-        (new headers) (new variables) (new terms)
-        (new «denom_headers») (new «denom_variables») (new «denom_terms»)
-        ≡ interactionCall (primeOf (old s)) (old s) (length (old work)) (length (old pool))
-        (length (old headers)) (length (old variables)) (length (old terms))
-        (length (old «denom_headers»)) (length (old «denom_variables»)) (length (old «denom_terms»)) ⌝ }
+    ensures { λ r. ⌜ Gives interactionReply r
+        (work ∷ pool ∷ headers ∷ variables ∷ terms ∷ «denom_headers» ∷ «denom_variables» ∷ «denom_terms» ∷ [])
+        (interactionCall (primeOf (old s)) (old s)) ⌝ }
 {
     let lists = expand_sheet_interactions(
         s,

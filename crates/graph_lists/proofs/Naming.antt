@@ -9,7 +9,7 @@ use lib.Seq.{sets}
 use Rattle.records.specs.declared.Interaction.{Interaction}
 use Rattle.records.specs.Access.{wordsFrom, messageLength, interactionFrom, eachWords}
 use Rattle.records.proofs.Parts.{part-more, part-length}
-use Rattle.slices.specs.Putting.{put}
+use Rattle.slices.specs.Putting.{put, Puts}
 use Rattle.graph_lists.specs.Lists.{nodeNumbers, marksOf, NodesNamed, NamedInteraction, NamedInteractions, renamedWords, renamedAll}
 use Rattle.slices.proofs.Puts.{put-none, put-length, put-behind, set-behind, sets-put}
 
@@ -216,5 +216,8 @@ module _ {ws s : List ℕ} {at count : ℕ} {out₀ : List ℕ} {to : ℕ} {out 
       let z : count - i ≡ 0 = omega arith in
       sym (append-nil (h .words)) ∙ ap (λ (n : ℕ). h .words ++ renamedAll ws s from n) (sym z) ∙ h .whole
 
-  pub written-done : (out ≡ put out₀ to (renamedAll ws s at count)) × (next ≡ to + length (renamedAll ws s at count))
-  written-done = (h .out-is ∙ ap (put out₀ to) all-written, h .next-is ∙ ap (λ (xs : List ℕ). to + length xs) all-written)
+  pub written-done : Puts out₀ to (renamedAll ws s at count) out next
+  written-done = record {
+    out-is = h .out-is ∙ ap (put out₀ to) all-written;
+    next-is = h .next-is ∙ ap (λ (xs : List ℕ). to + length xs) all-written;
+  }

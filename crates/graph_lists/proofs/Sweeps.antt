@@ -14,7 +14,7 @@ use Rattle.semantics.specs.Graph.{setNum}
 use Rattle.semantics.specs.Call.{zeros, padded}
 use Rattle.nodes.specs.Memory.{tabulate}
 use Rattle.nodes.proofs.Marks.{tabulate-length, tabulate-from, tabulate-same, tabulate-set}
-use Rattle.slices.specs.Putting.{put}
+use Rattle.slices.specs.Putting.{put, Puts}
 use Rattle.graph_lists.specs.Lists.{plainWord, plainBelow, oneIf, Wanted, flaggedAmong, marksOf}
 use Rattle.slices.proofs.Puts.{put-none, put-length, put-behind}
 use Rattle.graph_lists.proofs.Flags.{table-of}
@@ -94,12 +94,14 @@ module _ {s₀ out₀ : List ℕ} {at nodes : ℕ} {s out : List ℕ} {next node
   )
 
   -- All entries are done.
-  pub swept-done : nodes ≤ node → (s ≡ tabulate 0 (length s₀) (plainBelow nodes s₀)) × (out ≡ put out₀ at (flaggedAmong 0 nodes s₀)) × (next ≡ at + length (flaggedAmong 0 nodes s₀))
+  pub swept-done : nodes ≤ node → (s ≡ tabulate 0 (length s₀) (plainBelow nodes s₀)) × Puts out₀ at (flaggedAmong 0 nodes s₀) out next
   swept-done l =
       let e : node ≡ nodes = omega (arith, h .node-le) in (
         h .scratch-is ∙ ap (λ (k : ℕ). tabulate 0 (length s₀) (plainBelow k s₀)) e,
-        h .out-is ∙ ap (λ (k : ℕ). put out₀ at (flaggedAmong 0 k s₀)) e,
-        h .next-is ∙ ap (λ (k : ℕ). at + length (flaggedAmong 0 k s₀)) e,
+        record {
+          out-is = h .out-is ∙ ap (λ (k : ℕ). put out₀ at (flaggedAmong 0 k s₀)) e;
+          next-is = h .next-is ∙ ap (λ (k : ℕ). at + length (flaggedAmong 0 k s₀)) e;
+        },
       )
 
   module _ (l : node < nodes) where

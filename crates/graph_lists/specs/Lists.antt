@@ -5,13 +5,12 @@ use mathlib.Core.List.{List, [], _∷_, _++_, map}
 use Prim.Native.Nat.{ℕ, zero, suc, pred, _+_, _-_, _≤_, _<_}
 use lib.Dec.{leb, ltb}
 use lib.ListN.{length, getD}
-use Rattle.semantics.specs.Answer.{good}
 use Rattle.semantics.specs.Sheet.{encode, lengthOf}
-use Rattle.semantics.specs.Check.{primeOf, readSheet, check}
+use Rattle.semantics.specs.Check.{primeOf, readSheet}
 use Rattle.semantics.specs.Walk.{member, order}
 use Rattle.semantics.specs.Graph.{graphRoots, graphOf}
 use Rattle.semantics.specs.Call.{padded}
-use Rattle.records.specs.Access.{recordsOf, messageLength, eachWords, countAt, fieldsAt}
+use Rattle.records.specs.Access.{IsSheet, recordsOf, constraintsAt, messageLength, eachWords, countAt, fieldsAt}
 use Rattle.nodes.specs.Memory.{GraphHolds}
 
 -- The nodes of the constraints are flagged in scratch by 65,536 while they are put into ascending order.
@@ -81,9 +80,15 @@ abbrev pub allAdded : List ℕ → List ℕ
 allAdded ws = order (recordsOf ws) (graphRoots (readSheet ws))
 
 pub record ToWriteLists (ws scratch out : List ℕ) (n : ℕ) : Type 0 where
-  pub checked : check (primeOf ws) ws ≡ good (readSheet ws)
+  pub checked : IsSheet ws
   pub room : lengthOf (readSheet ws) ≤ length out
   pub holds : GraphHolds ws (allAdded ws) scratch out n
+
+-- Where a sheet's constraints start, and how many constraints and interactions it has.
+pub record ListsAt (ws : List ℕ) (at constraints interactions : ℕ) : Type 0 where
+  pub at-is : at ≡ constraintsAt ws
+  pub constraints-are : constraints ≡ length (readSheet ws .constraints)
+  pub interactions-are : interactions ≡ length (readSheet ws .interactions)
 
 -- The graph in the output.
 abbrev pub graphOut : (lent : ℕ) → List ℕ → List ℕ

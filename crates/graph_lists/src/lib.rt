@@ -4,12 +4,11 @@ ghost use Prim.Native.Nat.{pred, _+_, _%_, _≤_, _<_};
 ghost use lib.Dec.{leb};
 ghost use lib.ListN.{length, getD, set};
 ghost use Rattle.slices.specs.Lent.{old, new};
-ghost use Rattle.semantics.specs.Check.{readSheet};
-ghost use Rattle.records.specs.Access.{constraintsAt, wordsFrom, messageLength};
+ghost use Rattle.records.specs.Access.{wordsFrom, messageLength};
 ghost use Rattle.nodes.specs.Memory.{tabulate};
-ghost use Rattle.slices.specs.Putting.{put};
+ghost use Rattle.slices.specs.Putting.{put, Puts};
 ghost use Rattle.graph_lists.specs.Lists.{flagWord, plainWord, plainBelow, flagged, flaggedAmong, oneIf, Wanted, nodeNumbers, marksOf, NodesNamed};
-ghost use Rattle.graph_lists.specs.Lists.{NamedInteraction, NamedInteractions, renamedWords, renamedAll, ToWriteLists, graphOut, graphLength};
+ghost use Rattle.graph_lists.specs.Lists.{NamedInteraction, NamedInteractions, renamedWords, renamedAll, ToWriteLists, ListsAt, graphOut, graphLength};
 
 // Above every mark: a mark is a node's number counted from 1.
 const FLAG: u32 = 65536;
@@ -65,7 +64,7 @@ fn unflag_node(scratch: &mut [u32], node: usize) -> bool
 // Writes a node's number at `at` where it is wanted, and hands back where the output goes on.
 fn put_node(out: &mut [u32], at: usize, node: usize, wanted: bool) -> usize
     requires { ⌜ (node < 4294967296) × Wanted wanted at (now out) ⌝ }
-    ensures { λ r. ⌜ (new out ≡ put (old out) at (oneIf wanted node)) × (r ≡ at + length (oneIf wanted node)) ⌝ }
+    ensures { λ r. ⌜ Puts (old out) at (oneIf wanted node) (new out) r ⌝ }
 {
     if !wanted {
         return at;
@@ -78,8 +77,7 @@ fn put_node(out: &mut [u32], at: usize, node: usize, wanted: bool) -> usize
 fn write_flagged(scratch: &mut [u32], nodes: usize, out: &mut [u32], at: usize) -> usize
     requires { ⌜ (nodes ≤ length (now scratch)) × (nodes < 4294967296) × (at + length (flaggedAmong 0 nodes (now scratch)) ≤ length (now out)) ⌝ }
     ensures { λ r. ⌜ (new scratch ≡ tabulate 0 (length (old scratch)) (plainBelow nodes (old scratch)))
-        × (new out ≡ put (old out) at (flaggedAmong 0 nodes (old scratch)))
-        × (r ≡ at + length (flaggedAmong 0 nodes (old scratch))) ⌝ }
+        × Puts (old out) at (flaggedAmong 0 nodes (old scratch)) (new out) r ⌝ }
 {
     let mut next = at;
     let mut node = 0;
@@ -141,8 +139,7 @@ fn write_interactions(
 ) -> usize
     requires { ⌜ NamedInteractions (now sheet) (now scratch) at count
         × (to + length (renamedAll (now sheet) (now scratch) at count) ≤ length (now out)) ⌝ }
-    ensures { λ r. ⌜ (new out ≡ put (old out) to (renamedAll (old sheet) (old scratch) at count))
-        × (r ≡ to + length (renamedAll (old sheet) (old scratch) at count)) ⌝ }
+    ensures { λ r. ⌜ Puts (old out) to (renamedAll (old sheet) (old scratch) at count) (new out) r ⌝ }
 {
     let mut from = at;
     let mut next = to;
@@ -167,8 +164,7 @@ pub fn write_graph(
     out: &mut [u32],
     n: usize,
 ) -> usize
-    requires { ⌜ ToWriteLists (now sheet) (now scratch) (now out) n × (at ≡ constraintsAt (now sheet))
-        × (constraints ≡ length (readSheet (now sheet) .constraints)) × (interactions ≡ length (readSheet (now sheet) .interactions)) ⌝ }
+    requires { ⌜ ToWriteLists (now sheet) (now scratch) (now out) n × ListsAt (now sheet) at constraints interactions ⌝ }
     ensures { λ r. ⌜ (new out ≡ graphOut (length (old out)) (old sheet)) × (r ≡ graphLength (old sheet)) ⌝ }
 {
     flag_nodes(sheet, at, constraints, scratch);

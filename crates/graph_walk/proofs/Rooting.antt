@@ -11,11 +11,7 @@ use Rattle.records.specs.Orders.{Order}
 use Rattle.records.proofs.Rooting.{order-walk, visiting-none, visiting-both, visiting-name, references-below, references-fewer, roots-below, Passed, passed-none, passed-done, passed-next, passed-more}
 use Rattle.nodes.specs.Memory.{GraphHolds}
 use Rattle.nodes.proofs.States as states
-use Rattle.graph_walk.specs.Walking.{AddReady, AddWalking, Walks}
-
--- The state of scratch, output and number of nodes, over the records added.
-abbrev pub State : (ws s o : List ℕ) (n : ℕ) (done : List ℕ) → Type 0
-State ws s o n done = GraphHolds ws done s o n
+use Rattle.graph_walk.specs.Walking.{AddReady, AddWalking, State, Walks}
 
 -- What one interaction names: its fields, then its count.
 abbrev rootsAt : (ws : List ℕ) (at : ℕ) → List ℕ
@@ -92,7 +88,7 @@ pub record Rooting (ws : List ℕ) (at count : ℕ) (s₀ o₀ : List ℕ) (n : 
   pub out-length : length o ≡ length o₀
 
 module _ {ws : List ℕ} {at count : ℕ} {s₀ o₀ : List ℕ} {n : ℕ} (p : AddWalking ws s₀ o₀ n) where
-  pub rooting-none : AllRootsInside (length (recordsOf ws)) ws at count → Rooting ws at count s₀ o₀ n s₀ o₀ n at 0
+  pub rooting-none : AllRootsInside ws at count → Rooting ws at count s₀ o₀ n s₀ o₀ n at 0
   rooting-none h = record {
     roots = [];
     passed = passed-none (rootsAt ws) ws at count h;
@@ -111,7 +107,7 @@ module _ {ws : List ℕ} {at count : ℕ} {s₀ o₀ : List ℕ} {n : ℕ} (p : 
     rooting-done l = subst (λ (xs : List ℕ). Walks ws xs s₀ o₀ n s o u) (passed-done (rootsAt ws) ws at count from i (h .roots) (h .passed) l) (h .walks)
 
     module _ (l : i < count) where
-      pub next-roots : RootsInside (length (recordsOf ws)) ws from
+      pub next-roots : RootsInside ws from
       next-roots = passed-next (rootsAt ws) ws at count from i (h .roots) (h .passed) l
 
       pub rooting-more : (s₁ o₁ : List ℕ) (u₁ from′ : ℕ) → from′ ≡ from + (4 + messageLength ws from) → length o₁ ≡ length o

@@ -18,14 +18,14 @@ use Rattle.semantics.specs.Walk.{Mem, childrenAt, member}
 use Rattle.semantics.proofs.Basics.{by-test}
 use Rattle.semantics.proofs.Members.{mem-here, mem-there, mem-cases, mem-either, not-in}
 use Rattle.records.specs.Access.{nodeIn, recordsOf}
-use Rattle.records.specs.Orders.{Visiting}
+use Rattle.records.specs.Orders.{Visiting, Visits, Finishes}
 use Rattle.records.proofs.Steps.{child-low, child-inside}
 use Rattle.records.proofs.Children.{none-read, one-read, left-read, two-read}
 use Rattle.records.proofs.Rooting.{visiting-none, visiting-one, visiting-both}
-use Rattle.records.proofs.Visited.{Visits, Finishes, visiting-again, children-below, children-new, all-there, visits-seen, visits-new}
+use Rattle.records.proofs.Visited.{visiting-again, children-below, children-new, all-there, visits-seen, visits-new}
 use Rattle.nodes.proofs.States as states
-use Rattle.graph_walk.specs.Walking.{AddReady, Adding, AddWalking, Walks, childOf}
-use Rattle.graph_walk.proofs.Rooting.{State, walking-after, ready-root, walking-length}
+use Rattle.graph_walk.specs.Walking.{AddReady, Adding, AddWalking, State, Walks, childOf}
+use Rattle.graph_walk.proofs.Rooting.{walking-after, ready-root, walking-length}
 
 -- The first i children to which the loop goes.
 abbrev pub firstOf : Record → (i : ℕ) → List ℕ

@@ -1,20 +1,15 @@
 // The walk: each reached record is added once, after its children.
 ghost use mathlib.Core.Path.{_≡_};
-ghost use mathlib.Core.Bool.{false, cond};
-ghost use mathlib.Core.List.{List, _∷_, _++_};
-ghost use Prim.Native.Nat.{ℕ, suc, _+_, _-_, _≤_, _<_};
-ghost use lib.Dec.{eqb};
+ghost use mathlib.Core.List.{_++_};
+ghost use Prim.Native.Nat.{ℕ, _+_, _-_, _≤_, _<_};
 ghost use lib.ListN.{length, getD};
 ghost use Rattle.slices.specs.Lent.{old, new};
 ghost use Rattle.semantics.specs.Arithmetic.{prime};
 ghost use Rattle.semantics.specs.Sheet.{place};
-ghost use Rattle.semantics.specs.Graph.{addRule, subRule, mulRule};
-ghost use Rattle.semantics.specs.Walk.{member, visit, childrenAt};
-ghost use Rattle.records.specs.Access.{nodeIn, recordsOf, wordsFrom, fieldsAt, countAt, rootWords, ReferencesInside, RootsInside, AllRootsInside};
-ghost use Rattle.records.specs.Orders.{Order, There};
+ghost use Rattle.records.specs.Access.{nodeIn, wordsFrom, fieldsAt, countAt, rootWords, ReferencesInside, RootsInside, AllRootsInside};
+ghost use Rattle.records.specs.Orders.{Visits, Finishes};
 ghost use Rattle.nodes.specs.Picks.{pickOf, viewOf};
-ghost use Rattle.nodes.specs.Memory.{GraphHolds};
-ghost use Rattle.graph_walk.specs.Walking.{AddReady, Adding, pickOfRecord, childOf, AddWalking, Walks};
+ghost use Rattle.graph_walk.specs.Walking.{AddReady, Adding, Picks, twoRule, childOf, AddWalking, State, Walks};
 use nodes::rules;
 use nodes::rules::Child;
 use nodes::rules::Pick;
@@ -31,9 +26,7 @@ fn built_child(scratch: &[u32], out: &[u32], c: usize) -> Child
 
 // The rule for a record with two children.
 fn two_rule(kind: u32, l: Child, r: Child, g: u32) -> Pick
-    ensures { λ x. ⌜ pickOf x ≡ cond (eqb kind 6) (addRule prime (l .number) (r .number) (viewOf l) (viewOf r) g)
-        (cond (eqb kind 7) (subRule prime (l .number) (r .number) (viewOf l) (viewOf r) g)
-        (mulRule prime (l .number) (r .number) (viewOf l) (viewOf r) g)) ⌝ }
+    ensures { λ x. ⌜ pickOf x ≡ twoRule prime kind (l .number) (r .number) (viewOf l) (viewOf r) g ⌝ }
 {
     if kind == 6 {
         return rules::add_rule(l, r, g);
@@ -47,9 +40,7 @@ fn two_rule(kind: u32, l: Child, r: Child, g: u32) -> Pick
 // The node of a record whose children are added.
 fn pick_node(sheet: &[u32], scratch: &[u32], out: &[u32], r: usize) -> Pick
     requires { ⌜ ((n : ℕ) × Adding (now sheet) r (now scratch) (now out) n) ⌝ }
-    ensures { λ x. ⌜ ((done : List ℕ) → Order (old sheet) done → There (old sheet) r done
-        → (n : ℕ) → GraphHolds (old sheet) done (old scratch) (old out) n
-        → pickOf x ≡ pickOfRecord (old sheet) r done) ⌝ }
+    ensures { λ x. ⌜ Picks (old sheet) r (old scratch) (old out) (pickOf x) ⌝ }
 {
     let q = records::record_at(sheet, r);
     if q.kind < 6 {
@@ -70,9 +61,8 @@ fn pick_node(sheet: &[u32], scratch: &[u32], out: &[u32], r: usize) -> Pick
 // Adds a record whose children are added, and hands back the number of nodes.
 fn add_record(sheet: &[u32], scratch: &mut [u32], out: &mut [u32], r: usize, n: usize) -> usize
     requires { ⌜ Adding (now sheet) r (now scratch) (now out) n ⌝ }
-    ensures { λ u. ⌜ ((done : List ℕ) → Order (old sheet) done → member r done ≡ false
-        → There (old sheet) r done → GraphHolds (old sheet) done (old scratch) (old out) n
-        → GraphHolds (old sheet) (r ∷ done) (new scratch) (new out) u) ⌝ }
+    ensures { λ u. ⌜ Finishes (old sheet) r (State (old sheet) (old scratch) (old out) n)
+        (State (old sheet) (new scratch) (new out) u) ⌝ }
 {
     match pick_node(sheet, scratch, out, r) {
         Pick::Present(k) => {
@@ -106,9 +96,8 @@ fn child_at(sheet: &[u32], r: usize, i: usize) -> usize
 // The call for a child stands once, in a loop: a second one would have room of its own in the stack of each level.
 fn add_expr(sheet: &[u32], scratch: &mut [u32], out: &mut [u32], r: usize, n: usize) -> usize
     requires { ⌜ AddReady (now sheet) r (now scratch) (now out) n ⌝ }
-    ensures { λ u. ⌜ ((done : List ℕ) → Order (old sheet) done → GraphHolds (old sheet) done (old scratch) (old out) n
-        → GraphHolds (old sheet) (visit (childrenAt (recordsOf (old sheet))) (suc r) done r) (new scratch)
-        (new out) u) ⌝ }
+    ensures { λ u. ⌜ Visits (old sheet) r (State (old sheet) (old scratch) (old out) n)
+        (State (old sheet) (new scratch) (new out) u) ⌝ }
 {
     if scratch[r] != 0 {
         return n;
@@ -157,7 +146,7 @@ fn add_interaction(
     out: &mut [u32],
     n: usize,
 ) -> usize
-    requires { ⌜ AddWalking (now sheet) (now scratch) (now out) n × RootsInside (length (recordsOf (now sheet))) (now sheet) at ⌝ }
+    requires { ⌜ AddWalking (now sheet) (now scratch) (now out) n × RootsInside (now sheet) at ⌝ }
     ensures { λ u. ⌜ Walks (old sheet) (fieldsAt (old sheet) at ++ countAt (old sheet) at) (old scratch)
         (old out) n (new scratch) (new out) u ⌝ }
 {
@@ -175,7 +164,7 @@ pub fn add_interactions(
     out: &mut [u32],
     n: usize,
 ) -> usize
-    requires { ⌜ AddWalking (now sheet) (now scratch) (now out) n × AllRootsInside (length (recordsOf (now sheet))) (now sheet) at count ⌝ }
+    requires { ⌜ AddWalking (now sheet) (now scratch) (now out) n × AllRootsInside (now sheet) at count ⌝ }
     ensures { λ u. ⌜ Walks (old sheet) (rootWords (old sheet) at count) (old scratch) (old out) n
         (new scratch) (new out) u ⌝ }
 {

@@ -8,7 +8,7 @@ use lib.Seq.{drop-cons}
 use Rattle.slices.proofs.Lists.{flat-append}
 use Rattle.semantics.specs.Lists.{All}
 use Rattle.records.specs.declared.Interaction.{Interaction}
-use Rattle.records.specs.Access.{recordsOf, wordsFrom, eachWords, RootsInside, AllRootsInside}
+use Rattle.records.specs.Access.{wordsFrom, eachWords, RootsInside, AllRootsInside}
 use Rattle.records.proofs.Takings.{Taken, taken-words, taken-references}
 use Rattle.group.specs.declared.Tallied.{Tallied}
 use Rattle.group.specs.declared.Tallied.the-variants.{Headers, Full}
@@ -50,24 +50,24 @@ part-end ws at count j h = let z : count - j ≡ 0 = omega arith in ap (λ (n : 
 -- The interactions that a loop has not passed yet: those from `from` on.
 pub record Rest (ws : List ℕ) (count from i : ℕ) : Type 0 where
   pub upto : i ≤ count
-  pub inside : AllRootsInside (length (recordsOf ws)) ws from (count - i)
+  pub inside : AllRootsInside ws from (count - i)
 
-pub rest-start : {ws : List ℕ} {at count : ℕ} → AllRootsInside (length (recordsOf ws)) ws at count → Rest ws count at 0
+pub rest-start : {ws : List ℕ} {at count : ℕ} → AllRootsInside ws at count → Rest ws count at 0
 rest-start {ws} {at} {count} h =
     let b : count - 0 ≡ count = omega arith in
-    record { upto = omega arith; inside = subst (AllRootsInside (length (recordsOf ws)) ws at) (sym b) h }
+    record { upto = omega arith; inside = subst (AllRootsInside ws at) (sym b) h }
 
 module _ {ws : List ℕ} {count from i : ℕ} (g : Rest ws count from i) (h : i < count) where
-  now : AllRootsInside (length (recordsOf ws)) ws from (suc (count - (i + 1)))
-  now = let k : count - i ≡ suc (count - (i + 1)) = omega arith in subst (AllRootsInside (length (recordsOf ws)) ws from) k (g .inside)
+  now : AllRootsInside ws from (suc (count - (i + 1)))
+  now = let k : count - i ≡ suc (count - (i + 1)) = omega arith in subst (AllRootsInside ws from) k (g .inside)
 
-  pub rest-next : RootsInside (length (recordsOf ws)) ws from
+  pub rest-next : RootsInside ws from
   rest-next = now .0
 
   pub rest-more : {from′ : ℕ} → from′ ≡ interactionIn ws from .next → Rest ws count from′ (i + 1)
   rest-more e = record {
     upto = omega arith;
-    inside = subst (λ (a : ℕ). AllRootsInside (length (recordsOf ws)) ws a (count - (i + 1))) (sym e) (now .1);
+    inside = subst (λ (a : ℕ). AllRootsInside ws a (count - (i + 1))) (sym e) (now .1);
   }
 
 -- The references of the next interaction, and the end.
@@ -199,7 +199,7 @@ pub record EachAt (one : ℕ → List ℕ) (ws : List ℕ) (at count : ℕ) (H�
   pub left : NamesLeft H₀ n P (eachWords one ws at count) H rows (eachWords one ws from (count - i))
 
 pub each-start : {one : ℕ → List ℕ} {ws : List ℕ} {at count : ℕ} {H : List ℕ} {n : ℕ} {P : List ℕ}
-    → AllRootsInside (length (recordsOf ws)) ws at count → ToTally n H P (eachWords one ws at count) → EachAt one ws at count H n P H n at 0
+    → AllRootsInside ws at count → ToTally n H P (eachWords one ws at count) → EachAt one ws at count H n P H n at 0
 each-start {one} {ws} {at} {count} h t = record { rest = rest-start h; left = references-start t (each-first one ws at count) }
 
 module _ {one : ℕ → List ℕ} {ws : List ℕ} {at count : ℕ} {H₀ : List ℕ} {n : ℕ} {P H : List ℕ} {rows from i : ℕ} (g : EachAt one ws at count H₀ n P H rows from i) where

@@ -15,7 +15,7 @@ use Rattle.semantics.specs.Monomial.{Monomial}
 use Rattle.semantics.specs.Group.{Root, labelled, constraintRoots, countRoots, fieldRoots, Item, itemsOf, items}
 use Rattle.semantics.specs.Lists.{All}
 use Rattle.records.specs.declared.Interaction as places
-use Rattle.records.specs.Access.{recordsOf, constraintsAt, interactionsAt, wordsFrom, countAt, fieldsAt, countWords, fieldWords, RootsInside, AllRootsInside}
+use Rattle.records.specs.Access.{constraintsAt, interactionsAt, wordsFrom, countAt, fieldsAt, countWords, fieldWords, RootsInside, AllRootsInside}
 use Rattle.records.proofs.Reading.{count-word, message-is, next-stands, first-stands, counts-small, constraints-are, constraints-inside, interactions-stand}
 use Rattle.records.proofs.Reading.{interactions-inside, counts-are, fields-are}
 use Rattle.records.proofs.Steps.{inside}
@@ -173,7 +173,7 @@ module _ {f : ℕ → ℕ → Root} {b : Bool} {ws : List ℕ} {at count n : ℕ
 pub record TakenRoots (one : ℕ → ℕ → List Root) (ws : List ℕ) (place size : places.Interaction → ℕ) : Type 0 where
   pub references : ℕ → List ℕ
   pub taken : Taken references ws place size
-  pub roots : (i at : ℕ) → RootsInside (length (recordsOf ws)) ws at → one i at ≡ labelled (fieldRoot i) 0 (references at)
+  pub roots : (i at : ℕ) → RootsInside ws at → one i at ≡ labelled (fieldRoot i) 0 (references at)
 
 -- Of a count, and of the fields.
 pub count-root-taken : (ws : List ℕ) → TakenRoots (countRootAt ws) ws (λ (x : places.Interaction). x .count) (λ (x : places.Interaction). 1)
@@ -195,7 +195,7 @@ pub record EachRoots (one : ℕ → ℕ → List Root) (b : Bool) (ws : List ℕ
   pub left : RootsLeft b n P H₀ T₀ (eachRoots one ws 0 at count) H T (eachRoots one ws i from (count - i))
 
 pub each-roots-start : {one : ℕ → ℕ → List Root} {b : Bool} {ws : List ℕ} {at count n : ℕ} {P H T : List ℕ}
-    → AllRootsInside (length (recordsOf ws)) ws at count → ToPlaceRoots b n H P T (eachRoots one ws 0 at count) → EachRoots one b ws at count n P H T H T at 0
+    → AllRootsInside ws at count → ToPlaceRoots b n H P T (eachRoots one ws 0 at count) → EachRoots one b ws at count n P H T H T at 0
 each-roots-start {one} {b} {ws} {at} {count} h t =
     let z : count - 0 ≡ count = omega arith in
     record { rest = rest-start h; left = roots-start t (ap (eachRoots one ws 0 at) z) }
@@ -304,10 +304,10 @@ module _ (ws : List ℕ) (checked : check prime ws ≡ good (readSheet ws)) wher
 
   -- The same for the interactions.
   module _ {at count : ℕ} (a : at ≡ interactionsAt ws) (c : count ≡ length (readSheet ws .interactions)) where
-    pub interaction-span : AllRootsInside (length (recordsOf ws)) ws at count × (count ≤ 4294967295)
+    pub interaction-span : AllRootsInside ws at count × (count ≤ 4294967295)
     interaction-span = (
-      subst (λ (x : ℕ). AllRootsInside (length (recordsOf ws)) ws x count) (sym a)
-          (subst (AllRootsInside (length (recordsOf ws)) ws (interactionsAt ws)) (sym c) (interactions-inside ws checked)),
+      subst (λ (x : ℕ). AllRootsInside ws x count) (sym a)
+          (subst (AllRootsInside ws (interactionsAt ws)) (sym c) (interactions-inside ws checked)),
       omega (arith, counts-small ws checked .2),
     )
 

@@ -5,21 +5,20 @@ use mathlib.Core.Bool.{Bool, true, false}
 use mathlib.Core.List.{List, [], _∷_, _++_, map}
 use Prim.Native.Nat.{ℕ, zero, suc, _+_, _*_, _≤_, _<_}
 use lib.ListN.{length, getD, take}
-use Rattle.semantics.specs.Answer.{good}
 use Rattle.semantics.specs.Sheet.{Sheet}
-use Rattle.semantics.specs.Check.{primeOf, readSheet, check}
+use Rattle.semantics.specs.Check.{primeOf}
 use Rattle.semantics.specs.Monomial.{listAt}
 use Rattle.semantics.specs.Group.{Root, labelled, constraintRoots, countRoots, fieldRoots, Item, items, Group, groups, headers, variables, terms, layout}
 use Rattle.semantics.specs.Call.{firstShort}
 use Rattle.semantics.specs.Lists.{All}
 use Rattle.records.specs.declared.Interaction.{Interaction}
-use Rattle.records.specs.Access.{recordsOf, messageLength, interactionFrom, fieldsAt}
+use Rattle.records.specs.Access.{IsSheet, recordsOf, messageLength, interactionFrom, fieldsAt}
 use Rattle.monomial.specs.Words.{Stored}
 use Rattle.grouping.specs.declared.Grouped.{Grouped}
 use Rattle.grouping.specs.declared.Grouped.the-variants.{Written, Short}
 use Rattle.grouping.specs.declared.families.Family.{Family}
 use Rattle.grouping.specs.declared.families.Family.the-variants.{Constraints, Counts, Fields}
-use Rattle.group.specs.Grouped.{talliedTotal, tallied, Rows, listOf, InPool, ToPlace}
+use Rattle.group.specs.Grouped.{Tally, talliedTotal, tallied, Rows, listOf, InPool, termWidth, Placing, ToPlace}
 
 -- The roots of a family, and whether its terms are those of interactions.
 abbrev pub rootsOf : Family → Sheet → List Root
@@ -65,6 +64,21 @@ countRootAt ws i at = record { node = getD ws (interactionIn ws at .count) 0; in
 abbrev pub fieldRootsAt : (ws : List ℕ) (i at : ℕ) → List Root
 fieldRootsAt ws i at = labelled (fieldRoot i) 0 (fieldsAt ws at)
 
+-- The roots of n interactions from `at` on: the counts, and the fields.
+abbrev pub countRootsFrom : (ws : List ℕ) (at n : ℕ) → List Root
+countRootsFrom ws at n = eachRoots (countRootAt ws) ws 0 at n
+
+abbrev pub fieldRootsFrom : (ws : List ℕ) (at n : ℕ) → List Root
+fieldRootsFrom ws at n = eachRoots (fieldRootsAt ws) ws 0 at n
+
+-- The n rows count few enough terms for a word to hold where each goes.
+abbrev pub FewTerms : (n : ℕ) (headers pool : List ℕ) → Type 0
+FewTerms n headers pool = talliedTotal (tallied n headers pool) ≤ 16777216
+
+-- The slices are ready for terms of either width, where there is room for all.
+abbrev pub StartsPlacing : (gs : List Tally) (n : ℕ) (headers pool terms : List ℕ) (room : ℕ) → Type 0
+StartsPlacing gs n headers pool terms room = (b : Bool) → termWidth b * talliedTotal gs ≤ room → Placing b gs n headers pool terms []
+
 -- What placing the terms of these roots asks.
 pub record ToPlaceRoots (interaction : Bool) (n : ℕ) (headers pool terms : List ℕ) (roots : List Root) : Type 0 where
   pub to-place : ToPlace interaction n headers pool terms (items (listOf pool) roots)
@@ -72,7 +86,7 @@ pub record ToPlaceRoots (interaction : Bool) (n : ℕ) (headers pool terms : Lis
 
 -- What grouping a family asks: a checked sheet, and the finished list of every root in the pool.
 pub record Grouping (ws pool : List ℕ) (roots : List Root) : Type 0 where
-  pub checked : check (primeOf ws) ws ≡ good (readSheet ws)
+  pub checked : IsSheet ws
   pub lists : All (λ (r : Root). Stored pool (r .node) (listAt (primeOf ws) (recordsOf ws) (r .node))) roots
 
 -- The groups of a family of a sheet's roots.

@@ -5,13 +5,12 @@ ghost use mathlib.Core.List.{[]};
 ghost use Prim.Native.Nat.{_+_, _≤_};
 ghost use lib.ListN.{length};
 ghost use Rattle.slices.specs.Lent.{old, new};
-ghost use Rattle.semantics.specs.Answer.{good};
-ghost use Rattle.semantics.specs.Check.{primeOf, readSheet, check};
+ghost use Rattle.semantics.specs.Check.{readSheet};
 ghost use Rattle.semantics.specs.Group.{labelled, items};
 ghost use Rattle.semantics.specs.Call.{zeros};
-ghost use Rattle.records.specs.Access.{recordsOf, wordsFrom, countWords, fieldWords, AllRootsInside};
+ghost use Rattle.records.specs.Access.{IsSheet, wordsFrom, countWords, fieldWords, AllRootsInside};
 ghost use Rattle.group.specs.Grouped.{tallyAll, tallied, CountedMore, listOf, varsNamed, termWidth, Places};
-ghost use Rattle.grouping.specs.Families.{ToTally, constraintRoot, fieldRoot, eachRoots, countRootAt, fieldRootsAt, ToPlaceRoots, Grouping, rootsOf, isInteraction, nodesOf};
+ghost use Rattle.grouping.specs.Families.{ToTally, constraintRoot, fieldRoot, countRootsFrom, fieldRootsFrom, ToPlaceRoots, Grouping, rootsOf, isInteraction, nodesOf};
 use group::Tallied;
 use group::place;
 
@@ -70,7 +69,7 @@ fn tally_counts(
     n: usize,
     pool: &[u32],
 ) -> Tallied
-    requires { ⌜ AllRootsInside (length (recordsOf (now sheet))) (now sheet) at count
+    requires { ⌜ AllRootsInside (now sheet) at count
         × ToTally n (now headers) (now pool) (countWords (now sheet) at count) ⌝ }
     ensures { λ r. ⌜ CountedMore (new headers) (old pool)
         (tallyAll (varsNamed (old pool) (countWords (old sheet) at count))
@@ -101,7 +100,7 @@ fn tally_fields(
     n: usize,
     pool: &[u32],
 ) -> Tallied
-    requires { ⌜ AllRootsInside (length (recordsOf (now sheet))) (now sheet) at count
+    requires { ⌜ AllRootsInside (now sheet) at count
         × ToTally n (now headers) (now pool) (fieldWords (now sheet) at count) ⌝ }
     ensures { λ r. ⌜ CountedMore (new headers) (old pool)
         (tallyAll (varsNamed (old pool) (fieldWords (old sheet) at count))
@@ -182,12 +181,12 @@ fn place_counts(
     pool: &[u32],
     terms: &mut [u32],
 )
-    requires { ⌜ AllRootsInside (length (recordsOf (now sheet))) (now sheet) at count × (count ≤ 4294967295)
+    requires { ⌜ AllRootsInside (now sheet) at count × (count ≤ 4294967295)
         × ToPlaceRoots true n (now headers) (now pool) (now terms)
-        (eachRoots (countRootAt (now sheet)) (now sheet) 0 at count) ⌝ }
+        (countRootsFrom (now sheet) at count) ⌝ }
     ensures { λ _. ⌜ Places true n (old pool) (old headers) (old terms)
         (new headers) (new terms)
-        (items (listOf (old pool)) (eachRoots (countRootAt (old sheet)) (old sheet) 0 at count)) ⌝ }
+        (items (listOf (old pool)) (countRootsFrom (old sheet) at count)) ⌝ }
 {
     let mut from = at;
     let mut i: usize = 0;
@@ -209,12 +208,12 @@ fn place_fields(
     pool: &[u32],
     terms: &mut [u32],
 )
-    requires { ⌜ AllRootsInside (length (recordsOf (now sheet))) (now sheet) at count × (count ≤ 4294967295)
+    requires { ⌜ AllRootsInside (now sheet) at count × (count ≤ 4294967295)
         × ToPlaceRoots true n (now headers) (now pool) (now terms)
-        (eachRoots (fieldRootsAt (now sheet)) (now sheet) 0 at count) ⌝ }
+        (fieldRootsFrom (now sheet) at count) ⌝ }
     ensures { λ _. ⌜ Places true n (old pool) (old headers) (old terms)
         (new headers) (new terms)
-        (items (listOf (old pool)) (eachRoots (fieldRootsAt (old sheet)) (old sheet) 0 at count)) ⌝ }
+        (items (listOf (old pool)) (fieldRootsFrom (old sheet) at count)) ⌝ }
 {
     let mut from = at;
     let mut i: usize = 0;
@@ -269,7 +268,7 @@ pub fn place_family(
     pool: &[u32],
     terms: &mut [u32],
 )
-    requires { ⌜ (check (primeOf (now sheet)) (now sheet) ≡ good (readSheet (now sheet)))
+    requires { ⌜ IsSheet (now sheet)
         × ToPlaceRoots (isInteraction family) n (now headers) (now pool) (now terms) (rootsOf family (readSheet (now sheet))) ⌝ }
     ensures { λ _. ⌜ Places (isInteraction family) n (old pool) (old headers) (old terms)
         (new headers) (new terms)

@@ -1,13 +1,11 @@
 // The families of a checked sheet, grouped: headers, variables and terms, or the first slice that is too short.
-ghost use mathlib.Core.Bool.{Bool};
-ghost use mathlib.Core.List.{[]};
 ghost use Prim.Native.Nat.{_*_, _≤_};
 ghost use lib.ListN.{length};
 ghost use Rattle.slices.specs.Lent.{old, new};
 ghost use Rattle.semantics.specs.Check.{readSheet};
 ghost use Rattle.semantics.specs.Group.{constraintRoots, countRoots, fieldRoots, constraintTerm, interactionTerm};
-ghost use Rattle.group.specs.Grouped.{tallied, talliedTotal, Rows, column, sum, termOf, termWidth, Placing, varsIn, talliedHeaders};
-ghost use Rattle.grouping.specs.Families.{rootsOf, isInteraction, Measured, Front, Grouping, Laid, groupsOf};
+ghost use Rattle.group.specs.Grouped.{tallied, Rows, column, sum, termOf, varsIn, talliedHeaders};
+ghost use Rattle.grouping.specs.Families.{rootsOf, isInteraction, FewTerms, StartsPlacing, Measured, Front, Grouping, Laid, groupsOf};
 
 mod families;
 
@@ -52,11 +50,9 @@ fn room_for(headers: &[u32], n: usize, width: usize, variables: usize, terms: us
 
 // Makes the slices ready for terms.
 fn start_groups(headers: &mut [u32], n: usize, pool: &[u32], terms: &mut [u32])
-    requires { ⌜ Rows n (now headers) (now pool) × (talliedTotal (tallied n (now headers) (now pool)) ≤ 16777216) ⌝ }
-    ensures { λ _. ⌜ ((b : Bool)
-        → termWidth b * talliedTotal (tallied n (old headers) (old pool)) ≤ length (old terms)
-        → Placing b (tallied n (old headers) (old pool)) n
-        (new headers) (old pool) (new terms) []) ⌝ }
+    requires { ⌜ Rows n (now headers) (now pool) × FewTerms n (now headers) (now pool) ⌝ }
+    ensures { λ _. ⌜ StartsPlacing (tallied n (old headers) (old pool)) n
+        (new headers) (old pool) (new terms) (length (old terms)) ⌝ }
 {
     slices::zero_all(terms);
     totals::start_terms(headers, n);
@@ -64,7 +60,7 @@ fn start_groups(headers: &mut [u32], n: usize, pool: &[u32], terms: &mut [u32])
 
 // Writes the variables of the rows, and the offsets.
 fn finish_groups(headers: &mut [u32], n: usize, pool: &[u32], variables: &mut [u32])
-    requires { ⌜ Rows n (now headers) (now pool) × (n ≤ 16777216) × (talliedTotal (tallied n (now headers) (now pool)) ≤ 16777216)
+    requires { ⌜ Rows n (now headers) (now pool) × (n ≤ 16777216) × FewTerms n (now headers) (now pool)
         × (length (varsIn (tallied n (now headers) (now pool))) ≤ length (now variables)) ⌝ }
     ensures { λ _. ⌜ Front (talliedHeaders 0 0 (tallied n (old headers) (old pool))) (new headers)
         × Front (varsIn (tallied n (old headers) (old pool))) (new variables) ⌝ }

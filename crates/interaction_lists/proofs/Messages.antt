@@ -32,22 +32,22 @@ longest-is ws checked at count ea ec =
     (λ j. longestFrom ws (ea j) (ec j)) ∙ longest-words (i .0) ws (interactionsAt ws) (readSheet ws .interactions) (i .1)
 
 -- What holds while the lengths are looked at: the largest so far and what is left give the whole.
-pub record Looking (bound : ℕ) (ws : List ℕ) (at count : ℕ) (most from i : ℕ) : Type 0 where
+pub record Looking (ws : List ℕ) (at count : ℕ) (most from i : ℕ) : Type 0 where
   pub i-le : i ≤ count
-  pub left : AllRootsInside bound ws from (count - i)
+  pub left : AllRootsInside ws from (count - i)
   pub whole : max most (longestFrom ws from (count - i)) ≡ longestFrom ws at count
 
-module _ {bound : ℕ} {ws : List ℕ} {at count : ℕ} where
-  pub looking-none : AllRootsInside bound ws at count → Looking bound ws at count 0 at 0
+module _ {ws : List ℕ} {at count : ℕ} where
+  pub looking-none : AllRootsInside ws at count → Looking ws at count 0 at 0
   looking-none h =
       let all : count - 0 ≡ count = omega arith in
       record {
         i-le = omega arith;
-        left = subst (AllRootsInside bound ws at) (sym all) h;
+        left = subst (AllRootsInside ws at) (sym all) h;
         whole = ap (λ (n : ℕ). max 0 (longestFrom ws at n)) all ∙ omega arith;
       }
 
-  module _ {most from i : ℕ} (h : Looking bound ws at count most from i) where
+  module _ {most from i : ℕ} (h : Looking ws at count most from i) where
     pub looking-done : count ≤ i → most ≡ longestFrom ws at count
     unfolding longestFrom
     looking-done l =
@@ -60,14 +60,14 @@ module _ {bound : ℕ} {ws : List ℕ} {at count : ℕ} where
       more : count - i ≡ suc (count - (i + 1))
       more = omega arith
 
-      now : RootsInside bound ws from × AllRootsInside bound ws (from + (4 + messageLength ws from)) (count - (i + 1))
-      now = subst (AllRootsInside bound ws from) more (h .left)
+      now : RootsInside ws from × AllRootsInside ws (from + (4 + messageLength ws from)) (count - (i + 1))
+      now = subst (AllRootsInside ws from) more (h .left)
 
-      pub looking-at : RootsInside bound ws from
+      pub looking-at : RootsInside ws from
       looking-at = now .0
 
       pub looking-more : (most′ from′ : ℕ) → most′ ≡ max most (messageLength ws from) → from′ ≡ from + (4 + messageLength ws from)
-          → Looking bound ws at count most′ from′ (i + 1)
+          → Looking ws at count most′ from′ (i + 1)
       unfolding longestFrom
       looking-more most′ from′ e f =
           let w : max most (max (messageLength ws from) (longestFrom ws (from + (4 + messageLength ws from)) (count - (i + 1))))
@@ -75,7 +75,7 @@ module _ {bound : ℕ} {ws : List ℕ} {at count : ℕ} where
           subst (λ (n : ℕ). max most (longestFrom ws from n) ≡ longestFrom ws at count) more (h .whole) in
           record {
             i-le = omega arith;
-            left = subst (λ (a : ℕ). AllRootsInside bound ws a (count - (i + 1))) (sym f) (now .1);
+            left = subst (λ (a : ℕ). AllRootsInside ws a (count - (i + 1))) (sym f) (now .1);
             whole =
                 (λ j. max (e j) (longestFrom ws (f j) (count - (i + 1))))
                 ∙ max-assoc most (messageLength ws from) (longestFrom ws (from + (4 + messageLength ws from)) (count - (i + 1)))

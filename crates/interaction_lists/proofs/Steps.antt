@@ -11,7 +11,7 @@ use Rattle.semantics.specs.Check.{readSheet}
 use Rattle.semantics.specs.Walk.{order}
 use Rattle.semantics.specs.Expand.{expandAll}
 use Rattle.semantics.specs.Group.{Root, Group, countRoots, fieldRoots, interactionTerm, headers, variables, terms, layout}
-use Rattle.semantics.specs.Call.{Result, fitted, firstShort, family, interactionOutputs, maxFieldsLen}
+use Rattle.semantics.specs.Call.{Result, fitted, firstShort, family, interactionOutputs, maxFieldsLen, interactionNumbers, expansionOf}
 use Rattle.semantics.proofs.Demands.{count-nodes, field-nodes}
 use Rattle.records.specs.Access.{countsOf, fieldsOf, recordsOf}
 use Rattle.answers.specs.declared.Refusal.{Refusal}
@@ -26,7 +26,7 @@ use Rattle.interaction_lists.specs.declared.InteractionLists.{Interactio
 use Rattle.interaction_lists.specs.declared.InteractionLists.the-variants as interaction
 use Rattle.grouping.proofs.Slices.{later-none, later-short, first-none, first-short}
 use Rattle.grouping.specs.declared.Lengths.{Lengths}
-use Rattle.constraint_lists.specs.Lists.{tooShort, expansionOf, expandedRefusal, shortOf}
+use Rattle.constraint_lists.specs.Lists.{tooShort, expandedRefusal, shortOf}
 use Rattle.interaction_lists.specs.Lists.{interactionAnswer, BothInside}
 
 -- Both families of the interactions.
@@ -158,17 +158,14 @@ module _ (ws : List ℕ) (work pool : ℕ) (lent : List ℕ) where
   abbrev rootsOf : Sheet → List Root
   rootsOf s = countRoots s ++ fieldRoots s
 
-  abbrev numbers : Sheet → List ℕ
-  numbers s = length (s .interactions) ∷ maxFieldsLen s ∷ []
-
   abbrev all : List ℕ
   all = order (recordsOf ws) (countsOf (sh .interactions) ++ fieldsOf (sh .interactions))
 
   abbrev wholeCall : Answer Result
-  wholeCall = expansionOf work pool lent rootsOf (interactionOutputs prime) numbers sh
+  wholeCall = expansionOf prime (work ∷ pool ∷ lent) rootsOf (interactionOutputs prime) interactionNumbers sh
 
   pub work-refused : work < 4096 → refused 14 4096 ≡ wholeCall
-  work-refused = work-short work pool lent rootsOf (interactionOutputs prime) numbers sh
+  work-refused = work-short work pool lent rootsOf (interactionOutputs prime) interactionNumbers sh
 
   same-walk : expandAll prime (recordsOf ws) pool all
       ≡ expandAll prime (sh .records) pool (order (sh .records) (map (λ (r : Root). r .node) (rootsOf sh)))
@@ -178,7 +175,7 @@ module _ (ws : List ℕ) (work pool : ℕ) (lent : List ℕ) where
 
   module _ (enough : 4096 ≤ work) where
     pub pool-refused : (k : ℕ) → k ≡ 2 * length (sh .records) → pool < k → refused 14 k ≡ wholeCall
-    pool-refused = pool-short work pool lent rootsOf (interactionOutputs prime) numbers sh enough
+    pool-refused = pool-short work pool lent rootsOf (interactionOutputs prime) interactionNumbers sh enough
 
     module _ (room : 2 * length (sh .records) ≤ pool) where
       pub interactions-refused : (w : Expanded) (q v₁ : Refusal) (pool′ : List ℕ) → length pool′ ≡ pool → Expands ws pool′ w all
@@ -188,11 +185,11 @@ module _ (ws : List ℕ) (work pool : ℕ) (lent : List ℕ) where
           subst (λ (u : Expanded). Expands ws pool′ u all) g f in
           let y : q ≡ v₁ = r ∙ ap expandedRefusal g in
           (λ i. refused (y i .number) (y i .place))
-          ∙ walk-refused work pool lent rootsOf (interactionOutputs prime) numbers sh enough room (v₁ .number) (v₁ .place)
+          ∙ walk-refused work pool lent rootsOf (interactionOutputs prime) interactionNumbers sh enough room (v₁ .number) (v₁ .place)
           (sym same-walk ∙ subst (λ (n : ℕ). expandAll prime (recordsOf ws) n all ≡ refused (v₁ .number) (v₁ .place)) e x)
 
       pub interactions-walked : (used : ℕ) (pool′ : List ℕ) → length pool′ ≡ pool → PoolHolds ws all pool′ used
-          → fitted (interactionOutputs prime sh) lent (numbers sh) ≡ wholeCall
+          → fitted (interactionOutputs prime sh) lent (interactionNumbers sh) ≡ wholeCall
       interactions-walked used pool′ e holds =
-          walk-done work pool lent rootsOf (interactionOutputs prime) numbers sh enough room used
+          walk-done work pool lent rootsOf (interactionOutputs prime) interactionNumbers sh enough room used
           (sym same-walk ∙ subst (λ (n : ℕ). expandAll prime (recordsOf ws) n all ≡ good used) e (holds .used-is))

@@ -30,10 +30,10 @@ module _ (ws : List ℕ) (checked : check prime ws ≡ good (readSheet ws)) wher
   xs = readSheet ws .interactions
 
   module _ (at count : ℕ) (ea : at ≡ interactionsAt ws) (ec : count ≡ length (readSheet ws .interactions)) where
-    pub interactions-there : AllRootsInside (length (recordsOf ws)) ws at count
+    pub interactions-there : AllRootsInside ws at count
     interactions-there =
-        subst (λ (a : ℕ). AllRootsInside (length (recordsOf ws)) ws a count) (sym ea)
-        (subst (AllRootsInside (length (recordsOf ws)) ws (interactionsAt ws)) (sym ec) (interactions-inside ws checked))
+        subst (λ (a : ℕ). AllRootsInside ws a count) (sym ea)
+        (subst (AllRootsInside ws (interactionsAt ws)) (sym ec) (interactions-inside ws checked))
 
     pub counts-there : countWords ws at count ≡ countsOf xs
     counts-there =

@@ -4,15 +4,15 @@ ghost use mathlib.Core.List.{[], _∷_, _++_};
 ghost use Prim.Native.Nat.{ℕ, _*_, _≤_};
 ghost use lib.ListN.{length};
 ghost use Rattle.slices.specs.Lent.{old, new};
-ghost use Rattle.semantics.specs.Check.{primeOf, readSheet};
+ghost use Rattle.semantics.specs.Check.{readSheet};
 ghost use Rattle.semantics.specs.Walk.{order};
 ghost use Rattle.semantics.specs.Group.{countRoots, fieldRoots};
-ghost use Rattle.semantics.specs.Call.{fitted, interactionOutputs, maxFieldsLen};
+ghost use Rattle.semantics.specs.Call.{interactionsOf};
 ghost use Rattle.records.specs.Access.{countsOf, fieldsOf, recordsOf, AllRootsInside};
 ghost use Rattle.expand.specs.Walking.{Expands};
 ghost use Rattle.grouping.specs.Families.{Grouping};
-ghost use Rattle.constraint_lists.specs.Lists.{CheckedSheet};
-ghost use Rattle.interaction_lists.specs.Lists.{longestFrom, interactionAnswer, interactionsOf, BothInside};
+ghost use Rattle.constraint_lists.specs.Lists.{CheckedSheet, onRead};
+ghost use Rattle.interaction_lists.specs.Lists.{longestFrom, InteractionsAre, interactionsFitted};
 use answers::Refusal;
 use expand::Expanded;
 use grouping::Grouped;
@@ -57,7 +57,7 @@ fn walk_interactions(
 
 // The largest message length of the interactions from `at` on.
 fn max_fields_len(s: &[u32], at: usize, interactions: usize) -> usize
-    requires { ⌜ AllRootsInside (length (recordsOf (now s))) (now s) at interactions ⌝ }
+    requires { ⌜ AllRootsInside (now s) at interactions ⌝ }
     ensures { λ r. ⌜ r ≡ longestFrom (old s) at interactions ⌝ }
 {
     let mut most: usize = 0;
@@ -87,14 +87,9 @@ fn group_interactions(
     requires { ⌜ Grouping (now s) (now pool) (countRoots (readSheet (now s)))
         × Grouping (now s) (now pool) (fieldRoots (readSheet (now s)))
         × (interactions ≡ length (readSheet (now s) .interactions)) ⌝ }
-    ensures { λ r. ⌜ (interactionAnswer r (new headers) (new variables) (new terms)
-        (new «denom_headers») (new «denom_variables») (new «denom_terms»)
-        ≡ fitted (interactionOutputs (primeOf (old s)) (readSheet (old s)))
-        (length (old headers) ∷ length (old variables) ∷ length (old terms)
-        ∷ length (old «denom_headers») ∷ length (old «denom_variables») ∷ length (old «denom_terms») ∷ [])
-        (length (readSheet (old s) .interactions) ∷ maxFieldsLen (readSheet (old s)) ∷ []))
-        × BothInside r (new headers) (new variables) (new terms)
-        (new «denom_headers») (new «denom_variables») (new «denom_terms») ⌝ }
+    ensures { λ r. ⌜ InteractionsAre 0 r
+        (headers ∷ variables ∷ terms ∷ «denom_headers» ∷ «denom_variables» ∷ «denom_terms» ∷ [])
+        (onRead (old s) interactionsFitted) ⌝ }
 {
     let counted = grouping::group_counts(s, pool, headers, variables, terms);
     let Grouped::Written(numerators) = counted else {
@@ -129,14 +124,9 @@ pub fn expand_checked(
     denom_terms: &mut [u32],
 ) -> InteractionLists
     requires { ⌜ CheckedSheet (now s) records constraints interactions ⌝ }
-    ensures { λ r. ⌜ (interactionAnswer r (new headers) (new variables) (new terms)
-        (new «denom_headers») (new «denom_variables») (new «denom_terms»)
-        ≡ interactionsOf (length (old work)) (length (old pool))
-        (length (old headers)) (length (old variables)) (length (old terms))
-        (length (old «denom_headers»)) (length (old «denom_variables»)) (length (old «denom_terms»))
-        (readSheet (old s)))
-        × BothInside r (new headers) (new variables) (new terms)
-        (new «denom_headers») (new «denom_variables») (new «denom_terms») ⌝ }
+    ensures { λ r. ⌜ InteractionsAre 2 r
+        (work ∷ pool ∷ headers ∷ variables ∷ terms ∷ «denom_headers» ∷ «denom_variables» ∷ «denom_terms» ∷ [])
+        (onRead (old s) interactionsOf) ⌝ }
 {
     if work.len() < 4096 {
         return InteractionLists::Refused(Refusal {

@@ -13,7 +13,7 @@ use Rattle.semantics.specs.Walk.{order}
 use Rattle.semantics.specs.Expand.{expandAll}
 use Rattle.semantics.specs.Monomial.{listAt}
 use Rattle.semantics.specs.Group.{Root, Item, Group, constraintRoots, countRoots, fieldRoots, constraintTerm, interactionTerm, groups, headers, variables, terms, layout}
-use Rattle.semantics.specs.Call.{Outcome, Result, Accepted, outcome, needs, onSheet, firstShort, fitted, family, handedBack, expansion}
+use Rattle.semantics.specs.Call.{Outcome, Result, Accepted, outcome, needs, onSheet, firstShort, fitted, family, handedBack, expansionOf, expansion}
 use Rattle.semantics.specs.Call.{constraintOutputs, constraintCall, interactionOutputs, maxFieldsLen, interactionCall}
 use Rattle.semantics.proofs.Basics.{by-test}
 use Rattle.semantics.proofs.Demands.{Expanded, expanded}
@@ -52,8 +52,9 @@ short-fits k (w ∷ ws) (n ∷ ns) (suc j) z e h l =
 
 -- An accepted expansion hands back outputs that fit.
 module _ (p : ℕ) (ws : List ℕ) (work pool : ℕ) (lent : List ℕ) (roots : Sheet → List Root) (outputs : Sheet → List (List ℕ)) (numbers : Sheet → List ℕ)
-    (room : (s : Sheet) → length (outputs s) ≤ length lent) (a : Accepted (expansion p ws work pool lent roots outputs numbers)) where
-  abbrev known : Expanded p ws pool roots outputs (expansion p ws work pool lent roots outputs numbers)
+    (room : (s : Sheet) → length (outputs s) ≤ length lent)
+    (a : Accepted (expansion p ws (work ∷ pool ∷ lent) (expansionOf p (work ∷ pool ∷ lent) roots outputs numbers))) where
+  abbrev known : Expanded p ws pool roots outputs (expansion p ws (work ∷ pool ∷ lent) (expansionOf p (work ∷ pool ∷ lent) roots outputs numbers))
   known = expanded p ws work pool lent roots outputs numbers room a
 
   abbrev walked-on : Sheet → Answer Result
@@ -63,7 +64,7 @@ module _ (p : ℕ) (ws : List ℕ) (work pool : ℕ) (lent : List ℕ) (roots : 
   checked-on s = needs 14 4096 work (needs 14 (2 * length (s .records)) pool (walked-on s))
 
   none-short : firstShort 1 (outputs (known .sheet)) lent ≡ 0
-  unfolding expansion onSheet andThen
+  unfolding expansion expansionOf onSheet andThen
   none-short =
       let s : Sheet = known .sheet in
       let sc : List ℕ = work ∷ pool ∷ [] in
@@ -88,9 +89,12 @@ handed family term wide gs hs vs ts h v t e f g a b c =
 
 module _ (p : ℕ) (ws : List ℕ) (work pool : ℕ) where
   -- Constraints, for slices of at most 4 h, v and 2 t words.
-  module _ (hs-lent v ts-lent h t : ℕ) (few : hs-lent ≤ 4 * h) (less : ts-lent ≤ 2 * t) (a : Accepted (constraintCall p ws work pool hs-lent v ts-lent)) where
-    pub constraints-handed : Handed Constraints (handedBack 2 (constraintCall p ws work pool hs-lent v ts-lent) 0) (handedBack 2 (constraintCall p ws work pool hs-lent v ts-lent) 1)
-        (handedBack 2 (constraintCall p ws work pool hs-lent v ts-lent) 2) h v t
+  module _ (hs-lent v ts-lent h t : ℕ) (few : hs-lent ≤ 4 * h) (less : ts-lent ≤ 2 * t)
+      (a : Accepted (constraintCall p ws (work ∷ pool ∷ hs-lent ∷ v ∷ ts-lent ∷ []))) where
+    abbrev constraint-call : Outcome
+    constraint-call = constraintCall p ws (work ∷ pool ∷ hs-lent ∷ v ∷ ts-lent ∷ [])
+
+    pub constraints-handed : Handed Constraints (handedBack 2 constraint-call 0) (handedBack 2 constraint-call 1) (handedBack 2 constraint-call 2) h v t
     unfolding constraintCall constraintOutputs family layout
     constraints-handed =
         let lent : List ℕ = hs-lent ∷ v ∷ ts-lent ∷ [] in
@@ -102,9 +106,9 @@ module _ (p : ℕ) (ws : List ℕ) (work pool : ℕ) where
 
   -- Numerators and denominators, for slices of at most 4 h, v and 3 t words each.
   module _ (hs-lent v ts-lent h t : ℕ) (few : hs-lent ≤ 4 * h) (less : ts-lent ≤ 3 * t)
-      (a : Accepted (interactionCall p ws work pool hs-lent v ts-lent hs-lent v ts-lent)) where
+      (a : Accepted (interactionCall p ws (work ∷ pool ∷ hs-lent ∷ v ∷ ts-lent ∷ hs-lent ∷ v ∷ ts-lent ∷ []))) where
     abbrev call : Outcome
-    call = interactionCall p ws work pool hs-lent v ts-lent hs-lent v ts-lent
+    call = interactionCall p ws (work ∷ pool ∷ hs-lent ∷ v ∷ ts-lent ∷ hs-lent ∷ v ∷ ts-lent ∷ [])
 
     abbrev lent : List ℕ
     lent = hs-lent ∷ v ∷ ts-lent ∷ hs-lent ∷ v ∷ ts-lent ∷ []

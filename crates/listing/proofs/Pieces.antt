@@ -8,7 +8,8 @@ use lib.ListN.{getD, take, drop}
 use lib.Seq.{getD-take, getD-drop}
 use Rattle.semantics.specs.Arithmetic.{prime}
 use Rattle.semantics.specs.Sheetlist.{decimal, signed, line, dagText, endText, refusedText, tLine, uLine, wLine}
-use Rattle.listing.specs.Putting.{Room, Puts}
+use Rattle.slices.specs.Putting.{Puts}
+use Rattle.listing.specs.Putting.{Room}
 use Rattle.listing.proofs.Writing.{Done, done-room, done-more}
 
 -- A space and a number; a space, a coefficient and the end of the line.

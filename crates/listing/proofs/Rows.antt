@@ -9,7 +9,8 @@ use lib.ListN.{length, getD, take, drop}
 use lib.Seq.{drop-drop, drop-cons}
 use Rattle.slices.specs.Rows.{rows}
 use Rattle.semantics.specs.Sheetlist.{line, hexDigits}
-use Rattle.listing.specs.Putting.{Room, Puts}
+use Rattle.slices.specs.Putting.{Puts}
+use Rattle.listing.specs.Putting.{Room}
 use Rattle.listing.specs.Families.{widthOf, lineOf, spaced, headerLine}
 use Rattle.listing.specs.declared.headers.Family.{Family}
 use Rattle.listing.proofs.Writing.{Done, done-none, done-room, done-more, done-all, done-length}

@@ -22,16 +22,16 @@ module _ (name : List ℕ) (o : Outcome) (rest : List ℕ) where
 
 -- The calls that are made.
 abbrev pub builds : (sheet : List ℕ) → Outcome
-builds sheet = builderCall prime sheet 1016 1016
+builds sheet = builderCall prime sheet (1016 ∷ 1016 ∷ [])
 
 abbrev pub rotates : (graph : List ℕ) → Outcome
 rotates graph = maxRotationCall prime graph
 
 abbrev pub constraintsOf : (graph : List ℕ) → Outcome
-constraintsOf graph = constraintCall prime graph 4096 4096 1024 1024 1024
+constraintsOf graph = constraintCall prime graph (4096 ∷ 4096 ∷ 1024 ∷ 1024 ∷ 1024 ∷ [])
 
 abbrev pub interactionsOf : (graph : List ℕ) → Outcome
-interactionsOf graph = interactionCall prime graph 4096 4096 512 512 512 512 512 512
+interactionsOf graph = interactionCall prime graph (4096 ∷ 4096 ∷ 512 ∷ 512 ∷ 512 ∷ 512 ∷ 512 ∷ 512 ∷ [])
 
 -- What each prints.
 pub interaction-prints : (o : Outcome) → familyLines Numerators (handedBack 2 o 0) (handedBack 2 o 1) (handedBack 2 o 2)

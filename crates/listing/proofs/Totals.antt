@@ -72,7 +72,7 @@ sheet-most sheet =
 pub sheetlist-most : (bytes : List ℕ) → length (sheetlist prime bytes) ≤ 42728
 unfolding sheetlist
 sheetlist-most bytes =
-    let r = readerCall bytes 1016 in
+    let r = readerCall bytes (1016 ∷ []) in
     by-test (λ (l : List ℕ). length l ≤ 42728) (leb (length bytes) 4096)
     (λ e. step-most readText r (sheetLines prime (handedBack 0 r 0)) 42728 (omega arith) (λ a. sheet-most (handedBack 0 r 0)))
     (λ e. omega (arith, refused-most readText 1 0))

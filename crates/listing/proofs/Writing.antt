@@ -6,9 +6,9 @@ use native.Mathlib.Omega.{arith}
 use native.Mathlib.Numerals.{add-one}
 use lib.ListN.{length, getD, set, drop, length-append}
 use lib.Seq.{drop-cons}
-use Rattle.slices.specs.Putting.{put}
+use Rattle.slices.specs.Putting.{put, Puts}
 use Rattle.slices.proofs.Puts.{put-none, put-length, put-one, put-behind}
-use Rattle.listing.specs.Putting.{Room, Puts}
+use Rattle.listing.specs.Putting.{Room}
 
 -- Nothing is put.
 pub puts-none : (out : List ℕ) (at : ℕ) → Puts out at [] out at

@@ -5,9 +5,9 @@ ghost use Prim.Native.Nat.{_+_, _*_, _≤_};
 ghost use lib.ListN.{length, take, drop};
 ghost use Rattle.slices.specs.Lent.{old, new};
 ghost use Rattle.slices.specs.Rows.{rows};
-ghost use Rattle.semantics.specs.Group.{listedAt};
-ghost use Rattle.listing.specs.Putting.{Room, Puts};
-ghost use Rattle.listing.specs.Families.{letterOf, widthOf, lineOf, spaced, headerLine, headerText, familyLines, HeaderInside, HeadersInside};
+ghost use Rattle.slices.specs.Putting.{Puts};
+ghost use Rattle.listing.specs.Putting.{Room};
+ghost use Rattle.listing.specs.Families.{letterOf, widthOf, lineOf, spaced, headerLine, headerTextAt, familyLines, HeadersInside, ToPutHeader};
 use crate::numbers::put_byte;
 use crate::numbers::put_hex;
 use crate::terms::put_t_line;
@@ -127,12 +127,8 @@ fn put_header(
     variables: &[u32],
     terms: &[u32],
 ) -> usize
-    requires { ⌜ (h + 4 ≤ length (now headers)) × HeaderInside (widthOf family) (take 4 (drop h (now headers))) (now variables) (now terms)
-        × Room (now out) at (headerText family (listedAt (widthOf family) (now variables) (now terms) (take 4 (drop h (now headers))))) ⌝ }
-    ensures { λ r. ⌜ Puts (old out) at
-        (headerText family
-        (listedAt (widthOf family) (old variables) (old terms) (take 4 (drop h (old headers)))))
-        (new out) r ⌝ }
+    requires { ⌜ ToPutHeader family (now headers) (now variables) (now terms) h (now out) at ⌝ }
+    ensures { λ r. ⌜ Puts (old out) at (headerTextAt family (old headers) (old variables) (old terms) h) (new out) r ⌝ }
 {
     let vars = answers::wide(headers[h]);
     let first = width(family) * answers::wide(headers[h + 1]);

@@ -2,7 +2,8 @@
 ghost use mathlib.Core.List.{[], _∷_};
 ghost use Rattle.slices.specs.Lent.{old, new};
 ghost use Rattle.semantics.specs.Sheetlist.{decimal, line, dagText, endText, refusedText};
-ghost use Rattle.listing.specs.Putting.{Room, Puts};
+ghost use Rattle.slices.specs.Putting.{Puts};
+ghost use Rattle.listing.specs.Putting.{Room};
 use crate::numbers::put_byte;
 use crate::numbers::put_number;
 use crate::numbers::put_text;

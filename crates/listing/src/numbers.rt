@@ -5,7 +5,8 @@ ghost use Prim.Native.Nat.{_+_, _<_};
 ghost use Rattle.slices.specs.Lent.{old, new};
 ghost use Rattle.semantics.specs.Arithmetic.{prime};
 ghost use Rattle.semantics.specs.Sheetlist.{digits, decimal, hexDigit, hexDigits, signed};
-ghost use Rattle.listing.specs.Putting.{Room, Puts};
+ghost use Rattle.slices.specs.Putting.{Puts};
+ghost use Rattle.listing.specs.Putting.{Room};
 use packed_var::PackedVar;
 
 pub fn put_byte(out: &mut [u8], at: usize, byte: u8) -> usize

@@ -1,17 +1,13 @@
 // The nodes in the output, which are the records of the graph.
 ghost use mathlib.Core.Path.{_≡_};
-ghost use mathlib.Core.List.{List};
 ghost use Prim.Native.Nat.{_+_, _≤_};
 ghost use lib.ListN.{length};
 ghost use Rattle.slices.specs.Lent.{old, new};
-ghost use Rattle.semantics.specs.Sheet as semantics;
 ghost use Rattle.semantics.specs.Sheet.{place};
 ghost use Rattle.semantics.specs.Value.{nodeOf};
 ghost use Rattle.semantics.specs.Walk.{children};
-ghost use Rattle.semantics.specs.Graph.{find, intern};
 ghost use Rattle.records.specs.Access.{fiveWords, nodeIn};
-ghost use Rattle.nodes.specs.Memory.{nodesOut};
-ghost use Rattle.nodes.specs.Nodes.{NoneBefore, FirstEqual, aboveAll};
+ghost use Rattle.nodes.specs.Nodes.{FirstEqual, aboveAll, Interns};
 
 pub mod rules;
 
@@ -74,10 +70,7 @@ fn find_node(out: &[u32], n: usize, from: usize, r: Record) -> usize
 // The node equal to r, which no node below `from` is; appended where there is none.
 pub fn intern_node(out: &mut [u32], n: usize, from: usize, r: Record) -> Interned
     requires { ⌜ (from ≤ n) × (place 5 (n + 1) ≤ length (now out)) ⌝ }
-    ensures { λ x. ⌜ ((ns : List semantics.Record) → old out ≡ nodesOut (length (old out)) ns
-        → n ≡ length ns → NoneBefore from (fiveWords r) ns
-        → (x .index ≡ find (fiveWords r) ns) × (new out ≡ nodesOut (length (old out)) (intern (fiveWords r) ns))
-        × (x .count ≡ length (intern (fiveWords r) ns))) ⌝ }
+    ensures { λ x. ⌜ Interns (old out) n from (fiveWords r) x (new out) ⌝ }
 {
     let at = find_node(out, n, from, r);
     if at < n {

@@ -3,7 +3,8 @@ use mathlib.Core.List.{[], _∷_}
 use Prim.Native.Nat.{ℕ}
 use lib.ListN.{getD}
 use Rattle.semantics.specs.Sheet.{Record, recordOf}
-use Rattle.semantics.specs.Call.{Reply, Outcome, acceptedWith, refusedWith}
+use Rattle.semantics.specs.Call.{Reply, Outcome, acceptedWith}
+use Rattle.answers.specs.Replies.{refusedReply}
 use Rattle.symbolic_variable.specs.declared.Entry.{Entry}
 use Rattle.symbolic_variable.specs.declared.SymbolicVariable.{SymbolicVariable}
 use Rattle.symbolic_variable.specs.Variable.{entryWords}
@@ -23,7 +24,7 @@ refusedFor number = packed.Refused (record { number = number; place = 0 })
 -- The packed number, or "a number and a place".
 abbrev pub packedReply : Packed → Reply
 packedReply (packed.Var v) = acceptedWith [] (v .0 ∷ [])
-packedReply (packed.Refused r) = refusedWith (r .number) (r .place)
+packedReply (packed.Refused r) = refusedReply r
 
 abbrev pub packedOutcome : Packed → Outcome
 packedOutcome r = record { reply = packedReply r; slices = [] }

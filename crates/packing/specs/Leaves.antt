@@ -6,7 +6,8 @@ use Rattle.semantics.specs.Sheet as sheet
 use Rattle.semantics.specs.Sheet.{recordOf, recordWords}
 use Rattle.semantics.specs.Check.{reading, scanWords, judged}
 use Rattle.semantics.specs.Packing.{leafTests}
-use Rattle.semantics.specs.Call.{Reply, Outcome, acceptedWith, refusedWith}
+use Rattle.semantics.specs.Call.{Reply, Outcome, acceptedWith}
+use Rattle.answers.specs.Replies.{refusedReply}
 use Rattle.symbolic_variable.specs.declared.Entry.{Entry}
 use Rattle.symbolic_variable.specs.Variable.{variableOf}
 use Rattle.answers.specs.declared.Refusal.{Refusal}
@@ -50,7 +51,7 @@ wordsRecord w = recordOf (w .kind) (w .a) (w .b) (w .c) (w .d)
 -- "it gives the five words", or a number and a place.
 abbrev pub unpackedReply : Unpacked → Reply
 unpackedReply (unpacked.Words w) = acceptedWith [] (w .kind ∷ w .a ∷ w .b ∷ w .c ∷ w .d ∷ [])
-unpackedReply (unpacked.Refused r) = refusedWith (r .number) (r .place)
+unpackedReply (unpacked.Refused r) = refusedReply r
 
 abbrev pub unpackedOutcome : Unpacked → Outcome
 unpackedOutcome r = record { reply = unpackedReply r; slices = [] }

@@ -2,12 +2,11 @@
 use mathlib.Core.Path.{_≡_, refl, sym, ap, subst}
 use mathlib.Core.List.{List, _++_}
 use Prim.Native.Nat.{ℕ}
-use lib.ListN.{length}
 use Rattle.records.specs.declared.Interaction as places
-use Rattle.records.specs.Access.{recordsOf, wordsFrom, messageLength, interactionFrom, countAt, fieldsAt, ReferencesInside, RootsInside}
+use Rattle.records.specs.Access.{wordsFrom, messageLength, interactionFrom, countAt, fieldsAt, ReferencesInside, RootsInside}
 use Rattle.records.proofs.Rooting.{message-inside, count-inside}
 
-module _ (ws : List ℕ) (at : ℕ) (inside : RootsInside (length (recordsOf ws)) ws at) (x : places.Interaction) (e : x ≡ interactionFrom at (messageLength ws at)) where
+module _ (ws : List ℕ) (at : ℕ) (inside : RootsInside ws at) (x : places.Interaction) (e : x ≡ interactionFrom at (messageLength ws at)) where
   pub fields-named : ReferencesInside ws (x .fields) (x .message)
   fields-named = subst (λ (y : places.Interaction). ReferencesInside ws (y .fields) (y .message)) (sym e) (message-inside ws at inside (messageLength ws at) refl)
 

@@ -109,11 +109,12 @@ module _ (rest : List ℕ) (ws : List ℕ) where
     pub fields-are : fieldWords ws at (length xs) ≡ fieldsOf xs
     fields-are = each-are (fieldsAt ws) (λ (x : Interaction). x .message) (message-is ws) at xs e
 
--- The references are records below a bound.
-pub roots-inside : (bound : ℕ) (rest : List ℕ) (ws : List ℕ) (at : ℕ) (xs : List Interaction) → drop at ws ≡ flatMap interactionWords xs ++ rest
-    → (k : ℕ) → Each (λ i. GoodInteraction bound) k xs → AllRootsInside bound ws at (length xs)
-roots-inside bound rest ws at [] e k g = tt
-roots-inside bound rest ws at (x ∷ xs) e k g =
+-- The references are records of the sheet.
+pub roots-inside : (rest : List ℕ) (ws : List ℕ) (at : ℕ) (xs : List Interaction) → drop at ws ≡ flatMap interactionWords xs ++ rest
+    → (k : ℕ) → Each (λ i. GoodInteraction (length (recordsOf ws))) k xs → AllRootsInside ws at (length xs)
+roots-inside rest ws at [] e k g = tt
+roots-inside rest ws at (x ∷ xs) e k g =
+    let bound : ℕ = length (recordsOf ws) in
     let tail : List ℕ = flatMap interactionWords xs ++ rest in
     let f = first-stands rest ws at x xs e in
     let facts = interaction-facts bound x (g .0) in (
@@ -123,7 +124,7 @@ roots-inside bound rest ws at (x ∷ xs) e k g =
         message = λ j l. subst (λ (c : ℕ). c < bound) (sym (field-word ws at x tail f j l))
             (facts .message (getD (x .message) j 0) (mem-getD (x .message) j (omega (arith, length-is ws at x tail f))));
       },
-      roots-inside bound rest ws (at + (4 + messageLength ws at)) xs (next-stands ws at x tail f) (suc k) (g .1),
+      roots-inside rest ws (at + (4 + messageLength ws at)) xs (next-stands ws at x tail f) (suc k) (g .1),
     )
 
 -- The constraints and the interactions of a checked sheet, where they stand.
@@ -167,6 +168,6 @@ module _ (ws : List ℕ) (h : check prime ws ≡ good (readSheet ws)) where
   pub interactions-stand : (rest : List ℕ) × (drop (interactionsAt ws) ws ≡ flatMap interactionWords (readSheet ws .interactions) ++ rest)
   interactions-stand = (replicate (spare prime ws (readSheet ws) h) 0, interactions-from prime ws (readSheet ws) h)
 
-  pub interactions-inside : AllRootsInside (length (recordsOf ws)) ws (interactionsAt ws) (length (readSheet ws .interactions))
+  pub interactions-inside : AllRootsInside ws (interactionsAt ws) (length (readSheet ws .interactions))
   interactions-inside =
-      roots-inside (length (recordsOf ws)) (interactions-stand .0) ws (interactionsAt ws) (readSheet ws .interactions) (interactions-stand .1) 0 (inside ws h .interactions)
+      roots-inside (interactions-stand .0) ws (interactionsAt ws) (readSheet ws .interactions) (interactions-stand .1) 0 (inside ws h .interactions)

@@ -71,7 +71,7 @@ module _ (ws : List ℕ) where
   references-fewer a n j l h = record { inside = omega (arith, h .inside); below = λ i k. h .below i (omega arith) }
 
 -- The records that one interaction names.
-module _ (ws : List ℕ) (at : ℕ) (inside : RootsInside (length (recordsOf ws)) ws at) where
+module _ (ws : List ℕ) (at : ℕ) (inside : RootsInside ws at) where
   pub message-inside : (len : ℕ) → len ≡ messageLength ws at → ReferencesInside ws (at + 4) len
   message-inside len e = record {
     inside = omega (arith, inside .inside);
@@ -98,15 +98,15 @@ pub record Passed (one : ℕ → List ℕ) (ws : List ℕ) (at count from i : �
   pub i-le : i ≤ count
   pub below : Below (length (recordsOf ws)) references
   pub whole : references ++ eachWords one ws from (count - i) ≡ eachWords one ws at count
-  pub left : AllRootsInside (length (recordsOf ws)) ws from (count - i)
+  pub left : AllRootsInside ws from (count - i)
 
 module _ (one : ℕ → List ℕ) (ws : List ℕ) (at count : ℕ) where
-  pub passed-none : AllRootsInside (length (recordsOf ws)) ws at count → Passed one ws at count at 0 []
+  pub passed-none : AllRootsInside ws at count → Passed one ws at count at 0 []
   passed-none h = record {
     i-le = omega arith;
     below = λ y i. not-in y i;
     whole = ap (eachWords one ws at) all;
-    left = subst (AllRootsInside (length (recordsOf ws)) ws at) (sym all) h;
+    left = subst (AllRootsInside ws at) (sym all) h;
   }
     where
       all : count - 0 ≡ count
@@ -123,10 +123,10 @@ module _ (one : ℕ → List ℕ) (ws : List ℕ) (at count : ℕ) where
       more : count - i ≡ suc (count - (i + 1))
       more = omega arith
 
-      left-now : AllRootsInside (length (recordsOf ws)) ws from (suc (count - (i + 1)))
-      left-now = subst (AllRootsInside (length (recordsOf ws)) ws from) more (h .left)
+      left-now : AllRootsInside ws from (suc (count - (i + 1)))
+      left-now = subst (AllRootsInside ws from) more (h .left)
 
-      pub passed-next : RootsInside (length (recordsOf ws)) ws from
+      pub passed-next : RootsInside ws from
       passed-next = left-now .0
 
       pub passed-more : Below (length (recordsOf ws)) (one from) → (from′ : ℕ) → from′ ≡ from + (4 + messageLength ws from)
@@ -140,5 +140,5 @@ module _ (one : ℕ → List ℕ) (ws : List ℕ) (at count : ℕ) where
             ∙ ap (λ (a : ℕ). references ++ (one from ++ eachWords one ws a (count - (i + 1)))) e
             ∙ ap (λ (j : ℕ). references ++ eachWords one ws from j) (sym more)
             ∙ h .whole;
-        left = subst (λ (a : ℕ). AllRootsInside (length (recordsOf ws)) ws a (count - (i + 1))) (sym e) (left-now .1);
+        left = subst (λ (a : ℕ). AllRootsInside ws a (count - (i + 1))) (sym e) (left-now .1);
       }

@@ -16,17 +16,11 @@ use Rattle.semantics.proofs.Basics.{not-both}
 use Rattle.semantics.proofs.Walks.{fold-keeps, fold-same, by-seen, visit-has, fold-has, visit-fuel, visit-reach, reach-le}
 use Rattle.semantics.proofs.Orders.{not-mem}
 use Rattle.records.specs.Access.{recordsOf}
-use Rattle.records.specs.Orders.{Order, There, Visiting}
+use Rattle.records.specs.Orders.{Order, There, Visiting, Visits, Finishes}
 use Rattle.records.proofs.Steps.{child-low}
 use Rattle.records.proofs.Rooting.{fold-append, order-walk}
 
--- What a visit of record r comes to; the last step of one, when its children are done; and a property that no further record changes.
-abbrev pub Visits : (ws : List ℕ) (r : ℕ) (before after : List ℕ → Type 0) → Type 0
-Visits ws r before after = (done : List ℕ) → Order ws done → before done → after (visit (childrenAt (recordsOf ws)) (suc r) done r)
-
-abbrev pub Finishes : (ws : List ℕ) (r : ℕ) (before after : List ℕ → Type 0) → Type 0
-Finishes ws r before after = (done : List ℕ) → Order ws done → member r done ≡ false → There ws r done → before done → after (r ∷ done)
-
+-- A property that no further record changes.
 abbrev pub Stays : (List ℕ → Type 0) → Type 0
 Stays Q = (done : List ℕ) (i : ℕ) → Q done → Q (i ∷ done)
 

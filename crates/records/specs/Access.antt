@@ -1,10 +1,12 @@
 -- Where a sheet's records, constraints and interactions stand in its words (01, "The sheet").
+use mathlib.Core.Path.{_≡_}
 use mathlib.Core.List.{List, [], _∷_, _++_, flatMap}
 use Prim.Native.Nat.{ℕ, zero, suc, _+_, _≤_, _<_}
 use lib.ListN.{length, getD, take, drop}
+use Rattle.semantics.specs.Answer.{good}
 use Rattle.semantics.specs.Sheet as semantics
 use Rattle.semantics.specs.Sheet.{recordOf, place}
-use Rattle.semantics.specs.Check.{readSheet}
+use Rattle.semantics.specs.Check.{primeOf, readSheet, check}
 use Rattle.records.specs.declared.Record.{Record}
 use Rattle.records.specs.declared.Interaction as places
 
@@ -16,7 +18,10 @@ fiveWords r = recordOf (r .kind) (r .a) (r .b) (r .c) (r .d)
 abbrev pub nodeIn : List ℕ → ℕ → semantics.Record
 nodeIn ws i = recordOf (getD ws (place 5 i) 0) (getD ws (place 5 i + 1) 0) (getD ws (place 5 i + 2) 0) (getD ws (place 5 i + 3) 0) (getD ws (place 5 i + 4) 0)
 
--- The records that the words say.
+-- The words are a sheet; its records.
+abbrev pub IsSheet : List ℕ → Type 0
+IsSheet ws = check (primeOf ws) ws ≡ good (readSheet ws)
+
 abbrev pub recordsOf : List ℕ → List semantics.Record
 recordsOf ws = readSheet ws .records
 
@@ -66,15 +71,15 @@ pub record ReferencesInside (ws : List ℕ) (at count : ℕ) : Type 0 where
   pub inside : at + count ≤ length ws
   pub below : (j : ℕ) → j < count → getD ws (at + j) 0 < length (recordsOf ws)
 
--- The interactions from `at` on name records below a bound.
-pub record RootsInside (bound : ℕ) (ws : List ℕ) (at : ℕ) : Type 0 where
+-- The interaction at `at` names records of the sheet, and the n interactions from there on do.
+pub record RootsInside (ws : List ℕ) (at : ℕ) : Type 0 where
   pub inside : at + (4 + messageLength ws at) ≤ length ws
-  pub count : getD ws (at + 2) 0 < bound
-  pub message : (j : ℕ) → j < messageLength ws at → getD ws (at + 4 + j) 0 < bound
+  pub count : getD ws (at + 2) 0 < length (recordsOf ws)
+  pub message : (j : ℕ) → j < messageLength ws at → getD ws (at + 4 + j) 0 < length (recordsOf ws)
 
-abbrev pub AllRootsInside : (bound : ℕ) (ws : List ℕ) (at n : ℕ) → Type 0
-AllRootsInside bound ws at zero = Unit {0}
-AllRootsInside bound ws at (suc n) = RootsInside bound ws at × AllRootsInside bound ws (at + (4 + messageLength ws at)) n
+abbrev pub AllRootsInside : (ws : List ℕ) (at n : ℕ) → Type 0
+AllRootsInside ws at zero = Unit {0}
+AllRootsInside ws at (suc n) = RootsInside ws at × AllRootsInside ws (at + (4 + messageLength ws at)) n
 
 -- The same of interactions that are read: the references of one, of some, their counts and their fields.
 abbrev pub referencesOf : semantics.Interaction → List ℕ

@@ -5,11 +5,10 @@ ghost use Prim.Native.Nat.{_+_, _^_, _≤_, _<_};
 ghost use lib.ListN.{length, getD};
 ghost use lib.Seq.{sets};
 ghost use Rattle.slices.specs.Lent.{old, new};
-ghost use Rattle.semantics.specs.Answer.{good};
 ghost use Rattle.semantics.specs.Sheet.{recordWords, place};
-ghost use Rattle.semantics.specs.Check.{primeOf, readSheet, check};
+ghost use Rattle.semantics.specs.Check.{readSheet};
 ghost use Rattle.semantics.specs.Graph.{equalRecords};
-ghost use Rattle.records.specs.Access.{fiveWords, nodeIn, constraintsAt, interactionsAt, messageLength, interactionFrom};
+ghost use Rattle.records.specs.Access.{IsSheet, fiveWords, nodeIn, constraintsAt, interactionsAt, messageLength, interactionFrom};
 
 // A record as five words.
 pub struct Record {
@@ -114,7 +113,7 @@ pub fn put_head(out: &mut [u32], records: usize, constraints: usize, interaction
 
 // How many constraints a checked sheet has.
 pub fn num_constraints(sheet: &[u32]) -> usize
-    requires { ⌜ check (primeOf (now sheet)) (now sheet) ≡ good (readSheet (now sheet)) ⌝ }
+    requires { ⌜ IsSheet (now sheet) ⌝ }
     ensures { λ r. ⌜ r ≡ length (readSheet (old sheet) .constraints) ⌝ }
 {
     answers::wide(sheet[2])
@@ -122,7 +121,7 @@ pub fn num_constraints(sheet: &[u32]) -> usize
 
 // How many interactions it has.
 pub fn num_interactions(sheet: &[u32]) -> usize
-    requires { ⌜ check (primeOf (now sheet)) (now sheet) ≡ good (readSheet (now sheet)) ⌝ }
+    requires { ⌜ IsSheet (now sheet) ⌝ }
     ensures { λ r. ⌜ r ≡ length (readSheet (old sheet) .interactions) ⌝ }
 {
     answers::wide(sheet[3])
@@ -130,7 +129,7 @@ pub fn num_interactions(sheet: &[u32]) -> usize
 
 // Where the constraints of a checked sheet start.
 pub fn constraints_at(sheet: &[u32]) -> usize
-    requires { ⌜ check (primeOf (now sheet)) (now sheet) ≡ good (readSheet (now sheet)) ⌝ }
+    requires { ⌜ IsSheet (now sheet) ⌝ }
     ensures { λ r. ⌜ r ≡ constraintsAt (old sheet) ⌝ }
 {
     records_end(answers::wide(sheet[1]))
@@ -138,7 +137,7 @@ pub fn constraints_at(sheet: &[u32]) -> usize
 
 // Where its interactions start.
 pub fn interactions_at(sheet: &[u32]) -> usize
-    requires { ⌜ check (primeOf (now sheet)) (now sheet) ≡ good (readSheet (now sheet)) ⌝ }
+    requires { ⌜ IsSheet (now sheet) ⌝ }
     ensures { λ r. ⌜ r ≡ interactionsAt (old sheet) ⌝ }
 {
     constraints_at(sheet) + num_constraints(sheet)

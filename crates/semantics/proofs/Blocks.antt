@@ -154,7 +154,7 @@ oneOutput ws = record { outputs = ws ∷ []; numbers = [] }
 -- What the reader hands back for blocks that read as some words.
 pub reader-reads : (n : ℕ) (bytes ws : List ℕ) (out : ℕ) → length bytes ≡ 512 * n → 1 ≤ n → n ≤ 710 → 127 * n ≤ out
     → readBlocks n 0 bytes ≡ good ws
-    → Accepted (readerCall bytes out) × (handedBack 0 (readerCall bytes out) 0 ≡ ws)
+    → Accepted (readerCall bytes (out ∷ [])) × (handedBack 0 (readerCall bytes (out ∷ [])) 0 ≡ ws)
 unfolding readerCall andThen result
 reader-reads n bytes ws out e l h r g =
     (accepted [] (out ∷ []) _ (oneOutput ws) answer, handed-back [] (out ∷ []) _ (oneOutput ws) answer 0 (omega arith))
@@ -176,7 +176,7 @@ reader-reads n bytes ws out e l h r g =
 
 -- What the writer hands back for a sheet.
 pub writer-writes : (p : ℕ) (ws : List ℕ) (s : Sheet) (out : ℕ) → check p ws ≡ good s → 512 * blocksFor (lengthOf s) ≤ out
-    → Accepted (writerCall p ws out) × (handedBack 0 (writerCall p ws out) 0 ≡ writeBlocks (blocksFor (lengthOf s)) 0 (encode s))
+    → Accepted (writerCall p ws (out ∷ [])) × (handedBack 0 (writerCall p ws (out ∷ [])) 0 ≡ writeBlocks (blocksFor (lengthOf s)) 0 (encode s))
 unfolding writerCall onSheet andThen result
 writer-writes p ws s out h r =
     (accepted [] (out ∷ []) _ (oneOutput (bytes s)) answer, handed-back [] (out ∷ []) _ (oneOutput (bytes s)) answer 0 (omega arith))
@@ -200,9 +200,9 @@ sheet-blocks p s h =
 
 pub written-read : (p : ℕ) (ws : List ℕ) (s : Sheet) (out out′ : ℕ) → check p ws ≡ good s → Words (encode s)
     → 512 * blocksFor (lengthOf s) ≤ out → 127 * blocksFor (lengthOf s) ≤ out′
-    → Accepted (writerCall p ws out)
-    × Accepted (readerCall (handedBack 0 (writerCall p ws out) 0) out′)
-    × (handedBack 0 (readerCall (handedBack 0 (writerCall p ws out) 0) out′) 0 ≡ firstWords (127 * blocksFor (lengthOf s)) (encode s))
+    → Accepted (writerCall p ws (out ∷ []))
+    × Accepted (readerCall (handedBack 0 (writerCall p ws (out ∷ [])) 0) (out′ ∷ []))
+    × (handedBack 0 (readerCall (handedBack 0 (writerCall p ws (out ∷ [])) 0) (out′ ∷ [])) 0 ≡ firstWords (127 * blocksFor (lengthOf s)) (encode s))
 written-read p ws s out out′ h w l l′ =
     let n : ℕ = blocksFor (lengthOf s) in
     let b = sheet-blocks p s (check-inside p ws s h) in

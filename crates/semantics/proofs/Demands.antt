@@ -15,7 +15,7 @@ use Rattle.semantics.specs.Graph.{graphOf, graphRoots}
 use Rattle.semantics.specs.Monomial.{Monomial, listAt}
 use Rattle.semantics.specs.Expand.{expandAll}
 use Rattle.semantics.specs.Group.{Root, labelled, constraintRoots, countRoots, fieldRoots, Item, constraintTerm, interactionTerm, listed, layout}
-use Rattle.semantics.specs.Call.{Outcome, Result, Accepted, handedBack, needs, result, onSheet, builderCall, fitted, family, expansion, constraintOutputs}
+use Rattle.semantics.specs.Call.{Outcome, Result, Accepted, handedBack, needs, result, onSheet, builderCall, fitted, family, expansionOf, expansion, constraintOutputs}
 use Rattle.semantics.specs.Call.{constraintCall, interactionOutputs, maxFieldsLen, interactionCall}
 use Rattle.semantics.specs.Refusals.{ofSheet, ofExpansion}
 use Rattle.semantics.specs.Demand.{Assignment, productOf, sumOf, ofConstraint, ofCount, ofField, second, first, Ascending, NonZero, noInteraction}
@@ -125,9 +125,11 @@ module _ (p : ℕ) (ws : List ℕ) (work pool : ℕ) (lent : List ℕ) (roots : 
   answer : Answer Result
   answer = onSheet p ws (λ s. needs 14 4096 work (after-work s))
 
-  pub expanded : Accepted (expansion p ws work pool lent roots outputs numbers)
-      → Expanded p ws pool roots outputs (expansion p ws work pool lent roots outputs numbers)
-  unfolding expansion answer after-work after-pool walk onSheet
+  abbrev pub call : Outcome
+  call = expansion p ws (work ∷ pool ∷ lent) (expansionOf p (work ∷ pool ∷ lent) roots outputs numbers)
+
+  pub expanded : Accepted call → Expanded p ws pool roots outputs call
+  unfolding expansion expansionOf answer after-work after-pool walk onSheet
   expanded a =
       let within = expansion-within p ws work pool lent roots outputs numbers in
       let r = accepted-result (work ∷ pool ∷ []) lent (ofSheet ++ ofExpansion) answer (unfold member in refl) within a in
@@ -173,11 +175,11 @@ roots-small p big s w [] = tt
 roots-small p big s w (r ∷ roots) = (lists-small p big (s .records) (w .records) (r .node), roots-small p big s w roots)
 
 module _ (p : ℕ) (big : 1 < p) where
-  pub constraint-rule : (ws : List ℕ) (work pool h v t : ℕ) → Accepted (constraintCall p ws work pool h v t)
-      → (s : Sheet) × (check p ws ≡ good s) × ConstraintRule p s (constraintCall p ws work pool h v t)
+  pub constraint-rule : (ws : List ℕ) (work pool h v t : ℕ) → Accepted (constraintCall p ws (work ∷ pool ∷ h ∷ v ∷ t ∷ []))
+      → (s : Sheet) × (check p ws ≡ good s) × ConstraintRule p s (constraintCall p ws (work ∷ pool ∷ h ∷ v ∷ t ∷ []))
   unfolding constraintCall constraintOutputs family layout
   constraint-rule ws work pool h v t a =
-      let o : Outcome = constraintCall p ws work pool h v t in
+      let o : Outcome = constraintCall p ws (work ∷ pool ∷ h ∷ v ∷ t ∷ []) in
       let e = expanded p ws work pool (h ∷ v ∷ t ∷ []) constraintRoots (constraintOutputs p) (λ s. []) (λ s. omega arith) a in
       let s : Sheet = e .sheet in
       let w = check-inside p ws s (e .checked) in
@@ -195,11 +197,11 @@ module _ (p : ℕ) (big : 1 < p) where
         },
       )
 
-  pub interaction-rule : (ws : List ℕ) (work pool h v t h′ v′ t′ : ℕ) → Accepted (interactionCall p ws work pool h v t h′ v′ t′)
-      → (s : Sheet) × (check p ws ≡ good s) × InteractionRule p s (interactionCall p ws work pool h v t h′ v′ t′)
+  pub interaction-rule : (ws : List ℕ) (work pool h v t h′ v′ t′ : ℕ) → Accepted (interactionCall p ws (work ∷ pool ∷ h ∷ v ∷ t ∷ h′ ∷ v′ ∷ t′ ∷ []))
+      → (s : Sheet) × (check p ws ≡ good s) × InteractionRule p s (interactionCall p ws (work ∷ pool ∷ h ∷ v ∷ t ∷ h′ ∷ v′ ∷ t′ ∷ []))
   unfolding interactionCall interactionOutputs family layout
   interaction-rule ws work pool h v t h′ v′ t′ a =
-      let o : Outcome = interactionCall p ws work pool h v t h′ v′ t′ in
+      let o : Outcome = interactionCall p ws (work ∷ pool ∷ h ∷ v ∷ t ∷ h′ ∷ v′ ∷ t′ ∷ []) in
       let e = expanded p ws work pool (h ∷ v ∷ t ∷ h′ ∷ v′ ∷ t′ ∷ []) (λ s. countRoots s ++ fieldRoots s) (interactionOutputs p)
       (λ s. length (s .interactions) ∷ maxFieldsLen s ∷ []) (λ s. omega arith) a in
       let s : Sheet = e .sheet in
@@ -234,8 +236,8 @@ module _ (p : ℕ) (big : 1 < p) where
   builder-answer ws scratch out =
       onSheet p ws (λ s. needs 14 (length (s .records)) scratch (needs 15 (lengthOf s) out (result (encode (graphOf p s) ∷ []) [])))
 
-  builder-words : (ws : List ℕ) (scratch out : ℕ) → Accepted (builderCall p ws scratch out)
-      → (s : Sheet) × (check p ws ≡ good s) × (handedBack 1 (builderCall p ws scratch out) 0 ≡ encode (graphOf p s))
+  builder-words : (ws : List ℕ) (scratch out : ℕ) → Accepted (builderCall p ws (scratch ∷ out ∷ []))
+      → (s : Sheet) × (check p ws ≡ good s) × (handedBack 1 (builderCall p ws (scratch ∷ out ∷ [])) 0 ≡ encode (graphOf p s))
   unfolding builderCall builder-answer onSheet result
   builder-words ws scratch out a =
       let rest : Sheet → Answer Result = λ s. needs 14 (length (s .records)) scratch (needs 15 (lengthOf s) out (result (encode (graphOf p s) ∷ []) [])) in
@@ -276,19 +278,19 @@ module _ (p : ℕ) (big : 1 < p) where
 
   -- The expansions of the graph's words, against the source.
   module _ (s : Sheet) (w : Inside p s) (g : List ℕ) (e : check p g ≡ good (graphOf p s)) where
-    graph-constraints : (work pool h v t : ℕ) → Accepted (constraintCall p g work pool h v t) → GraphConstraintRule p s (constraintCall p g work pool h v t)
+    graph-constraints : (work pool h v t : ℕ) → Accepted (constraintCall p g (work ∷ pool ∷ h ∷ v ∷ t ∷ [])) → GraphConstraintRule p s (constraintCall p g (work ∷ pool ∷ h ∷ v ∷ t ∷ []))
     graph-constraints work pool h v t a =
         let r = constraint-rule g work pool h v t a in
-        let rule = subst (λ (u : Sheet). ConstraintRule p u (constraintCall p g work pool h v t)) (good-injective (sym (r .1) ∙ e)) (r .2) in
+        let rule = subst (λ (u : Sheet). ConstraintRule p u (constraintCall p g (work ∷ pool ∷ h ∷ v ∷ t ∷ []))) (good-injective (sym (r .1) ∙ e)) (r .2) in
         record {
           constraint = λ A j q b c d. rule .value A q c ∙ ap (valueAt p (A .at) (graphOf p s .records)) d ∙ constraint-kept p big s w A j b;
         }
 
-    graph-interactions : (work pool h v t h′ v′ t′ : ℕ) → Accepted (interactionCall p g work pool h v t h′ v′ t′)
-        → GraphInteractionRule p s (interactionCall p g work pool h v t h′ v′ t′)
+    graph-interactions : (work pool h v t h′ v′ t′ : ℕ) → Accepted (interactionCall p g (work ∷ pool ∷ h ∷ v ∷ t ∷ h′ ∷ v′ ∷ t′ ∷ []))
+        → GraphInteractionRule p s (interactionCall p g (work ∷ pool ∷ h ∷ v ∷ t ∷ h′ ∷ v′ ∷ t′ ∷ []))
     graph-interactions work pool h v t h′ v′ t′ a =
         let r = interaction-rule g work pool h v t h′ v′ t′ a in
-        let rule = subst (λ (u : Sheet). InteractionRule p u (interactionCall p g work pool h v t h′ v′ t′)) (good-injective (sym (r .1) ∙ e)) (r .2) in
+        let rule = subst (λ (u : Sheet). InteractionRule p u (interactionCall p g (work ∷ pool ∷ h ∷ v ∷ t ∷ h′ ∷ v′ ∷ t′ ∷ []))) (good-injective (sym (r .1) ∙ e)) (r .2) in
         record {
           count = λ A i b. rule .count A i (omega (arith, same-interactions p big s w)) ∙ count-kept p big s w A i b;
           field = λ A i f b c.
@@ -296,25 +298,25 @@ module _ (p : ℕ) (big : 1 < p) where
         }
 
   -- The words that the builder hands back are the graph's.
-  graph-checked : (ws : List ℕ) (scratch out : ℕ) (s : Sheet) → Accepted (builderCall p ws scratch out) → check p ws ≡ good s
-      → check p (handedBack 1 (builderCall p ws scratch out) 0) ≡ good (graphOf p s)
+  graph-checked : (ws : List ℕ) (scratch out : ℕ) (s : Sheet) → Accepted (builderCall p ws (scratch ∷ out ∷ [])) → check p ws ≡ good s
+      → check p (handedBack 1 (builderCall p ws (scratch ∷ out ∷ [])) 0) ≡ good (graphOf p s)
   graph-checked ws scratch out s a c =
       let b = builder-words ws scratch out a in
       let q : b .0 ≡ s = good-injective (sym (b .1) ∙ c) in
-      graph-rule s (handedBack 1 (builderCall p ws scratch out) 0) (check-inside p ws s c) (b .2 ∙ ap (λ (u : Sheet). encode (graphOf p u)) q) .sheet
+      graph-rule s (handedBack 1 (builderCall p ws (scratch ∷ out ∷ [])) 0) (check-inside p ws s c) (b .2 ∙ ap (λ (u : Sheet). encode (graphOf p u)) q) .sheet
 
   -- Demand 3, whole.
   pub demand : Demand p
   demand = record {
     graph = λ ws scratch out a.
         let b = builder-words ws scratch out a in
-        (b .0, b .1, graph-rule (b .0) (handedBack 1 (builderCall p ws scratch out) 0) (check-inside p ws (b .0) (b .1)) (b .2));
+        (b .0, b .1, graph-rule (b .0) (handedBack 1 (builderCall p ws (scratch ∷ out ∷ [])) 0) (check-inside p ws (b .0) (b .1)) (b .2));
     constraints = constraint-rule;
     interactions = interaction-rule;
     graphConstraints = λ ws scratch out s a c.
-        graph-constraints s (check-inside p ws s c) (handedBack 1 (builderCall p ws scratch out) 0) (graph-checked ws scratch out s a c);
+        graph-constraints s (check-inside p ws s c) (handedBack 1 (builderCall p ws (scratch ∷ out ∷ [])) 0) (graph-checked ws scratch out s a c);
     graphInteractions = λ ws scratch out s a c.
-        graph-interactions s (check-inside p ws s c) (handedBack 1 (builderCall p ws scratch out) 0) (graph-checked ws scratch out s a c);
+        graph-interactions s (check-inside p ws s c) (handedBack 1 (builderCall p ws (scratch ∷ out ∷ [])) 0) (graph-checked ws scratch out s a c);
   }
 
 -- For the prime of the calls.

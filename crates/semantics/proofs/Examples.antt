@@ -20,7 +20,7 @@ use Rattle.semantics.specs.Expand.{longer, workFault, listSize, recordFa
 use Rattle.semantics.specs.Group.{labelled, constraintRoots, countRoots, fieldRoots, itemsOf, items, key, later, push, split, groups, constraintTerm}
 use Rattle.semantics.specs.Group.{interactionTerm, headers, variables, terms, layout, listedAt, listed}
 use Rattle.semantics.specs.Call.{Outcome, acceptedWith, refusedWith, zeros, padded, paddedAll, outcome, handedBack, needs, result, packCall, readerCall}
-use Rattle.semantics.specs.Call.{onSheet, writerCall, builderCall, maxRotationCall, firstShort, fitted, family, expansion, constraintOutputs}
+use Rattle.semantics.specs.Call.{onSheet, writerCall, builderCall, maxRotationCall, firstShort, fitted, family, expansionOf, expansion, constraintOutputs}
 use Rattle.semantics.specs.Call.{constraintCall, interactionOutputs, maxFieldsLen, interactionCall}
 use Rattle.semantics.specs.Sheetlist.{digits, decimal, hexDigit, hexDigits, integer, signed, line, tLine, uLine, wLine, headerLines, step}
 use Rattle.semantics.specs.Sheetlist.{interactionLines, constraintLines, graphLines, sheetLines, sheetlist}
@@ -54,7 +54,7 @@ unfolding sheetOf builderCall outcome onSheet needs result andThen zeros padded 
     encode headWords recordWords interactionWords lengthOf flatMap graphOf built build addRecord takeIn pick nodeFor setNum intern find equalRecords
     addRule subRule negRule mulRule ifConstants isConst ifNeg graphRoots insertOnce sortedOnce renamed order visit foldLeft member children childrenAt
     recordAt nodeOf leafOf addM subM mulM negM
-builds rs cs = builderCall prime (encode (sheetOf rs cs)) (length rs + 3) (lengthOf (sheetOf rs cs) + 3)
+builds rs cs = builderCall prime (encode (sheetOf rs cs)) ((length rs + 3) ∷ (lengthOf (sheetOf rs cs) + 3) ∷ [])
 
 -- Nodes and constraints as the words of the sheet that has them.
 words : List Record → List ℕ → List ℕ
@@ -70,11 +70,11 @@ graph scratch ws behind = record {
 
 -- The constraint call on some words, lent a pool of 60 words and outputs of 8.
 expands : List ℕ → Outcome
-unfolding builds constraintCall expansion expandAll expandRecord recordFault workFault longer listSize packFault fitted firstShort
+unfolding builds constraintCall expansion expansionOf expandAll expandRecord recordFault workFault longer listSize packFault fitted firstShort
     constraintOutputs family layout groups split push sort insertSorted later key items itemsOf labelled constraintRoots constraintTerm headers
     variables terms listAt lists fill recordList finished working combine insertMonomial keep plus products mulMonomial negMonomial above before
     beforeVars packed
-expands ws = constraintCall prime ws 4096 60 8 8 8
+expands ws = constraintCall prime ws (4096 ∷ 60 ∷ 8 ∷ 8 ∷ 8 ∷ [])
 
 -- Number 0 and the three counts; work and pool are zero; headers, variables and terms, with zeros behind them.
 expanded : (hs vs ts : List ℕ) → Outcome
@@ -144,7 +144,7 @@ unfolding listingSheet expands handedBack writerCall writeBlocks blockBytes firs
     sheetlist readerCall badLength readBlocks blockGood sheetLines graphLines constraintLines interactionLines step headerLines tLine uLine wLine line
     signed integer signedOf decimal digits hexDigits hexDigit maxRotationCall maxRotation rotation interactionCall interactionOutputs maxFieldsLen
     countRoots fieldRoots interactionTerm listed listedAt rows
-listing = sheetlist prime (handedBack 0 (writerCall prime (encode listingSheet) 512) 0)
+listing = sheetlist prime (handedBack 0 (writerCall prime (encode listingSheet) (512 ∷ [])) 0)
 
 -- The text in 01, line by line.
 text : List ℕ
@@ -206,14 +206,14 @@ further :
     × (expands (words (v ∷ w ∷ recordOf 6 0 1 1 0 ∷ []) (0 ∷ 2 ∷ []))
     ≡ expanded (0 ∷ 0 ∷ 1 ∷ 2 ∷ 1 ∷ 2 ∷ 1 ∷ 1 ∷ []) (1 ∷ 65537 ∷ []) (0 ∷ 1 ∷ 1 ∷ 1 ∷ 1 ∷ 1 ∷ []))
     -- the field's record goes in before the count's
-    × (builderCall prime (encode (oneField 0 1 (v ∷ w ∷ []))) 2 19 ≡ graph 2 (encode (oneField 1 0 (w ∷ v ∷ []))) 0)
+    × (builderCall prime (encode (oneField 0 1 (v ∷ w ∷ []))) (2 ∷ 19 ∷ []) ≡ graph 2 (encode (oneField 1 0 (w ∷ v ∷ []))) 0)
     -- the largest offset is of any variable, and the largest message of any interaction
     × (maxRotationCall prime (words (recordOf 1 1 0 3 0 ∷ recordOf 1 0 0 5 0 ∷ recordOf 6 0 1 7 0 ∷ []) []) ≡ answers (5 ∷ []))
-    × (interactionCall prime (encode (twoMessages 0 (v ∷ []))) 4096 60 8 8 8 8 8 8 .reply ≡ acceptedWith (4 ∷ 1 ∷ 6 ∷ 4 ∷ 1 ∷ 6 ∷ []) (2 ∷ 2 ∷ []))
+    × (interactionCall prime (encode (twoMessages 0 (v ∷ []))) (4096 ∷ 60 ∷ 8 ∷ 8 ∷ 8 ∷ 8 ∷ 8 ∷ 8 ∷ []) .reply ≡ acceptedWith (4 ∷ 1 ∷ 6 ∷ 4 ∷ 1 ∷ 6 ∷ []) (2 ∷ 2 ∷ []))
     -- a list that just goes into the pool, and one that does not; the first slice that is too short
-    × (constraintCall prime (words (v ∷ []) (0 ∷ [])) 4096 5 4 1 2 .reply ≡ acceptedWith (4 ∷ 1 ∷ 2 ∷ []) [])
-    × (constraintCall prime (words (v ∷ []) (0 ∷ [])) 4096 4 4 1 2 .reply ≡ refusedWith 16 0)
-    × (constraintCall prime (words (v ∷ []) (0 ∷ [])) 4096 5 4 0 1 .reply ≡ refusedWith 17 2)
+    × (constraintCall prime (words (v ∷ []) (0 ∷ [])) (4096 ∷ 5 ∷ 4 ∷ 1 ∷ 2 ∷ []) .reply ≡ acceptedWith (4 ∷ 1 ∷ 2 ∷ []) [])
+    × (constraintCall prime (words (v ∷ []) (0 ∷ [])) (4096 ∷ 4 ∷ 4 ∷ 1 ∷ 2 ∷ []) .reply ≡ refusedWith 16 0)
+    × (constraintCall prime (words (v ∷ []) (0 ∷ [])) (4096 ∷ 5 ∷ 4 ∷ 0 ∷ 1 ∷ []) .reply ≡ refusedWith 17 2)
     -- 256 working monomials pass, 272 give 12 although only 152 are left of them when they are combined
     × (fault (recordOf 9 31 31 2 0) ≡ 0)
     × (fault (recordOf 9 31 32 2 0) ≡ 12)

@@ -25,6 +25,7 @@ pub mod Access
 pub mod Blocks
 pub mod Acceptance
 pub mod Refusals
+pub mod LowPlaces
 pub mod Demands
 pub mod HeaderSizes
 pub mod Listings

@@ -16,7 +16,7 @@ use Rattle.semantics.specs.Walk.{Mem, member, order}
 use Rattle.semantics.specs.Expand.{expandAll}
 use Rattle.semantics.specs.Graph.{graphOf, maxRotation}
 use Rattle.semantics.specs.Group.{Root}
-use Rattle.semantics.specs.Call.{Result, outcome, needs, result, onSheet, fitted, expansion}
+use Rattle.semantics.specs.Call.{Result, outcome, needs, result, onSheet, expansionOf, expansion}
 use Rattle.semantics.specs.Call.{blockCheckCall, readerCall, writerCall, checkCall, builderCall, maxRotationCall, numConstraintsCall, conversionCall}
 use Rattle.semantics.specs.Call.{packCall, variableCall, unpackCall, constraintCall, interactionCall}
 use Rattle.semantics.specs.Refusals.{Sends, ofSheet, ofExpansion, Refusals}
@@ -69,10 +69,8 @@ builder-within p ws scratch out =
 
 pub expansion-within : (p : ℕ) (ws : List ℕ) (work pool : ℕ) (lent : List ℕ) (roots : Sheet → List Root) (outputs : Sheet → List (List ℕ)) (numbers : Sheet → List ℕ)
     → Within (ofSheet ++ ofExpansion)
-    (onSheet p ws (λ s. needs 14 4096 work (needs 14 (2 * length (s .records)) pool
-    (andThen (expandAll p (s .records) pool (order (s .records) (map (λ (r : Root). r .node) (roots s))))
-    (λ used. fitted (outputs s) lent (numbers s))))))
-unfolding member
+    (onSheet p ws (expansionOf p (work ∷ pool ∷ lent) roots outputs numbers))
+unfolding member expansionOf
 expansion-within p ws work pool lent roots outputs numbers =
     sheet-within ofExpansion p ws _
     (λ s. needs-sent _ 14 4096 work _ refl (needs-sent _ 14 (2 * length (s .records)) pool _ refl
@@ -81,7 +79,7 @@ expansion-within p ws work pool lent roots outputs numbers =
     (λ used. fitted-sent _ refl (outputs s) lent (numbers s)))))
 
 expansion-sends : (p : ℕ) (ws : List ℕ) (work pool : ℕ) (lent : List ℕ) (roots : Sheet → List Root) (outputs : Sheet → List (List ℕ)) (numbers : Sheet → List ℕ)
-    → Sends (ofSheet ++ ofExpansion) (expansion p ws work pool lent roots outputs numbers)
+    → Sends (ofSheet ++ ofExpansion) (expansion p ws (work ∷ pool ∷ lent) (expansionOf p (work ∷ pool ∷ lent) roots outputs numbers))
 unfolding expansion
 expansion-sends p ws work pool lent roots outputs numbers =
     sends (ofSheet ++ ofExpansion) (work ∷ pool ∷ []) lent _ (expansion-within p ws work pool lent roots outputs numbers)
@@ -111,7 +109,7 @@ row-short k =
     all-at (λ (u : List ℕ). length u ≤ 4) table (k - 1) [] (omega arith)
     (omega arith, (omega arith, (omega arith, (omega arith, (omega arith, (omega arith, (omega arith, (omega arith, (omega arith, tt)))))))))
 
-tests-short : (r : Record) → length (leafTests (recordWords r)) ≤ length (recordWords r)
+pub tests-short : (r : Record) → length (leafTests (recordWords r)) ≤ length (recordWords r)
 unfolding leafTests recordWords
 tests-short r = simp length-map (omega (arith, row-short (r .kind)))
 

@@ -5,7 +5,8 @@ use mathlib.Core.Bool.{Bool, cond}
 use mathlib.Core.List.{List, [], _∷_, _++_, map, foldr}
 use Prim.Native.Nat.{ℕ, suc, _+_, _*_, _-_, _/_, max}
 use lib.Dec.{eqb, leb}
-use lib.ListN.{length, getD, take, replicate}
+use lib.ListN.{length, getD, take, drop, replicate}
+use Rattle.slices.specs.Lent.{Lent, lengths, contents}
 use Rattle.semantics.specs.Answer.{Answer, good, refused, andThen}
 use Rattle.semantics.specs.Sheet.{Record, Interaction, Sheet, recordWords, encode, lengthOf, place}
 use Rattle.semantics.specs.Check.{check}
@@ -36,9 +37,20 @@ pub record Outcome : Type 0 where
   pub reply : Reply
   pub slices : List (List ℕ)
 
--- A call handed back what an outcome says: the fields of a reply, and every slice lent for writing.
+-- A call handed back what an outcome says: the fields of a reply, as C has them, and every slice lent for writing.
 abbrev pub Handed : {X : Type 0} → (fields : Reply → X) → X → (slices : List (List ℕ)) → Outcome → Type 0
 Handed fields x slices o = (x ≡ fields (o .reply)) × (slices ≡ o .slices)
+
+-- What a call handed back: the reply that its answer stands for, and what every slice lent for writing holds.
+abbrev pub handed : {X : Type 0} → (replyOf : X → Reply) → X → List Lent → Outcome
+handed replyOf x lent = record { reply = replyOf x; slices = contents lent }
+
+-- That is the call's outcome for the lengths that were lent; the same where it hands back the fields of a reply.
+abbrev pub Gives : {X : Type 0} → (replyOf : X → Reply) → X → List Lent → (call : List ℕ → Outcome) → Type 0
+Gives replyOf x lent call = handed replyOf x lent ≡ call (lengths lent)
+
+abbrev pub Returns : {X : Type 0} → (fields : Reply → X) → X → List Lent → (call : List ℕ → Outcome) → Type 0
+Returns fields x lent call = Handed fields x (contents lent) (call (lengths lent))
 
 -- What an accepted call writes to its outputs, and the further numbers.
 pub record Result : Type 0 where
@@ -86,12 +98,13 @@ result outputs numbers = good (record { outputs = outputs; numbers = numbers })
 unfoldable pub blockCheckCall : (bytes : List ℕ) (number : ℕ) → Outcome
 blockCheckCall bytes number = outcome [] [] (andThen (blockCheck number bytes) (λ (yes′ : Bool). result [] (cond yes′ 1 0 ∷ [])))
 
+-- A call that writes takes the lengths of the slices lent to it, in the order in which it takes the slices.
 -- "Reader: 1, 15, 2."
-unfoldable pub readerCall : (bytes : List ℕ) (out : ℕ) → Outcome
-readerCall bytes out =
-    outcome [] (out ∷ [])
+unfoldable pub readerCall : (bytes lent : List ℕ) → Outcome
+readerCall bytes lent =
+    outcome [] lent
     (cond (badLength (length bytes)) (refused 1 0)
-    (needs 15 (127 * (length bytes / 512)) out
+    (needs 15 (127 * (length bytes / 512)) (getD lent 0 0)
     (andThen (readBlocks (length bytes / 512) 0 bytes) (λ ws. result (ws ∷ []) []))))
 
 -- "Every sheet call first checks it (3 to 7)": the rest of a call, for the sheet that the words are.
@@ -99,10 +112,10 @@ unfoldable pub onSheet : (p : ℕ) → List ℕ → (Sheet → Answer Result) �
 onSheet p ws rest = andThen (check p ws) rest
 
 -- The block writer; its output is counted in bytes.
-unfoldable pub writerCall : (p : ℕ) (ws : List ℕ) (out : ℕ) → Outcome
-writerCall p ws out =
-    outcome [] (out ∷ [])
-    (onSheet p ws (λ s. needs 15 (512 * blocksFor (lengthOf s)) out
+unfoldable pub writerCall : (p : ℕ) (ws lent : List ℕ) → Outcome
+writerCall p ws lent =
+    outcome [] lent
+    (onSheet p ws (λ s. needs 15 (512 * blocksFor (lengthOf s)) (getD lent 0 0)
     (result (writeBlocks (blocksFor (lengthOf s)) 0 (encode s) ∷ []) [])))
 
 -- The sheet check: E, C, I, L and where the interactions start.
@@ -114,10 +127,10 @@ checkCall p ws =
     ∷ (place 5 (length (s .records)) + length (s .constraints)) ∷ [])))
 
 -- The builder: "Scratch E words; output L words."
-unfoldable pub builderCall : (p : ℕ) (ws : List ℕ) (scratch out : ℕ) → Outcome
-builderCall p ws scratch out =
-    outcome (scratch ∷ []) (out ∷ [])
-    (onSheet p ws (λ s. needs 14 (length (s .records)) scratch (needs 15 (lengthOf s) out
+unfoldable pub builderCall : (p : ℕ) (ws lent : List ℕ) → Outcome
+builderCall p ws lent =
+    outcome (take 1 lent) (drop 1 lent)
+    (onSheet p ws (λ s. needs 14 (length (s .records)) (getD lent 0 0) (needs 15 (lengthOf s) (getD lent 1 0)
     (result (encode (graphOf p s) ∷ []) []))))
 
 -- "`num_constraints` is C of the sheet given .. Both hand back the number with 0."
@@ -128,8 +141,8 @@ unfoldable pub numConstraintsCall : (p : ℕ) (ws : List ℕ) → Outcome
 numConstraintsCall p ws = outcome [] [] (onSheet p ws (λ s. result [] (length (s .constraints) ∷ [])))
 
 -- "The conversion .. copies the L words as an expression sheet."
-unfoldable pub conversionCall : (p : ℕ) (ws : List ℕ) (out : ℕ) → Outcome
-conversionCall p ws out = outcome [] (out ∷ []) (onSheet p ws (λ s. needs 15 (lengthOf s) out (result (encode s ∷ []) [])))
+unfoldable pub conversionCall : (p : ℕ) (ws lent : List ℕ) → Outcome
+conversionCall p ws lent = outcome [] lent (onSheet p ws (λ s. needs 15 (lengthOf s) (getD lent 0 0) (result (encode s ∷ []) [])))
 
 -- Packing and unpacking, called alone.
 unfoldable pub packCall : Record → Outcome
@@ -156,30 +169,41 @@ unfoldable pub family : (p : ℕ) → Sheet → (Item → List ℕ) → List Roo
 family p s term roots = layout term (groups (listAt p (s .records)) roots)
 
 -- "Then 14, work before pool; .. then the walk (8 to 13, 16); then 17." Work is 4,096 words, and the pool 2 words a record at the least.
-unfoldable pub expansion : (p : ℕ) (ws : List ℕ) (work pool : ℕ) (lent : List ℕ)
-    → (roots : Sheet → List Root) (outputs : Sheet → List (List ℕ)) (numbers : Sheet → List ℕ) → Outcome
-expansion p ws work pool lent roots outputs numbers =
-    outcome (work ∷ pool ∷ []) lent
-    (onSheet p ws (λ s. needs 14 4096 work (needs 14 (2 * length (s .records)) pool
+unfoldable pub expansionOf : (p : ℕ) (lent : List ℕ)
+    → (roots : Sheet → List Root) (outputs : Sheet → List (List ℕ)) (numbers : Sheet → List ℕ) → Sheet → Answer Result
+expansionOf p lent roots outputs numbers s =
+    let pool : ℕ = getD lent 1 0 in
+    needs 14 4096 (getD lent 0 0) (needs 14 (2 * length (s .records)) pool
     (andThen (expandAll p (s .records) pool (order (s .records) (map (λ (r : Root). r .node) (roots s))))
-    (λ used. fitted (outputs s) lent (numbers s))))))
+    (λ used. fitted (outputs s) (drop 2 lent) (numbers s))))
+
+unfoldable pub expansion : (p : ℕ) (ws lent : List ℕ) → (rest : Sheet → Answer Result) → Outcome
+expansion p ws lent rest = outcome (take 2 lent) (drop 2 lent) (onSheet p ws rest)
 
 -- "The constraint call .. takes any sheet's constraints as given, repeats included": headers, variables, terms.
 unfoldable pub constraintOutputs : (p : ℕ) → Sheet → List (List ℕ)
 constraintOutputs p s = family p s constraintTerm (constraintRoots s)
 
-unfoldable pub constraintCall : (p : ℕ) (ws : List ℕ) (work pool h v t : ℕ) → Outcome
-constraintCall p ws work pool h v t = expansion p ws work pool (h ∷ v ∷ t ∷ []) constraintRoots (constraintOutputs p) (λ s. [])
+abbrev pub constraintsOf : (p : ℕ) (lent : List ℕ) → Sheet → Answer Result
+constraintsOf p lent = expansionOf p lent constraintRoots (constraintOutputs p) (λ s. [])
+
+unfoldable pub constraintCall : (p : ℕ) (ws lent : List ℕ) → Outcome
+constraintCall p ws lent = expansion p ws lent (constraintsOf p lent)
 
 -- "The interaction call .. walks the counts of all interactions, then all fields": numerators, then denominators.
 unfoldable pub interactionOutputs : (p : ℕ) → Sheet → List (List ℕ)
 interactionOutputs p s = family p s interactionTerm (countRoots s) ++ family p s interactionTerm (fieldRoots s)
 
--- `max_fields_len` is the largest message length, 0 if there is none.
+-- `num_interactions` and `max_fields_len`, the largest message length, 0 if there is none.
 unfoldable pub maxFieldsLen : Sheet → ℕ
 maxFieldsLen s = foldr (λ (x : Interaction) (n : ℕ). max (length (x .message)) n) 0 (s .interactions)
 
-unfoldable pub interactionCall : (p : ℕ) (ws : List ℕ) (work pool h v t h′ v′ t′ : ℕ) → Outcome
-interactionCall p ws work pool h v t h′ v′ t′ =
-    expansion p ws work pool (h ∷ v ∷ t ∷ h′ ∷ v′ ∷ t′ ∷ []) (λ s. countRoots s ++ fieldRoots s) (interactionOutputs p)
-    (λ s. length (s .interactions) ∷ maxFieldsLen s ∷ [])
+abbrev pub interactionNumbers : Sheet → List ℕ
+interactionNumbers s = length (s .interactions) ∷ maxFieldsLen s ∷ []
+
+abbrev pub interactionsOf : (p : ℕ) (lent : List ℕ) → Sheet → Answer Result
+interactionsOf p lent =
+    expansionOf p lent (λ s. countRoots s ++ fieldRoots s) (interactionOutputs p) interactionNumbers
+
+unfoldable pub interactionCall : (p : ℕ) (ws lent : List ℕ) → Outcome
+interactionCall p ws lent = expansion p ws lent (interactionsOf p lent)

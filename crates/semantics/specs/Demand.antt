@@ -146,16 +146,16 @@ module _ (p : ℕ) where
 
   -- Demand 3: for the words of any sheet and any lent lengths, each call by itself.
   pub record Demand : Type 0 where
-    pub graph : (ws : List ℕ) (scratch out : ℕ) → Accepted (builderCall p ws scratch out)
-        → (s : Sheet) × (check p ws ≡ good s) × GraphRule s (handedBack 1 (builderCall p ws scratch out) 0)
-    pub constraints : (ws : List ℕ) (work pool h v t : ℕ) → Accepted (constraintCall p ws work pool h v t)
-        → (s : Sheet) × (check p ws ≡ good s) × ConstraintRule s (constraintCall p ws work pool h v t)
-    pub interactions : (ws : List ℕ) (work pool h v t h′ v′ t′ : ℕ) → Accepted (interactionCall p ws work pool h v t h′ v′ t′)
-        → (s : Sheet) × (check p ws ≡ good s) × InteractionRule s (interactionCall p ws work pool h v t h′ v′ t′)
+    pub graph : (ws : List ℕ) (scratch out : ℕ) → Accepted (builderCall p ws (scratch ∷ out ∷ []))
+        → (s : Sheet) × (check p ws ≡ good s) × GraphRule s (handedBack 1 (builderCall p ws (scratch ∷ out ∷ [])) 0)
+    pub constraints : (ws : List ℕ) (work pool h v t : ℕ) → Accepted (constraintCall p ws (work ∷ pool ∷ h ∷ v ∷ t ∷ []))
+        → (s : Sheet) × (check p ws ≡ good s) × ConstraintRule s (constraintCall p ws (work ∷ pool ∷ h ∷ v ∷ t ∷ []))
+    pub interactions : (ws : List ℕ) (work pool h v t h′ v′ t′ : ℕ) → Accepted (interactionCall p ws (work ∷ pool ∷ h ∷ v ∷ t ∷ h′ ∷ v′ ∷ t′ ∷ []))
+        → (s : Sheet) × (check p ws ≡ good s) × InteractionRule s (interactionCall p ws (work ∷ pool ∷ h ∷ v ∷ t ∷ h′ ∷ v′ ∷ t′ ∷ []))
     -- of the graph's own words, from the same source
-    pub graphConstraints : (ws : List ℕ) (scratch out : ℕ) (s : Sheet) → Accepted (builderCall p ws scratch out) → check p ws ≡ good s
-        → (work pool h v t : ℕ) → Accepted (constraintCall p (handedBack 1 (builderCall p ws scratch out) 0) work pool h v t)
-        → GraphConstraintRule s (constraintCall p (handedBack 1 (builderCall p ws scratch out) 0) work pool h v t)
-    pub graphInteractions : (ws : List ℕ) (scratch out : ℕ) (s : Sheet) → Accepted (builderCall p ws scratch out) → check p ws ≡ good s
-        → (work pool h v t h′ v′ t′ : ℕ) → Accepted (interactionCall p (handedBack 1 (builderCall p ws scratch out) 0) work pool h v t h′ v′ t′)
-        → GraphInteractionRule s (interactionCall p (handedBack 1 (builderCall p ws scratch out) 0) work pool h v t h′ v′ t′)
+    pub graphConstraints : (ws : List ℕ) (scratch out : ℕ) (s : Sheet) → Accepted (builderCall p ws (scratch ∷ out ∷ [])) → check p ws ≡ good s
+        → (work pool h v t : ℕ) → Accepted (constraintCall p (handedBack 1 (builderCall p ws (scratch ∷ out ∷ [])) 0) (work ∷ pool ∷ h ∷ v ∷ t ∷ []))
+        → GraphConstraintRule s (constraintCall p (handedBack 1 (builderCall p ws (scratch ∷ out ∷ [])) 0) (work ∷ pool ∷ h ∷ v ∷ t ∷ []))
+    pub graphInteractions : (ws : List ℕ) (scratch out : ℕ) (s : Sheet) → Accepted (builderCall p ws (scratch ∷ out ∷ [])) → check p ws ≡ good s
+        → (work pool h v t h′ v′ t′ : ℕ) → Accepted (interactionCall p (handedBack 1 (builderCall p ws (scratch ∷ out ∷ [])) 0) (work ∷ pool ∷ h ∷ v ∷ t ∷ h′ ∷ v′ ∷ t′ ∷ []))
+        → GraphInteractionRule s (interactionCall p (handedBack 1 (builderCall p ws (scratch ∷ out ∷ [])) 0) (work ∷ pool ∷ h ∷ v ∷ t ∷ h′ ∷ v′ ∷ t′ ∷ []))

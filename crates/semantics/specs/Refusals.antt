@@ -1,4 +1,4 @@
--- The numbers that each call can send, of those that 01 lists, and how large a header is.
+-- The numbers that each call can send, of those that 01 lists; the places of three; and how large a header is.
 use mathlib.Core.Path.{_≡_}
 use mathlib.Core.Bool.{true}
 use mathlib.Core.List.{List, [], _∷_, _++_}
@@ -25,18 +25,24 @@ ofExpansion = 14 ∷ 8 ∷ 9 ∷ 10 ∷ 11 ∷ 12 ∷ 13 ∷ 16 ∷ 17 ∷ []
 -- Each call, on any input and any lent lengths.
 pub record Refusals (p : ℕ) : Type 0 where
   pub blockCheck : (bytes : List ℕ) (number : ℕ) → Sends (1 ∷ []) (blockCheckCall bytes number)
-  pub reader : (bytes : List ℕ) (out : ℕ) → Sends (1 ∷ 15 ∷ 2 ∷ []) (readerCall bytes out)
-  pub writer : (ws : List ℕ) (out : ℕ) → Sends (ofSheet ++ (15 ∷ [])) (writerCall p ws out)
+  pub reader : (bytes : List ℕ) (out : ℕ) → Sends (1 ∷ 15 ∷ 2 ∷ []) (readerCall bytes (out ∷ []))
+  pub writer : (ws : List ℕ) (out : ℕ) → Sends (ofSheet ++ (15 ∷ [])) (writerCall p ws (out ∷ []))
   pub check : (ws : List ℕ) → Sends ofSheet (checkCall p ws)
-  pub builder : (ws : List ℕ) (scratch out : ℕ) → Sends (ofSheet ++ (14 ∷ 15 ∷ [])) (builderCall p ws scratch out)
+  pub builder : (ws : List ℕ) (scratch out : ℕ) → Sends (ofSheet ++ (14 ∷ 15 ∷ [])) (builderCall p ws (scratch ∷ out ∷ []))
   pub maxRotation : (ws : List ℕ) → Sends ofSheet (maxRotationCall p ws)
   pub numConstraints : (ws : List ℕ) → Sends ofSheet (numConstraintsCall p ws)
-  pub conversion : (ws : List ℕ) (out : ℕ) → Sends (ofSheet ++ (15 ∷ [])) (conversionCall p ws out)
+  pub conversion : (ws : List ℕ) (out : ℕ) → Sends (ofSheet ++ (15 ∷ [])) (conversionCall p ws (out ∷ []))
   pub pack : (r : Record) → Sends (5 ∷ 8 ∷ 9 ∷ 10 ∷ 11 ∷ []) (packCall r)
   pub variable : (r : Record) → Sends (8 ∷ 9 ∷ 10 ∷ 11 ∷ []) (variableCall r)
   pub unpack : (n : ℕ) → Sends (5 ∷ []) (unpackCall n)
-  pub constraints : (ws : List ℕ) (work pool h v t : ℕ) → Sends (ofSheet ++ ofExpansion) (constraintCall p ws work pool h v t)
-  pub interactions : (ws : List ℕ) (work pool h v t h′ v′ t′ : ℕ) → Sends (ofSheet ++ ofExpansion) (interactionCall p ws work pool h v t h′ v′ t′)
+  pub constraints : (ws : List ℕ) (work pool h v t : ℕ) → Sends (ofSheet ++ ofExpansion) (constraintCall p ws (work ∷ pool ∷ h ∷ v ∷ t ∷ []))
+  pub interactions : (ws : List ℕ) (work pool h v t h′ v′ t′ : ℕ) → Sends (ofSheet ++ ofExpansion) (interactionCall p ws (work ∷ pool ∷ h ∷ v ∷ t ∷ h′ ∷ v′ ∷ t′ ∷ []))
+
+-- The places of the calls that take no sheet: "(place: that word, 0 to 4), then 8 to 11, place 0"; "or 5, place 0"; "gives 1, place 0".
+pub record LowPlaces : Type 0 where
+  pub pack : (r : Record) → packCall r .reply .place ≤ 4
+  pub unpack : (n : ℕ) → unpackCall n .reply .place ≡ 0
+  pub blockCheck : (bytes : List ℕ) (number : ℕ) → blockCheckCall bytes number .reply .place ≡ 0
 
 -- A header's words: at most 14 variables, and at most 64,512 terms (1,024 interactions of 63 fields).
 abbrev pub SmallHeader : List ℕ → Type 0
@@ -52,8 +58,8 @@ headersOf o k = rows 4 (length (handedBack 2 o k) / 4) (handedBack 2 o k)
 
 -- "The two assertions on 65,535 can't be met under the limits."
 pub record HeaderSizes (p : ℕ) : Type 0 where
-  pub constraints : (ws : List ℕ) (work pool h v t : ℕ) → Accepted (constraintCall p ws work pool h v t)
-      → SmallHeaders (headersOf (constraintCall p ws work pool h v t) 0)
-  pub interactions : (ws : List ℕ) (work pool h v t h′ v′ t′ : ℕ) → Accepted (interactionCall p ws work pool h v t h′ v′ t′)
-      → SmallHeaders (headersOf (interactionCall p ws work pool h v t h′ v′ t′) 0)
-      × SmallHeaders (headersOf (interactionCall p ws work pool h v t h′ v′ t′) 3)
+  pub constraints : (ws : List ℕ) (work pool h v t : ℕ) → Accepted (constraintCall p ws (work ∷ pool ∷ h ∷ v ∷ t ∷ []))
+      → SmallHeaders (headersOf (constraintCall p ws (work ∷ pool ∷ h ∷ v ∷ t ∷ [])) 0)
+  pub interactions : (ws : List ℕ) (work pool h v t h′ v′ t′ : ℕ) → Accepted (interactionCall p ws (work ∷ pool ∷ h ∷ v ∷ t ∷ h′ ∷ v′ ∷ t′ ∷ []))
+      → SmallHeaders (headersOf (interactionCall p ws (work ∷ pool ∷ h ∷ v ∷ t ∷ h′ ∷ v′ ∷ t′ ∷ [])) 0)
+      × SmallHeaders (headersOf (interactionCall p ws (work ∷ pool ∷ h ∷ v ∷ t ∷ h′ ∷ v′ ∷ t′ ∷ [])) 3)

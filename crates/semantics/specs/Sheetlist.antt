@@ -95,28 +95,38 @@ module _ (p : ℕ) where
       headerLines 110 (uLine p) (listed 3 (handedBack 2 o 0) (handedBack 2 o 1) (handedBack 2 o 2))
       ++ (headerLines 100 (wLine p) (listed 3 (handedBack 2 o 3) (handedBack 2 o 4) (handedBack 2 o 5)) ++ line (endText ∷ []))
 
+  -- The step `inter`.
+  abbrev pub interactionStep : (graph : List ℕ) → List ℕ
+  interactionStep graph =
+      let i : Outcome = interactionCall p graph (4096 ∷ 4096 ∷ 512 ∷ 512 ∷ 512 ∷ 512 ∷ 512 ∷ 512 ∷ []) in
+      step interText i (interactionLines i)
+
   unfoldable pub constraintLines : (graph : List ℕ) → Outcome → List ℕ
   constraintLines graph o =
-      let i : Outcome = interactionCall p graph 4096 4096 512 512 512 512 512 512 in
-      headerLines 109 (tLine p) (listed 2 (handedBack 2 o 0) (handedBack 2 o 1) (handedBack 2 o 2)) ++ step interText i (interactionLines i)
+      headerLines 109 (tLine p) (listed 2 (handedBack 2 o 0) (handedBack 2 o 1) (handedBack 2 o 2)) ++ interactionStep graph
+
+  -- The step `cons`, and what comes after it.
+  abbrev pub constraintStep : (graph : List ℕ) → List ℕ
+  constraintStep graph =
+      let c : Outcome = constraintCall p graph (4096 ∷ 4096 ∷ 1024 ∷ 1024 ∷ 1024 ∷ []) in
+      step consText c (constraintLines graph c)
 
   -- "`dag`: nodes, constraints, rotation."
   unfoldable pub graphLines : (graph : List ℕ) → List ℕ
   graphLines graph =
       let m : Outcome = maxRotationCall p graph in
-      let c : Outcome = constraintCall p graph 4096 4096 1024 1024 1024 in
       step dagText m
       (line (dagText ∷ decimal (getD graph 1 0) ∷ decimal (getD graph 2 0) ∷ decimal (getD (m .reply .numbers) 0 0) ∷ [])
-      ++ step consText c (constraintLines graph c))
+      ++ constraintStep graph)
 
   unfoldable pub sheetLines : (sheet : List ℕ) → List ℕ
   sheetLines sheet =
-      let b : Outcome = builderCall p sheet 1016 1016 in
+      let b : Outcome = builderCall p sheet (1016 ∷ 1016 ∷ []) in
       step dagText b (graphLines (handedBack 1 b 0))
 
   unfoldable pub sheetlist : (bytes : List ℕ) → List ℕ
   sheetlist bytes =
-      let r : Outcome = readerCall bytes 1016 in
+      let r : Outcome = readerCall bytes (1016 ∷ []) in
       cond (leb (length bytes) mostTaken) (step readText r (sheetLines (handedBack 0 r 0)))
       (line (refusedText ∷ readText ∷ decimal 1 ∷ decimal 0 ∷ []))
 

@@ -1,10 +1,10 @@
 // The calls that only read or copy a sheet.
 ghost use mathlib.Core.Path.{_≡_};
-ghost use lib.ListN.{length};
-ghost use Rattle.slices.specs.Lent.{old, new};
+ghost use mathlib.Core.List.{[], _∷_};
+ghost use Rattle.slices.specs.Lent.{old, new, lengths};
 ghost use Rattle.semantics.specs.Check.{primeOf};
-ghost use Rattle.semantics.specs.Call.{maxRotationCall, numConstraintsCall, conversionCall};
-ghost use Rattle.answers.specs.Replies.{writtenOutcome, restZeroed, countedOutcome};
+ghost use Rattle.semantics.specs.Call.{maxRotationCall, numConstraintsCall, conversionCall, Gives};
+ghost use Rattle.answers.specs.Replies.{restZeroed, countedOutcome, writtenReply};
 use answers::Counted;
 use answers::Refusal;
 use answers::Written;
@@ -36,7 +36,7 @@ pub fn num_constraints(s: &[u32]) -> Counted
 
 // The words of a sheet go to the front of the output.
 fn copy_sheet(s: &[u32], out: &mut [u32]) -> Written
-    ensures { λ r. ⌜ restZeroed r (new out) ≡ conversionCall (primeOf (old s)) (old s) (length (old out)) ⌝ }
+    ensures { λ r. ⌜ restZeroed r (new out) ≡ conversionCall (primeOf (old s)) (old s) (lengths (out ∷ [])) ⌝ }
 {
     let checked = sheet::check_sheet(s);
     let Checked::Sheet(head) = checked else {
@@ -55,7 +55,7 @@ fn copy_sheet(s: &[u32], out: &mut [u32]) -> Written
 
 // The words of the sheet, without the spare ones.
 pub fn convert(s: &[u32], out: &mut [u32]) -> Written
-    ensures { λ r. ⌜ writtenOutcome r (new out) ≡ conversionCall (primeOf (old s)) (old s) (length (old out)) ⌝ }
+    ensures { λ r. ⌜ Gives writtenReply r (out ∷ []) (conversionCall (primeOf (old s)) (old s)) ⌝ }
 {
     let copied = copy_sheet(s, out);
     slices::zero_from(out, answers::count_of(copied));

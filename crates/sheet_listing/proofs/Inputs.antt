@@ -9,7 +9,8 @@ use Rattle.semantics.specs.Arithmetic.{prime}
 use Rattle.semantics.specs.Call.{zeros, padded}
 use Rattle.semantics.specs.Sheetlist.{mostRead, sheetlist}
 use Rattle.semantics.proofs.Listings.{reads-enough}
-use Rattle.listing.specs.Putting.{Room, Puts}
+use Rattle.slices.specs.Putting.{Puts}
+use Rattle.listing.specs.Putting.{Room}
 use Rattle.listing.proofs.Writing.{puts-length}
 use Rattle.listing.proofs.Totals.{sheetlist-most}
 use Rattle.sheet_listing.specs.Inputs.{ReadOf}

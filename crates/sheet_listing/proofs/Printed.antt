@@ -86,7 +86,7 @@ module _ (sheet : List ℕ) (r : Written) (scratch out : List ℕ) (e : builtOut
 -- The reader.
 module _ (bytes : List ℕ) where
   abbrev reads : Outcome
-  reads = readerCall bytes 1016
+  reads = readerCall bytes (1016 ∷ [])
 
   module _ (l : length bytes ≤ mostTaken) (r : Written) (sheet : List ℕ) (e : writtenOutcome r sheet ≡ reads) where
     bytes-print : step readText reads (sheetLines prime (handedBack 0 reads 0)) ≡ sheetlist prime bytes

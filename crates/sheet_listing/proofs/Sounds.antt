@@ -10,7 +10,8 @@ use Rattle.semantics.specs.Answer.{Answer, good, refused, andThen}
 use Rattle.semantics.specs.Sheet.{Sheet}
 use Rattle.semantics.specs.Check.{check}
 use Rattle.semantics.specs.Graph.{maxRotation}
-use Rattle.semantics.specs.Call.{Outcome, Result, Accepted, zeros, padded, paddedAll, outcome, result, onSheet, expansion, readerCall, builderCall, maxRotationCall, constraintCall, interactionCall}
+use Rattle.semantics.specs.Call.{Outcome, Result, Accepted, zeros, padded, paddedAll, outcome, result, onSheet, expansionOf, expansion}
+use Rattle.semantics.specs.Call.{readerCall, builderCall, maxRotationCall, constraintCall, interactionCall}
 use Rattle.semantics.specs.Sheetlist.{decimal, line, refusedText, step}
 use Rattle.semantics.specs.Walk.{Mem, member}
 use Rattle.semantics.specs.Refusals.{ofSheet, ofExpansion}
@@ -57,28 +58,28 @@ module _ (scratch lent : List ℕ) where
   outcome-sound ns (refused n k) z h = record { inside = λ k l. omega arith; real = λ e l a. not-both (subst (λ (m : ℕ). Mem m ns) a h) z }
 
 -- The calls.
-pub reader-sound : (bytes : List ℕ) (out : ℕ) → Sound 0 (readerCall bytes out)
+pub reader-sound : (bytes : List ℕ) (out : ℕ) → Sound 0 (readerCall bytes (out ∷ []))
 unfolding readerCall
 reader-sound bytes out = outcome-sound [] (out ∷ []) (1 ∷ 15 ∷ 2 ∷ []) _ (unfold member in refl) (reader-within bytes out)
 
 module _ (p : ℕ) (ws : List ℕ) where
-  pub builder-sound : (scratch out : ℕ) → Sound 1 (builderCall p ws scratch out)
+  pub builder-sound : (scratch out : ℕ) → Sound 1 (builderCall p ws (scratch ∷ out ∷ []))
   unfolding builderCall
   builder-sound scratch out =
       outcome-sound (scratch ∷ []) (out ∷ []) (ofSheet ++ (14 ∷ 15 ∷ [])) _ (unfold member in refl) (builder-within p ws scratch out)
 
   expansion-sound : (work pool : ℕ) (lent : List ℕ) (roots : _) (outputs : Sheet → List (List ℕ)) (numbers : Sheet → List ℕ)
-      → Sound 2 (expansion p ws work pool lent roots outputs numbers)
+      → Sound 2 (expansion p ws (work ∷ pool ∷ lent) (expansionOf p (work ∷ pool ∷ lent) roots outputs numbers))
   unfolding expansion
   expansion-sound work pool lent roots outputs numbers =
       outcome-sound (work ∷ pool ∷ []) lent (ofSheet ++ ofExpansion) _ (unfold member in refl)
       (expansion-within p ws work pool lent roots outputs numbers)
 
-  pub constraint-sound : (work pool h v t : ℕ) → Sound 2 (constraintCall p ws work pool h v t)
+  pub constraint-sound : (work pool h v t : ℕ) → Sound 2 (constraintCall p ws (work ∷ pool ∷ h ∷ v ∷ t ∷ []))
   unfolding constraintCall
   constraint-sound work pool h v t = expansion-sound work pool _ _ _ _
 
-  pub interaction-sound : (work pool h v t h′ v′ t′ : ℕ) → Sound 2 (interactionCall p ws work pool h v t h′ v′ t′)
+  pub interaction-sound : (work pool h v t h′ v′ t′ : ℕ) → Sound 2 (interactionCall p ws (work ∷ pool ∷ h ∷ v ∷ t ∷ h′ ∷ v′ ∷ t′ ∷ []))
   unfolding interactionCall
   interaction-sound work pool h v t h′ v′ t′ = expansion-sound work pool _ _ _ _
 

@@ -9,21 +9,21 @@ use Rattle.constraint_lists.specs.declared.ConstraintLists.the-variants as cons
 use Rattle.interaction_lists.specs.declared.InteractionLists.{InteractionLists}
 use Rattle.interaction_lists.specs.declared.InteractionLists.the-variants as interaction
 
-abbrev none : Refusal
-none = record { number = 0; place = 0 }
+abbrev noRefusal : Refusal
+noRefusal = record { number = 0; place = 0 }
 
 abbrev pub ofWritten : Written → Refusal
 ofWritten (written.Refused r) = r
-ofWritten (written.Words n) = none
+ofWritten (written.Words n) = noRefusal
 
 abbrev pub ofCounted : Counted → Refusal
 ofCounted (counted.Refused r) = r
-ofCounted (counted.Number n) = none
+ofCounted (counted.Number n) = noRefusal
 
 abbrev pub ofConstraints : ConstraintLists → Refusal
 ofConstraints (constraint.Refused r) = r
-ofConstraints (constraint.Written n) = none
+ofConstraints (constraint.Written n) = noRefusal
 
 abbrev pub ofInteractions : InteractionLists → Refusal
 ofInteractions (interaction.Refused r) = r
-ofInteractions (interaction.Written n) = none
+ofInteractions (interaction.Written n) = noRefusal

@@ -1,16 +1,16 @@
 // What `sheetlist` prints, step by step; a refusal ends the output.
 ghost use mathlib.Core.Path.{_≡_};
-ghost use mathlib.Core.List.{List, [], _∷_, _++_};
+ghost use mathlib.Core.List.{List};
 ghost use Prim.Native.Nat.{ℕ, _<_};
 ghost use lib.ListN.{length, take};
 ghost use Rattle.slices.specs.Lent.{old, new};
 ghost use Rattle.semantics.specs.Arithmetic.{prime};
-ghost use Rattle.semantics.specs.Call.{padded, constraintCall, interactionCall};
-ghost use Rattle.semantics.specs.Sheetlist.{line, endText, consText, interText, step, interactionLines, constraintLines, graphLines, sheetLines, sheetlist};
+ghost use Rattle.semantics.specs.Call.{padded};
+ghost use Rattle.semantics.specs.Sheetlist.{interactionStep, constraintStep, graphLines, sheetLines, sheetlist};
 ghost use Rattle.semantics.specs.Check.{primeOf};
-ghost use Rattle.listing.specs.declared.headers.Family.the-variants.{Numerators, Denominators};
-ghost use Rattle.listing.specs.Putting.{Room, Puts};
-ghost use Rattle.sheet_listing.specs.Fronts.{frontLines, Fronts};
+ghost use Rattle.slices.specs.Putting.{Puts};
+ghost use Rattle.listing.specs.Putting.{Room};
+ghost use Rattle.sheet_listing.specs.Fronts.{frontLines, Fronts, bothLines, BothFronts};
 ghost use Rattle.sheet_listing.specs.Inputs.{ReadOf};
 
 mod refusals;
@@ -60,15 +60,11 @@ fn put_both_lists(
     denom_variables: &[u32],
     denom_terms: &[u32],
 ) -> usize
-    requires { ⌜ Fronts Numerators (n .numerators) (now headers) (now variables) (now terms)
-        × Fronts Denominators (n .denominators) (now «denom_headers») (now «denom_variables») (now «denom_terms»)
-        × Room (now out) at (frontLines Numerators (n .numerators) (now headers) (now variables) (now terms)
-        ++ (frontLines Denominators (n .denominators) (now «denom_headers») (now «denom_variables») (now «denom_terms»)
-        ++ line (endText ∷ []))) ⌝ }
+    requires { ⌜ BothFronts n (now headers) (now variables) (now terms)
+        (now «denom_headers») (now «denom_variables») (now «denom_terms») (now out) at ⌝ }
     ensures { λ r. ⌜ Puts (old out) at
-        (frontLines Numerators (n .numerators) (old headers) (old variables) (old terms)
-        ++ (frontLines Denominators (n .denominators) (old «denom_headers») (old «denom_variables»)
-        (old «denom_terms») ++ line (endText ∷ [])))
+        (bothLines n (old headers) (old variables) (old terms)
+        (old «denom_headers») (old «denom_variables») (old «denom_terms»))
         (new out) r ⌝ }
 {
     let numerators = n.numerators;
@@ -96,14 +92,8 @@ fn put_both_lists(
 
 // What the graph's interactions print.
 fn put_interactions(out: &mut [u8], at: usize, graph: &[u32]) -> usize
-    requires { ⌜ Room (now out) at
-        (step interText (interactionCall (primeOf (now graph)) (now graph) 4096 4096 512 512 512 512 512 512)
-        (interactionLines (primeOf (now graph)) (interactionCall (primeOf (now graph)) (now graph) 4096 4096 512 512 512 512 512 512))) ⌝ }
-    ensures { λ r. ⌜ Puts (old out) at
-        (step interText (interactionCall (primeOf (old graph)) (old graph) 4096 4096 512 512 512 512 512 512)
-        (interactionLines (primeOf (old graph))
-        (interactionCall (primeOf (old graph)) (old graph) 4096 4096 512 512 512 512 512 512)))
-        (new out) r ⌝ }
+    requires { ⌜ Room (now out) at (interactionStep (primeOf (now graph)) (now graph)) ⌝ }
+    ensures { λ r. ⌜ Puts (old out) at (interactionStep (primeOf (old graph)) (old graph)) (new out) r ⌝ }
 {
     let mut work = [0u32; 4096];
     let mut pool = [0u32; 4096];
@@ -143,14 +133,8 @@ fn put_interactions(out: &mut [u8], at: usize, graph: &[u32]) -> usize
 
 // What the graph's constraints print, and what comes after them.
 fn put_constraints(out: &mut [u8], at: usize, graph: &[u32]) -> usize
-    requires { ⌜ Room (now out) at
-        (step consText (constraintCall (primeOf (now graph)) (now graph) 4096 4096 1024 1024 1024)
-        (constraintLines (primeOf (now graph)) (now graph) (constraintCall (primeOf (now graph)) (now graph) 4096 4096 1024 1024 1024))) ⌝ }
-    ensures { λ r. ⌜ Puts (old out) at
-        (step consText (constraintCall (primeOf (old graph)) (old graph) 4096 4096 1024 1024 1024)
-        (constraintLines (primeOf (old graph)) (old graph)
-        (constraintCall (primeOf (old graph)) (old graph) 4096 4096 1024 1024 1024)))
-        (new out) r ⌝ }
+    requires { ⌜ Room (now out) at (constraintStep (primeOf (now graph)) (now graph)) ⌝ }
+    ensures { λ r. ⌜ Puts (old out) at (constraintStep (primeOf (old graph)) (old graph)) (new out) r ⌝ }
 {
     let mut work = [0u32; 4096];
     let mut pool = [0u32; 4096];

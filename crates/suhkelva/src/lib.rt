@@ -1,10 +1,9 @@
 // Every entry point of the C library. include/suhkelva.h tells C of them.
 ghost use mathlib.Core.List.{[], _∷_};
-ghost use lib.ListN.{length};
-ghost use Rattle.slices.specs.Lent.{old, new};
+ghost use Rattle.slices.specs.Lent.{old};
 ghost use Rattle.semantics.specs.Sheet.{recordOf};
 ghost use Rattle.semantics.specs.Check.{primeOf};
-ghost use Rattle.semantics.specs.Call.{Handed, blockCheckCall, packCall, unpackCall, checkCall, maxRotationCall, numConstraintsCall, conversionCall};
+ghost use Rattle.semantics.specs.Call.{Handed, blockCheckCall, packCall, unpackCall, checkCall, maxRotationCall, numConstraintsCall, conversionCall, Returns};
 ghost use Rattle.semantics.specs.Call.{readerCall, writerCall, builderCall, constraintCall, interactionCall};
 ghost use Rattle.c_replies.specs.Fields.{packedFields, recordFields, blockFields, sheetFields, numberFields, writtenFields};
 ghost use Rattle.c_list_replies.specs.Fields.{listFields, interactionListFields};
@@ -62,32 +61,28 @@ pub extern "C" fn suhkelva_num_constraints(s: &[u32]) -> SuhkelvaNumber
 
 #[no_mangle]
 pub extern "C" fn suhkelva_convert(s: &[u32], out: &mut [u32]) -> SuhkelvaWritten
-    ensures { λ r. ⌜ Handed writtenFields r (new out ∷ [])
-        (conversionCall (primeOf (old s)) (old s) (length (old out))) ⌝ }
+    ensures { λ r. ⌜ Returns writtenFields r (out ∷ []) (conversionCall (primeOf (old s)) (old s)) ⌝ }
 {
     c_replies::written_fields(sheet_calls::convert(s, out))
 }
 
 #[no_mangle]
 pub extern "C" fn suhkelva_read_blocks(bytes: &[u8], out: &mut [u32]) -> SuhkelvaWritten
-    ensures { λ r. ⌜ Handed writtenFields r (new out ∷ [])
-        (readerCall (old bytes) (length (old out))) ⌝ }
+    ensures { λ r. ⌜ Returns writtenFields r (out ∷ []) (readerCall (old bytes)) ⌝ }
 {
     c_replies::written_fields(block_reader::read_blocks(bytes, out))
 }
 
 #[no_mangle]
 pub extern "C" fn suhkelva_write_blocks(s: &[u32], out: &mut [u8]) -> SuhkelvaWritten
-    ensures { λ r. ⌜ Handed writtenFields r (new out ∷ [])
-        (writerCall (primeOf (old s)) (old s) (length (old out))) ⌝ }
+    ensures { λ r. ⌜ Returns writtenFields r (out ∷ []) (writerCall (primeOf (old s)) (old s)) ⌝ }
 {
     c_replies::written_fields(block_writer::write_blocks(s, out))
 }
 
 #[no_mangle]
 pub extern "C" fn suhkelva_build(s: &[u32], scratch: &mut [u32], out: &mut [u32]) -> SuhkelvaWritten
-    ensures { λ r. ⌜ Handed writtenFields r (new scratch ∷ new out ∷ [])
-        (builderCall (primeOf (old s)) (old s) (length (old scratch)) (length (old out))) ⌝ }
+    ensures { λ r. ⌜ Returns writtenFields r (scratch ∷ out ∷ []) (builderCall (primeOf (old s)) (old s)) ⌝ }
 {
     c_replies::written_fields(dag::build(s, scratch, out))
 }
@@ -101,10 +96,8 @@ pub extern "C" fn suhkelva_expand_constraints(
     variables: &mut [u32],
     terms: &mut [u32],
 ) -> SuhkelvaLists
-    ensures { λ r. ⌜ Handed listFields r
-        (new work ∷ new pool ∷ new headers ∷ new variables ∷ new terms ∷ [])
-        (constraintCall (primeOf (old s)) (old s) (length (old work)) (length (old pool))
-        (length (old headers)) (length (old variables)) (length (old terms))) ⌝ }
+    ensures { λ r. ⌜ Returns listFields r (work ∷ pool ∷ headers ∷ variables ∷ terms ∷ [])
+        (constraintCall (primeOf (old s)) (old s)) ⌝ }
 {
     let lists = expansion::expand_constraints(s, work, pool, headers, variables, terms);
     c_list_replies::list_fields(lists)
@@ -122,12 +115,9 @@ pub extern "C" fn suhkelva_expand_interactions(
     denom_variables: &mut [u32],
     denom_terms: &mut [u32],
 ) -> SuhkelvaInteractionLists
-    ensures { λ r. ⌜ Handed interactionListFields r
-        (new work ∷ new pool ∷ new headers ∷ new variables ∷ new terms
-        ∷ new «denom_headers» ∷ new «denom_variables» ∷ new «denom_terms» ∷ [])
-        (interactionCall (primeOf (old s)) (old s) (length (old work)) (length (old pool))
-        (length (old headers)) (length (old variables)) (length (old terms))
-        (length (old «denom_headers»)) (length (old «denom_variables»)) (length (old «denom_terms»))) ⌝ }
+    ensures { λ r. ⌜ Returns interactionListFields r
+        (work ∷ pool ∷ headers ∷ variables ∷ terms ∷ «denom_headers» ∷ «denom_variables» ∷ «denom_terms» ∷ [])
+        (interactionCall (primeOf (old s)) (old s)) ⌝ }
 {
     let lists = expansion::expand_interactions(
         s,

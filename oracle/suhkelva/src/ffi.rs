@@ -7,14 +7,14 @@ use crate::Lists;
 #[repr(C)]
 pub struct Packed {
     pub number: u32,
-    pub place: u64,
+    pub place: u32,
     pub packed: u32,
 }
 
 #[repr(C)]
 pub struct Record {
     pub number: u32,
-    pub place: u64,
+    pub place: u32,
     pub kind: u32,
     pub a: u32,
     pub b: u32,
@@ -25,7 +25,7 @@ pub struct Record {
 #[repr(C)]
 pub struct Block {
     pub number: u32,
-    pub place: u64,
+    pub place: u32,
     pub good: u32,
 }
 

@@ -80,7 +80,7 @@ fn size(field: u64) -> usize {
 pub fn pack(record: [u32; 5]) -> Answer<PackedVar> {
     let r = ffi::pack(record);
     let further = [r.packed.into()];
-    answer(r.number, r.place, &further, PackedVar(r.packed))
+    answer(r.number, r.place.into(), &further, PackedVar(r.packed))
 }
 
 pub fn unpack(packed: PackedVar) -> Answer<[u32; 5]> {
@@ -88,7 +88,7 @@ pub fn unpack(packed: PackedVar) -> Answer<[u32; 5]> {
     let record = [r.kind, r.a, r.b, r.c, r.d];
     answer(
         r.number,
-        r.place,
+        r.place.into(),
         &record.map(|word| word.into()),
         record,
     )
@@ -98,7 +98,7 @@ pub fn unpack(packed: PackedVar) -> Answer<[u32; 5]> {
 pub fn block_check(bytes: &[u8], number: u32) -> Answer<bool> {
     let r = ffi::block_check(bytes, number);
     assert!(r.good <= 1, "yes or no: {}", r.good);
-    answer(r.number, r.place, &[r.good.into()], r.good == 1)
+    answer(r.number, r.place.into(), &[r.good.into()], r.good == 1)
 }
 
 pub fn check_sheet(s: &[u32]) -> Answer<Sheet> {

@@ -1,6 +1,6 @@
 -- Scratch and output are zeroed, the graph is built in them, and scratch is zeroed again; all keep their lengths.
 use mathlib.Core.Path.{_≡_, sym, ap, _∙_}
-use mathlib.Core.List.{List}
+use mathlib.Core.List.{List, [], _∷_}
 use Prim.Native.Nat.{ℕ}
 use borrow.Author.Needs.{needs}
 use lib.ListN.{length, replicate}
@@ -57,7 +57,7 @@ returns c =
     let scratch = scratch-cleared out in
     ap (λ (l : List ℕ). builtOutcome (b .result) l (b .last .1 .1 .0)) (again .zero-all3 .ensures ∙ ap (λ (k : ℕ). replicate k 0) (b .kept .1 .0))
     ∙ b .ensures
-    ∙ (λ i. builderCall prime (start scratch .args .s .now) (scratch .zero-all .kept .0 i) (out .zero-all2 .kept .0 i))
+    ∙ (λ i. builderCall prime (start scratch .args .s .now) ((scratch .zero-all .kept .0 i) ∷ (out .zero-all2 .kept .0 i) ∷ []))
 
 pub build-spec : {M : Type 1} → statement M
 build-spec =

@@ -86,7 +86,7 @@ expand-neg-requires : tie.Need-expand-neg-requires
 expand-neg-requires c κs =
     let x = neg-left c in
     let f = left-fits (left x) in
-    (start (read x) .pre .1 .ready .walking .room, f .0, f .1)
+    (start (read x) .pre .1 .ready .walking .room, f)
 
 same-length-2 : tie.Need-same-length-2
 same-length-2 c = search needs
@@ -111,7 +111,7 @@ expand-product-requires : tie.Need-expand-product-requires
 expand-product-requires c κs =
     let x = product-lists c in
     let f = both-fit (both x) in
-    (start (read (has-left x)) .pre .1 .ready .walking .room, f .0, f .1, f .2)
+    (start (read (has-left x)) .pre .1 .ready .walking .room, f .0, f .1)
 
 same-length-3 : tie.Need-same-length-3
 same-length-3 c = search needs
@@ -126,7 +126,7 @@ expand-sum-requires : tie.Need-expand-sum-requires
 expand-sum-requires c κs =
     let x = sum-lists c in
     let f = both-fit (both x) in
-    (start (read (has-left x)) .pre .1 .ready .walking .room, f .0, f .1, f .2)
+    (start (read (has-left x)) .pre .1 .ready .walking .room, f .0, f .1)
 
 same-length-4 : tie.Need-same-length-4
 same-length-4 c = search needs

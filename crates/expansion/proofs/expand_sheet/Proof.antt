@@ -1,11 +1,14 @@
 -- The check refuses the sheet, or finds it; then the lists of its constraints are made.
 use mathlib.Core.Path.{_∙_}
+use mathlib.Core.List.{List, [], _∷_, map}
+use Prim.Native.Nat.{ℕ}
 use lib.ListN.{length}
 use borrow.Author.Needs.{needs}
 use Rattle.semantics.specs.Answer.{Answer}
 use Rattle.semantics.specs.Sheet.{Sheet}
-use Rattle.semantics.specs.Call.{Result}
-use Rattle.constraint_lists.specs.Lists.{CheckedSheet, constraintsOf}
+use Rattle.semantics.specs.Arithmetic.{prime}
+use Rattle.semantics.specs.Call.{Result, constraintsOf}
+use Rattle.constraint_lists.specs.Lists.{CheckedSheet}
 use Rattle.expansion.proofs.Replies.{sheet-found, sheet-goes-on, sheet-refused}
 use Rattle.expansion.proofs.expand_sheet.Statement.{statement}
 use Rattle.expansion.proofs.expand_sheet.Tie as tie
@@ -17,8 +20,8 @@ entry c = c .before .before .before .before .before .before .before
 abbrev rest : tie.Start → Sheet → Answer Result
 rest c =
     let a = c .args in
-    constraintsOf (length (a .work .now)) (length (a .pool .now))
-    (length (a .headers .now)) (length (a .variables .now)) (length (a .terms .now))
+    constraintsOf prime (map (λ (l : List ℕ). length l)
+    (a .work .now ∷ a .pool .now ∷ a .headers .now ∷ a .variables .now ∷ a .terms .now ∷ []))
 
 abbrev at-head : tie.After-expand-checked-arg5 → tie.After-checked
 at-head c = c .before .before .before .before .before .before

@@ -1,12 +1,14 @@
 -- The check refuses the sheet, or finds it; then the lists of its interactions are made.
 use mathlib.Core.Path.{_∙_}
+use mathlib.Core.List.{List, [], _∷_, map}
+use Prim.Native.Nat.{ℕ}
 use lib.ListN.{length}
 use borrow.Author.Needs.{needs}
 use Rattle.semantics.specs.Answer.{Answer}
 use Rattle.semantics.specs.Sheet.{Sheet}
-use Rattle.semantics.specs.Call.{Result}
+use Rattle.semantics.specs.Arithmetic.{prime}
+use Rattle.semantics.specs.Call.{Result, interactionsOf}
 use Rattle.constraint_lists.specs.Lists.{CheckedSheet}
-use Rattle.interaction_lists.specs.Lists.{interactionsOf}
 use Rattle.expansion.proofs.Replies.{sheet-found, sheet-goes-on, sheet-refused}
 use Rattle.expansion.proofs.expand_sheet_interactions.Statement.{statement}
 use Rattle.expansion.proofs.expand_sheet_interactions.Tie as tie
@@ -18,9 +20,9 @@ entry c = c .before .before .before .before .before .before .before .before .bef
 abbrev rest : tie.Start → Sheet → Answer Result
 rest c =
     let a = c .args in
-    interactionsOf (length (a .work .now)) (length (a .pool .now))
-    (length (a .headers .now)) (length (a .variables .now)) (length (a .terms .now))
-    (length (a .denom-headers .now)) (length (a .denom-variables .now)) (length (a .denom-terms .now))
+    interactionsOf prime (map (λ (l : List ℕ). length l)
+    (a .work .now ∷ a .pool .now ∷ a .headers .now ∷ a .variables .now ∷ a .terms .now
+    ∷ a .denom-headers .now ∷ a .denom-variables .now ∷ a .denom-terms .now ∷ []))
 
 abbrev at-head : tie.After-expand-checked-arg8 → tie.After-checked
 at-head c = c .before .before .before .before .before .before .before .before .before

@@ -20,10 +20,11 @@ place-inside c =
 returns : tie.Need-returns
 returns c =
     let a = c .before .args in
-    let e = not-true (a .wanted) (c .if1 .taken) in (
-      sym (ap (λ (b : Bool). put (a .out .now) (a .at) (oneIf b (a .node))) e ∙ put-none (a .out .now) (a .at)),
-      sym (ap (λ (b : Bool). a .at + length (oneIf b (a .node))) e ∙ add-zero (a .at)),
-    )
+    let e = not-true (a .wanted) (c .if1 .taken) in
+    record {
+      out-is = sym (ap (λ (b : Bool). put (a .out .now) (a .at) (oneIf b (a .node))) e ∙ put-none (a .out .now) (a .at));
+      next-is = sym (ap (λ (b : Bool). a .at + length (oneIf b (a .node))) e ∙ add-zero (a .at));
+    }
 
 cast-out : tie.Need-cast-out
 cast-out c = search needs
@@ -43,10 +44,11 @@ same-length c = search needs
 returns-2 : tie.Need-returns-2
 returns-2 c =
     let a = c .before .args in
-    let e = not-false (a .wanted) (c .if1 .left) in (
-      put-one (a .out .now) (a .at) (a .node) (place-inside c) ∙ ap (λ (b : Bool). put (a .out .now) (a .at) (oneIf b (a .node))) (sym e),
-      ap (λ (b : Bool). a .at + length (oneIf b (a .node))) (sym e),
-    )
+    let e = not-false (a .wanted) (c .if1 .left) in
+    record {
+      out-is = put-one (a .out .now) (a .at) (a .node) (place-inside c) ∙ ap (λ (b : Bool). put (a .out .now) (a .at) (oneIf b (a .node))) (sym e);
+      next-is = ap (λ (b : Bool). a .at + length (oneIf b (a .node))) (sym e);
+    }
 
 pub put-node-spec : {M : Type 1} → statement M
 put-node-spec =

@@ -56,7 +56,7 @@ loop-again c =
     let v = k .unflag-node in
     let l = in-loop k in
     let p = start l .pre in
-    swept-more (l .loop .inv) (p .0) (p .2) (left k) (v .result) (v .ensures .0) _ _ _ (v .ensures .1) (w .ensures .0) (w .ensures .1)
+    swept-more (l .loop .inv) (p .0) (p .2) (left k) (v .result) (v .ensures .0) _ _ _ (v .ensures .1) (w .ensures .out-is) (w .ensures .next-is)
 
 same-length : tie.Need-same-length Inv-loop μ-loop
 same-length c = let p = start (c .before) .pre in swept-lengths (c .before .loop .inv) (p .0) (p .2) .0

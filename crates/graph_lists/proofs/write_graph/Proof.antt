@@ -36,7 +36,7 @@ abbrev flags-start : tie.After-write-flagged → tie.Start
 flags-start c = start (is-flagged (records-end c))
 
 flags : (c : tie.After-flag-nodes) → let a = start c .args in Flags (a .sheet .now) (a .scratch .now) (a .at) (a .constraints) (c .flag-nodes .last .1 .1 .1 .0)
-flags c = record { at-is = start c .pre .1; count-is = start c .pre .2; flags-are = c .flag-nodes .ensures }
+flags c = record { at-is = start c .pre .1 .at-is; count-is = start c .pre .1 .constraints-are; flags-are = c .flag-nodes .ensures }
 
 behind : (c : tie.After-write-flagged) → let a = flags-start c .args in
     let v = c .write-flagged in
@@ -45,14 +45,14 @@ behind : (c : tie.After-write-flagged) → let a = flags-start c .args in
 behind c = record {
   to-is = records-end c .records-end .ensures;
   plain-is = c .write-flagged .ensures .0;
-  out-is = c .write-flagged .ensures .1;
-  end-is = c .write-flagged .ensures .2;
+  out-is = c .write-flagged .ensures .1 .out-is;
+  end-is = c .write-flagged .ensures .1 .next-is;
   starts = refl;
-  ints-are = flags-start c .pre .3;
+  ints-are = flags-start c .pre .1 .interactions-are;
 }
 
 flag-nodes-requires : tie.Need-flag-nodes-requires
-flag-nodes-requires c κs = let s = c .before .before .before .before in constraints-named (s .pre .0) (s .args .at) (s .args .constraints) (s .pre .1) (s .pre .2)
+flag-nodes-requires c κs = let s = c .before .before .before .before in constraints-named (s .pre .0) (s .args .at) (s .args .constraints) (s .pre .1 .at-is) (s .pre .1 .constraints-are)
 
 records-end-requires : tie.Need-records-end-requires
 records-end-requires c κs = let s = start (c .before .before) in omega (arith, records-limit (s .args .n) (nodes-small (s .pre .0)))
@@ -66,7 +66,7 @@ write-flagged-requires c κs =
 add-write-interactions : tie.Need-add-write-interactions
 add-write-interactions c =
     let s = flags-start (constraints-there c) in
-    omega (arith, s .pre .1, s .pre .2, places-small (s .args .sheet .now) (s .pre .0 .checked) .1)
+    omega (arith, s .pre .1 .at-is, s .pre .1 .constraints-are, places-small (s .args .sheet .now) (s .pre .0 .checked) .1)
 
 write-interactions-requires : tie.Need-write-interactions-requires
 write-interactions-requires c κs =
@@ -80,7 +80,7 @@ put-head-requires : tie.Need-put-head-requires
 put-head-requires c κs =
     let v = interactions-written c in
     let k = constraints-written v in
-    head-asks (flags-start k .pre .0) (flags (is-flagged (records-end k))) (behind k) (v .write-interactions .ensures .0)
+    head-asks (flags-start k .pre .0) (flags (is-flagged (records-end k))) (behind k) (v .write-interactions .ensures .out-is)
 
 same-length : tie.Need-same-length
 same-length c = search needs
@@ -90,7 +90,7 @@ same-length-2 c =
     let h = head-written c in
     let v = interactions-written (h .before) in
     let k = constraints-written v in
-    h .put-head .kept .0 ∙ out₂-length (flags-start k .pre .0) (flags (is-flagged (records-end k))) (behind k) (v .write-interactions .ensures .0)
+    h .put-head .kept .0 ∙ out₂-length (flags-start k .pre .0) (flags (is-flagged (records-end k))) (behind k) (v .write-interactions .ensures .out-is)
 
 returns : tie.Need-returns
 returns c =
@@ -100,7 +100,7 @@ returns c =
     let p = flags-start k .pre .0 in
     let f = flags (is-flagged (records-end k)) in
     let o = v .write-interactions .ensures in
-    (h .put-head .ensures ∙ graph-written p f (behind k) (o .0), graph-end p f (behind k) (o .0) _ (o .1))
+    (h .put-head .ensures ∙ graph-written p f (behind k) (o .out-is), graph-end p f (behind k) (o .out-is) _ (o .next-is))
 
 pub write-graph-spec : {M : Type 1} → statement M
 write-graph-spec =

@@ -2,15 +2,13 @@
 use borrow.Author.Needs.{needs}
 use mathlib.Core.Path.{ap, _∙_}
 use Prim.Native.Nat.{_-_, max}
-use lib.ListN.{length}
-use Rattle.records.specs.Access.{recordsOf}
 use Rattle.records.specs.declared.Interaction.{Interaction}
 use Rattle.interaction_lists.proofs.Messages.{Looking, looking-none, looking-at, looking-more, looking-done}
 use Rattle.interaction_lists.proofs.max_fields_len.Statement.{statement}
 use Rattle.interaction_lists.proofs.max_fields_len.Tie as tie
 
 abbrev Inv-loop : tie.InvT-loop
-Inv-loop s at interactions most₀ from₀ i₀ most from i = Looking (length (recordsOf s)) s at interactions most from i
+Inv-loop s at interactions most₀ from₀ i₀ most from i = Looking s at interactions most from i
 
 abbrev μ-loop : tie.MeasureT-loop
 μ-loop s at interactions most₀ from₀ i₀ most from i = interactions - i

@@ -72,7 +72,7 @@ module _ (c : tie.After-interactions-at) where
       walk-ends (words entry) (entry .args .records) (sheet-is entry .records-are) front (rest entry)
       (length (take (heads entry) (entry .args .pool .now))) (zeroed .zero-all .ensures) (heads-long entry)
 
-  interactions-in : AllRootsInside (length (recordsOf (words entry))) (words entry) at (entry .args .interactions)
+  interactions-in : AllRootsInside (words entry) at (entry .args .interactions)
   interactions-in =
       interactions-there (words entry) (sheet-is entry .checked) at (entry .args .interactions) (c .interactions-at .ensures)
       (sheet-is entry .interactions-are)

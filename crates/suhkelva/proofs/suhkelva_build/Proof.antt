@@ -1,3 +1,4 @@
+-- The builder promises its outcome: C gets the fields of its reply, and scratch and output as the builder leaves them.
 use borrow.Author.Needs.{needs}
 use Rattle.c_replies.specs.Fields.{writtenFields}
 use Rattle.suhkelva.proofs.Laws.{handed}

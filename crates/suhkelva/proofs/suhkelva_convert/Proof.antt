@@ -1,3 +1,4 @@
+-- The conversion promises its outcome: C gets the fields of its reply, and the output as the conversion leaves it.
 use borrow.Author.Needs.{needs}
 use Rattle.c_replies.specs.Fields.{writtenFields}
 use Rattle.suhkelva.proofs.Laws.{handed}

@@ -1,3 +1,4 @@
+-- The expansion promises its outcome: C gets the fields of its reply, and the eight slices as the expansion leaves them.
 use borrow.Author.Needs.{needs}
 use Rattle.c_list_replies.specs.Fields.{interactionListFields}
 use Rattle.suhkelva.proofs.Laws.{handed}

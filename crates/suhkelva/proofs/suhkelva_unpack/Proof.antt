@@ -1,6 +1,8 @@
+-- Unpacking promises its outcome, and C gets the fields of its reply. The place is 0 (`low-places`), so 32 bits hold it.
 use borrow.Author.Needs.{needs}
+use Rattle.semantics.proofs.LowPlaces.{low-places}
 use Rattle.c_replies.specs.Fields.{recordFields}
-use Rattle.suhkelva.proofs.Laws.{handed}
+use Rattle.suhkelva.proofs.Laws.{no-place, handed}
 use Rattle.suhkelva.proofs.suhkelva_unpack.Statement.{statement}
 use Rattle.suhkelva.proofs.suhkelva_unpack.Tie as tie
 
@@ -8,7 +10,7 @@ unpack-requires : tie.Need-unpack-requires
 unpack-requires c κs = search needs
 
 record-fields-requires : tie.Need-record-fields-requires
-record-fields-requires c κs = search needs
+record-fields-requires c κs = no-place (c .unpack .ensures) (low-places .unpack _)
 
 returns : tie.Need-returns
 returns c = handed recordFields (c .record-fields .ensures) (c .before .unpack .ensures)

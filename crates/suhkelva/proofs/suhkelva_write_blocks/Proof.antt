@@ -1,3 +1,4 @@
+-- The writer promises its outcome: C gets the fields of its reply, and the output as the writer leaves it.
 use borrow.Author.Needs.{needs}
 use Rattle.c_replies.specs.Fields.{writtenFields}
 use Rattle.suhkelva.proofs.Laws.{handed}

@@ -8,7 +8,8 @@ use borrow.Author.Needs.{needs}
 use lib.ListN.{length}
 use Rattle.records.proofs.Reading.{places-small}
 use Rattle.graph_lists.specs.Lists.{graphOut}
-use Rattle.dag.proofs.Starts.{Counted, start-walking, references-inside, walking-next, all-inside, finishing}
+use Rattle.graph_lists.specs.Lists.{ListsAt}
+use Rattle.dag.proofs.Starts.{start-walking, references-inside, walking-next, all-inside, finishing}
 use Rattle.dag.proofs.graph.build_graph.Statement.{statement}
 use Rattle.dag.proofs.graph.build_graph.Tie as tie
 
@@ -23,11 +24,11 @@ module _ (c : tie.After-num-interactions) where
   abbrev entry : tie.Start
   entry = start (located .before)
 
-  counted : Counted (entry .args .sheet .now) (located .constraints-at .result) (c .before .num-constraints .result) (c .num-interactions .result)
+  counted : ListsAt (entry .args .sheet .now) (located .constraints-at .result) (c .before .num-constraints .result) (c .num-interactions .result)
   counted = record {
-    located = located .constraints-at .ensures;
-    constraints = c .before .num-constraints .ensures;
-    interactions = c .num-interactions .ensures;
+    at-is = located .constraints-at .ensures;
+    constraints-are = c .before .num-constraints .ensures;
+    interactions-are = c .num-interactions .ensures;
   }
 
 abbrev head-read : tie.After-add-references-arg2 → tie.After-num-interactions
@@ -94,7 +95,7 @@ add-references-requires c κs =
 add-add-interactions : tie.Need-add-add-interactions
 add-add-interactions c =
     let n = head (named c) in
-    omega (arith, counted n .located, counted n .constraints, places-small (entry n .args .sheet .now) (entry n .pre .checked) .1)
+    omega (arith, counted n .at-is, counted n .constraints-are, places-small (entry n .args .sheet .now) (entry n .pre .checked) .1)
 
 add-interactions-requires : tie.Need-add-interactions-requires
 add-interactions-requires c κs =
@@ -112,9 +113,7 @@ write-graph-requires c κs =
       finishing (entry n .pre) (counted n) (named-scratch a) (named-out a) (a .add-references .result)
           (all-scratch all) (all-out all) (all .add-interactions .result)
           (a .add-references .ensures) (all .add-interactions .ensures) (all-kept all),
-      counted n .located,
-      counted n .constraints,
-      counted n .interactions,
+      counted n,
     )
 
 same-length : tie.Need-same-length

@@ -15,7 +15,7 @@ returns c =
     let s = c .before .before .before .before .before .before in
     let a = s .args in
     let p = s .pre in
-    neg-made (a .pool .now) (a .x .at) (a .x .count) (c .before .before .negate-list .last .0) (p .1) (p .2) (c .before .before .negate-list .ensures)
+    neg-made (a .pool .now) (a .x .at) (a .x .count) (c .before .before .negate-list .last .0) (p .1 .0) (p .1 .1) (c .before .before .negate-list .ensures)
 
 pub expand-neg-spec : {M : Type 1} → statement M
 expand-neg-spec = tie.close (tie.spec negate-list-requires same-length returns)

@@ -27,12 +27,12 @@ few : (c : tie.Else1) → start c .args .l .count * start c .args .r .count ≤ 
 few c = omega (arith, c .if1 .left)
 
 mul-if1 : tie.Need-mul-if1
-mul-if1 c = let p = entry c .pre in omega (arith, mul-le-mul (p .1 .0) (p .2))
+mul-if1 c = let p = entry c .pre in omega (arith, mul-le-mul (p .1 .0) (p .2 .0))
 
 returns : tie.Need-returns
 returns c =
     let s = entry (c .before) in
-    product-many (s .pre .1 .1) (s .pre .3) (s .args .work .now) (c .if1 .taken)
+    product-many (s .pre .1 .1) (s .pre .2 .1) (s .args .work .now) (c .if1 .taken)
 
 longest-requires : tie.Need-longest-requires
 longest-requires c κs = search needs
@@ -43,21 +43,21 @@ longest-requires-2 c κs = search needs
 add-if2 : tie.Need-add-if2
 add-if2 c =
     let p = start (few-enough c) .pre in
-    omega (arith, c .before .longest .ensures, c .longest2 .ensures, longest-small (p .1 .1) (p .3))
+    omega (arith, c .before .longest .ensures, c .longest2 .ensures, longest-small (p .1 .1) (p .2 .1))
 
 returns-2 : tie.Need-returns-2
 returns-2 c =
     let m = c .before in
     let k = few-enough m in
     let s = start k in
-    product-long (s .pre .1 .1) (s .pre .3) (s .args .work .now) _ _ (few k) (m .before .longest .ensures) (m .longest2 .ensures) (c .if2 .taken)
+    product-long (s .pre .1 .1) (s .pre .2 .1) (s .args .work .now) _ _ (few k) (m .before .longest .ensures) (m .longest2 .ensures) (c .if2 .taken)
 
 multiply-lists-requires : tie.Need-multiply-lists-requires
 multiply-lists-requires c κs =
     let m = measured c in
     let k = few-enough m in
     let p = start k .pre in
-    (few k, p .0, p .1 .1, p .3, omega (arith, c .before .if2 .left, m .before .longest .ensures, m .longest2 .ensures))
+    (few k, p .0, p .1 .1, p .2 .1, omega (arith, c .before .if2 .left, m .before .longest .ensures, m .longest2 .ensures))
 
 same-length : tie.Need-same-length
 same-length c = search needs
@@ -69,7 +69,7 @@ returns-3 c =
     let m = measured g in
     let k = few-enough m in
     let p = start k .pre in
-    product-made (p .1 .1) (p .3) (v .last .0) (v .result) _ _ (few k) (m .before .longest .ensures) (m .longest2 .ensures)
+    product-made (p .1 .1) (p .2 .1) (v .last .0) (v .result) _ _ (few k) (m .before .longest .ensures) (m .longest2 .ensures)
     (omega (arith, g .before .if2 .left)) (v .ensures .1) (v .ensures .0)
 
 pub expand-product-spec : {M : Type 1} → statement M

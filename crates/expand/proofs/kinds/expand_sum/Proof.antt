@@ -29,7 +29,7 @@ add-if1 c = search needs
 returns : tie.Need-returns
 returns c =
     let s = entry (c .before) in
-    sum-many (s .args .negated) (s .pre .1 .1) (s .pre .3) (s .args .work .now) (c .if1 .taken)
+    sum-many (s .args .negated) (s .pre .1 .1) (s .pre .2 .1) (s .args .work .now) (c .if1 .taken)
 
 combine-list-requires : tie.Need-combine-list-requires
 combine-list-requires c κs =
@@ -41,7 +41,7 @@ combine-list-requires-2 c κs =
     let v = first c .combine-list in
     let k = few-enough (first c) in
     let s = start k in
-    sum-second (s .args .negated) (s .pre .1 .1) (s .pre .3) (s .args .work .now) (v .last .0) (v .result) (s .pre .0) (v .kept .0) (v .ensures .0) (v .ensures .1) (few k)
+    sum-second (s .args .negated) (s .pre .1 .1) (s .pre .2 .1) (s .args .work .now) (v .last .0) (v .result) (s .pre .0) (v .kept .0) (v .ensures .0) (v .ensures .1) (few k)
 
 same-length : tie.Need-same-length
 same-length c = search needs
@@ -53,7 +53,7 @@ returns-2 c =
     let v = first (z .before) .combine-list in
     let k = few-enough (first (z .before)) in
     let s = start k in
-    sum-made (s .args .negated) (s .pre .1 .1) (s .pre .3) (s .args .work .now) (v .last .0) (v .result) (s .pre .0) (v .kept .0) (v .ensures .0)
+    sum-made (s .args .negated) (s .pre .1 .1) (s .pre .2 .1) (s .args .work .now) (v .last .0) (v .result) (s .pre .0) (v .kept .0) (v .ensures .0)
     (w .last .0) (w .result) (v .ensures .1) (few k) (w .ensures .1) (w .ensures .0)
 
 pub expand-sum-spec : {M : Type 1} → statement M
