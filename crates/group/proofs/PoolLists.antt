@@ -16,7 +16,7 @@ use Rattle.semantics.specs.Lists.{All}
 use Rattle.semantics.proofs.Basics.{by-test, cond-true, cond-false}
 use Rattle.monomial.specs.Words.{monomialWords, listWords, readMonomial, readList, listIn, Fits, Stored}
 use Rattle.monomial.proofs.ListLaws.{words-cons, size-cons, one-length, words-length, front-count, stored-list, list-in-suc}
-use Rattle.group.specs.Grouped.{Tally, tallyAll, nonZero, Standing, listOf, InPool}
+use Rattle.group.specs.Grouped.{Tally, tallyAll, nonZero, MonomialInside, Standing, listOf, InPool}
 use Rattle.group.proofs.Tallies.{varsOf, tallyAll-append}
 
 pub read-coef : (P : List ℕ) (at : ℕ) → readMonomial (drop at P) .coef ≡ getD P (at + 1) 0
@@ -67,7 +67,7 @@ pub left-suc : (count i : ℕ) → i < count → count - i ≡ suc (count - (i +
 left-suc count i h = omega arith
 
 pub standing-next : (count i place : ℕ) (P : List ℕ) → i < count → Standing (count - i) P place
-    → (getD P place 0 ≤ 14) × (place + 2 + getD P place 0 ≤ length P) × (place ≤ 4294967295) × Standing (count - (i + 1)) P (place + 2 + getD P place 0)
+    → (getD P place 0 ≤ 14) × MonomialInside P place × (place ≤ 4294967295) × Standing (count - (i + 1)) P (place + 2 + getD P place 0)
 standing-next count i place P h s = subst (λ (m : ℕ). Standing m P place) (left-suc count i h) s
 
 -- What is left of a list, once its next monomial is counted.

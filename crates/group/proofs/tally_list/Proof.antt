@@ -33,7 +33,7 @@ tally-run-requires : tie.Need-tally-run-requires Inv-loop μ-loop
 tally-run-requires c κs =
     let b = c .before .before .before .before .loop in
     let t = c .before .before .before .loop-test .taken in
-    (b .inv .rows-are, b .inv .standing, b .inv .small, omega arith, refl)
+    ((b .inv .rows-are, b .inv .standing, b .inv .small), omega arith, refl)
 
 slice-aggregate-insert-pending : tie.Need-slice-aggregate-insert-pending Inv-loop μ-loop
 slice-aggregate-insert-pending c = search needs

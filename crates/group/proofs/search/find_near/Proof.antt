@@ -1,3 +1,5 @@
+-- One row is compared first; the rows below it or above it are then searched, as the comparison says (`row-before`, `row-after`), or all where there is
+-- no such row.
 use native.Mathlib.Omega.{arith}
 use borrow.Author.Needs.{needs}
 use Rattle.group.proofs.Searching.{rows-all, row-asks, row-same, row-before, row-after}
