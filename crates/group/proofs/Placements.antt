@@ -304,10 +304,10 @@ module _ {b : Bool} {n : ℕ} {P : List ℕ} {index field at count : ℕ} {H₀ 
     pub listing-asks : ToPlace b n H₀ P T₀ (itemsAt index field (listIn P at count)) → ToPlace b n H P T (itemsAt index field (readMonomial (drop place P) ∷ []))
     listing-asks t = going-asks b n P H₀ T₀ (itemsAt index field (listIn P at count)) H T _ _ _ next-list (g .going) t
 
-    pub listing-step : {H′ T′ : List ℕ} → length H′ ≡ length H → length T′ ≡ length T
+    pub listing-step : (H′ T′ : List ℕ) → length H′ ≡ length H → length T′ ≡ length T
         → Places b n P H T H′ T′ (itemsAt index field (readMonomial (drop place P) ∷ []))
         → Listing b n P index field at count H₀ T₀ H′ T′ (place + 2 + getD P place 0) (i + 1)
-    listing-step {H′} {T′} lh lt does = record {
+    listing-step H′ T′ lh lt does = record {
       upto = omega arith;
       standing = standing-next count i place P h (g .standing) .3;
       going = going-step b n P H₀ T₀ (itemsAt index field (listIn P at count)) H T _ _ _ next-list (g .going) H′ T′ lh lt does;

@@ -124,10 +124,18 @@ list-standing (m ∷ ms) P at f w i b =
     let j = inside-is m ms P at w i in
     (omega arith, omega arith, omega arith, list-standing ms P (at + 2 + getD P at 0) (f .1) (rest-is m ms P at w i) j (omega arith))
 
-pub stands : (P : List ℕ) (i : ℕ) → InPool P i → Standing (getD P (2 * i + 1) 0) P (getD P (2 * i) 0)
+stands : (P : List ℕ) (i : ℕ) → InPool P i → Standing (getD P (2 * i + 1) 0) P (getD P (2 * i) 0)
 stands P i s =
     subst (λ (m : ℕ). Standing m P (getD P (2 * i) 0)) (sym (s .count-is))
     (list-standing (listOf P i) P (getD P (2 * i) 0) (s .fit) (s .words-are) (s .inside) (s .low))
+
+-- A record's list, where it starts and its length being read from the pool.
+module _ (P : List ℕ) (i : ℕ) {at count : ℕ} (a : at ≡ getD P (2 * i) 0) (c : count ≡ getD P (2 * i + 1) 0) where
+  pub list-read : listIn P at count ≡ listOf P i
+  list-read j = listIn P (a j) (c j)
+
+  pub stands-read : InPool P i → Standing count P at
+  stands-read s = subst (λ (k : ℕ). Standing count P k) (sym a) (subst (λ (m : ℕ). Standing m P (getD P (2 * i) 0)) (sym c) (stands P i s))
 
 -- The list that is read from the pool stands there, where any list does.
 pub stored-in : (P : List ℕ) (i : ℕ) (l : List Monomial) → Stored P i l → InPool P i

@@ -1,6 +1,7 @@
 -- The term of each monomial of the list is placed. The loop's invariant, `Listing`: the items of the monomials passed are placed, and the rest of the
 -- list stands at `place`; `listing-step` keeps it, and at the end all items are placed (`listing-done`).
 use mathlib.Core.Path.{sym, subst}
+use mathlib.Core.List.{List}
 use Prim.Native.Nat.{ℕ, _+_, _-_}
 use native.Mathlib.Omega.{arith}
 use borrow.Author.Needs.{needs}
@@ -17,10 +18,13 @@ Inv-loop headers₀ n pool at count interaction index field terms₀ near₀ pla
 abbrev μ-loop : tie.MeasureT-loop
 μ-loop headers₀ n pool at count interaction index field terms₀ near₀ place₀ i₀ headers terms near place i = count - i
 
-abbrev start : tie.At-loop Inv-loop μ-loop → tie.Start Inv-loop μ-loop
-start c = c .before .before .before .before
+abbrev entry : tie.After-slice-known2 Inv-loop μ-loop → tie.Start Inv-loop μ-loop
+entry c = c .before .before .before
 
--- A turn of the loop: what stands in the pool, and what is known once the monomial's term is placed.
+abbrev start : tie.At-loop Inv-loop μ-loop → tie.Start Inv-loop μ-loop
+start c = entry (c .before)
+
+-- In a turn of the loop the next monomial stands in the pool.
 next-stands : (c : tie.In-loop Inv-loop μ-loop) → PlaceInside (start (c .before) .args .pool .now) (c .before .loop .place)
 next-stands c =
     let a = start (c .before) .args in
@@ -31,17 +35,24 @@ next-stands c =
 abbrev turn : tie.After-place-kept-arg2 Inv-loop μ-loop → tie.In-loop Inv-loop μ-loop
 turn c = c .before .before
 
+-- Its term is placed, and the number of its variables is read.
 abbrev placed : tie.After-slice-known4 Inv-loop μ-loop → tie.After-place-kept Inv-loop μ-loop
 placed c = c .before .before .before .before
 
 abbrev placed-turn : tie.After-slice-known4 Inv-loop μ-loop → tie.In-loop Inv-loop μ-loop
 placed-turn c = turn (placed c .before)
 
-abbrev counted : tie.After-wide Inv-loop μ-loop → tie.After-slice-known4 Inv-loop μ-loop
-counted c = c .before .before
+abbrev read : tie.After-wide Inv-loop μ-loop → tie.After-slice-known4 Inv-loop μ-loop
+read c = c .before .before
+
+abbrev headers-now : tie.After-place-kept Inv-loop μ-loop → List ℕ
+headers-now c = c .place-kept .last .0
+
+abbrev terms-now : tie.After-place-kept Inv-loop μ-loop → List ℕ
+terms-now c = c .place-kept .last .1 .1 .1 .1 .1 .1 .1 .0
 
 loop-holds : tie.Need-loop-holds Inv-loop μ-loop
-loop-holds c = listing-start (c .before .before .before .pre .1)
+loop-holds c = listing-start (entry c .pre .1)
 
 place-kept-requires : tie.Need-place-kept-requires Inv-loop μ-loop
 place-kept-requires c κs =
@@ -63,7 +74,7 @@ wide-requires c κs = search needs
 
 add-place-2 : tie.Need-add-place-2 Inv-loop μ-loop
 add-place-2 c =
-    let s = next-stands (placed-turn (counted c)) in
+    let s = next-stands (placed-turn (read c)) in
     let w = c .wide .ensures in
     search needs
 
@@ -75,15 +86,16 @@ loop-less c = search needs
 
 loop-again : tie.Need-loop-again Inv-loop μ-loop
 loop-again c =
-    let t = placed-turn (counted c) in
+    let k = placed (read c) in
+    let t = placed-turn (read c) in
     let a = start (t .before) .args in
     let b = t .before .loop in
-    let k = placed (counted c) .place-kept in
     subst
-    (λ (x : ℕ). Listing (a .interaction) (a .n) (a .pool .now) (a .index) (a .field) (a .at) (a .count) (a .headers .now) (a .terms .now) (k .last .0)
-    (k .last .1 .1 .1 .1 .1 .1 .1 .0) (b .place + 2 + x) (b .i + 1))
+    (λ (x : ℕ). Listing (a .interaction) (a .n) (a .pool .now) (a .index) (a .field) (a .at) (a .count) (a .headers .now) (a .terms .now)
+    (headers-now k) (terms-now k) (b .place + 2 + x) (b .i + 1))
     (sym (c .wide .ensures))
-    (listing-step (b .inv) (t .loop-test .taken) (k .kept .0) (k .kept .1 .1 .1 .1 .1 .1 .1 .0) (k .ensures))
+    (listing-step (b .inv) (t .loop-test .taken) (headers-now k) (terms-now k) (k .place-kept .kept .0)
+    (k .place-kept .kept .1 .1 .1 .1 .1 .1 .1 .0) (k .place-kept .ensures))
 
 same-length : tie.Need-same-length Inv-loop μ-loop
 same-length c = c .before .loop .inv .going .long
