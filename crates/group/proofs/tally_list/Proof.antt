@@ -1,5 +1,5 @@
--- The list is counted in runs, each of which ends with those that wait put in among the rows. The loop's invariant, `Tallying`: the rows, with what is
--- left of the list counted in, give what counting the whole list gives; `tallying-step` keeps it.
+-- The list is counted in runs; after each, the monomials that wait are put in among the rows. The loop's invariant, `Tallying`: counting what is left of
+-- the list into the rows gives what counting the whole list into the first rows gives; `tallying-step` keeps it.
 use mathlib.Core.Path.{_≡_, refl, subst, _∙_}
 use mathlib.Core.List.{List}
 use Prim.Native.Nat.{ℕ, _+_, _-_, _≤_, _<_}
@@ -19,15 +19,15 @@ Inv-loop headers₀ n pool at count rows₀ place₀ i₀ headers rows place i =
 abbrev μ-loop : tie.MeasureT-loop
 μ-loop headers₀ n pool at count rows₀ place₀ i₀ headers rows place i = count - i
 
-abbrev entry : tie.After-shared-slice-known Inv-loop μ-loop → tie.Start Inv-loop μ-loop
-entry c = c .before .before
+abbrev start : tie.After-shared-slice-known Inv-loop μ-loop → tie.Start Inv-loop μ-loop
+start c = c .before .before
 
-abbrev start : tie.At-loop Inv-loop μ-loop → tie.Start Inv-loop μ-loop
-start c = entry (c .before)
+abbrev loop-start : tie.At-loop Inv-loop μ-loop → tie.Start Inv-loop μ-loop
+loop-start c = start (c .before)
 
 -- A turn of the loop: a run, and then those that wait put in.
-abbrev turn : tie.After-fronts Inv-loop μ-loop → tie.In-loop Inv-loop μ-loop
-turn c = c .before .before .before
+abbrev run-turn : tie.After-fronts Inv-loop μ-loop → tie.In-loop Inv-loop μ-loop
+run-turn c = c .before .before .before
 
 abbrev ran : tie.After-fronts3 Inv-loop μ-loop → tie.After-tally-run Inv-loop μ-loop
 ran c = c .before .before .before .before .before .before .before
@@ -36,11 +36,11 @@ module _ (c : tie.After-insert-pending Inv-loop μ-loop) where
   abbrev run : tie.After-tally-run Inv-loop μ-loop
   run = ran (c .before)
 
-  abbrev lap : tie.In-loop Inv-loop μ-loop
-  lap = turn (run .before)
+  abbrev turn : tie.In-loop Inv-loop μ-loop
+  turn = run-turn (run .before)
 
-  abbrev here : tie.Start Inv-loop μ-loop
-  here = start (lap .before)
+  abbrev entry : tie.Start Inv-loop μ-loop
+  entry = loop-start (turn .before)
 
   abbrev headers-now : List ℕ
   headers-now = c .insert-pending .last .0
@@ -49,20 +49,20 @@ module _ (c : tie.After-insert-pending Inv-loop μ-loop) where
   abbrev tallies : List Tally
   tallies =
       let u = run .tally-run in
-      batched (lap .before .loop .rows) (u .result .pending) (u .last .0) (here .args .pool .now) (u .last .1 .1 .1 .1 .1 .0)
+      batched (turn .before .loop .rows) (u .result .pending) (u .last .0) (entry .args .pool .now) (u .last .1 .1 .1 .1 .1 .0)
 
-  counted : (r : Tallied) → c .insert-pending .result ≡ r → CountedMore headers-now (here .args .pool .now) tallies r
-  counted r e = subst (CountedMore headers-now (here .args .pool .now) tallies) e (c .insert-pending .ensures)
+  counted : (r : Tallied) → c .insert-pending .result ≡ r → CountedMore headers-now (entry .args .pool .now) tallies r
+  counted r e = subst (CountedMore headers-now (entry .args .pool .now) tallies) e (c .insert-pending .ensures)
 
-  headers-long : length headers-now ≡ length (lap .before .loop .headers)
+  headers-long : length headers-now ≡ length (turn .before .loop .headers)
   headers-long = c .insert-pending .kept .0 ∙ run .tally-run .kept .0
 
-  -- The run took a monomial, and none that there is not.
+  -- The run took at least one monomial, and no more than were left.
   run-some : 0 < run .tally-run .result .done
-  run-some = run .tally-run .ensures .some (omega (arith, lap .loop-test .taken))
+  run-some = run .tally-run .ensures .some (omega (arith, turn .loop-test .taken))
 
-  run-upto : lap .before .loop .i + run .tally-run .result .done ≤ here .args .count
-  run-upto = omega (arith, run .tally-run .ensures .upto, lap .loop-test .taken)
+  run-upto : turn .before .loop .i + run .tally-run .result .done ≤ entry .args .count
+  run-upto = omega (arith, run .tally-run .ensures .upto, turn .loop-test .taken)
 
 -- There is no room for those that wait, or they are put in.
 abbrev inserted : tie.After-slice-known3 Inv-loop μ-loop → tie.After-insert-pending Inv-loop μ-loop
@@ -79,8 +79,8 @@ put-in c = inserted (told c .before .before)
 
 loop-holds : tie.Need-loop-holds Inv-loop μ-loop
 loop-holds c =
-    let a = entry c .args in
-    let p = entry c .pre in
+    let a = start c .args in
+    let p = start c .pre in
     tallying-start (a .headers .now) (a .n) (a .pool .now) (a .at) (a .count) (p .0) (p .1) (p .2)
 
 sub-tally-run : tie.Need-sub-tally-run Inv-loop μ-loop
@@ -94,8 +94,8 @@ slice-aggregate-tally-run-2 c = search needs
 
 tally-run-requires : tie.Need-tally-run-requires Inv-loop μ-loop
 tally-run-requires c κs =
-    let g = turn c .before .loop .inv in
-    let t = turn c .loop-test .taken in
+    let g = run-turn c .before .loop .inv in
+    let t = run-turn c .loop-test .taken in
     ((g .rows-are, g .standing, g .small), omega arith, refl)
 
 slice-aggregate-insert-pending : tie.Need-slice-aggregate-insert-pending Inv-loop μ-loop
@@ -114,17 +114,17 @@ enum-told : tie.Need-enum-told Inv-loop μ-loop
 enum-told c = search needs
 
 same-length : tie.Need-same-length Inv-loop μ-loop
-same-length c = let v = no-room c in headers-long v ∙ lap v .before .loop .inv .long
+same-length c = let v = no-room c in headers-long v ∙ turn v .before .loop .inv .long
 
 returns : tie.Need-returns Inv-loop μ-loop
 returns c =
     let v = no-room c in
-    tallying-full (lap v .before .loop .inv) (run v .tally-run .ensures) (headers-now v) (counted v _ (c .enum-told .given .1))
+    tallying-full (turn v .before .loop .inv) (run v .tally-run .ensures) (headers-now v) (counted v _ (c .enum-told .given .1))
 
 add-i : tie.Need-add-i Inv-loop μ-loop
 add-i c =
     let r = run-upto (put-in c) in
-    let q = here (put-in c) .pre .2 in
+    let q = entry (put-in c) .pre .2 in
     search needs
 
 loop-less : tie.Need-loop-less Inv-loop μ-loop
@@ -137,7 +137,7 @@ loop-again : tie.Need-loop-again Inv-loop μ-loop
 loop-again c =
     let v = put-in c in
     let n = told c .next .given in
-    tallying-step (lap v .before .loop .inv) (run v .tally-run .ensures) (headers-now v) (n .0 .0) (headers-long v) (counted v _ (n .1))
+    tallying-step (turn v .before .loop .inv) (run v .tally-run .ensures) (headers-now v) (n .0 .0) (headers-long v) (counted v _ (n .1))
 
 same-length-2 : tie.Need-same-length-2 Inv-loop μ-loop
 same-length-2 c = c .before .loop .inv .long

@@ -1,6 +1,6 @@
 -- Two words say where the record's list starts and how many monomials it has; the list at that place is the record's (`list-read`), and one call counts
 -- its monomials.
-use mathlib.Core.Path.{sym, subst}
+use mathlib.Core.Path.{subst}
 use mathlib.Core.List.{List}
 use native.Mathlib.Omega.{arith}
 use Rattle.semantics.specs.Monomial.{Monomial}

@@ -1,4 +1,4 @@
--- Monomials are taken one by one. The loop's invariant, `Running`: the rows and those that wait, with what is left of the list counted in, give what
+-- Monomials are taken one by one. The loop's invariant, `Running`: counting what is left of the list into the rows and those that wait gives what
 -- counting the whole list gives. `run-step` keeps it; a run ends where a monomial cannot wait (`run-stop`) or with the list (`run-done`).
 use mathlib.Core.Path.{sym, subst, _∙_}
 use mathlib.Core.List.{[], _∷_}

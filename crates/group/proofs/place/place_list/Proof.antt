@@ -18,16 +18,16 @@ Inv-loop headers₀ n pool at count interaction index field terms₀ near₀ pla
 abbrev μ-loop : tie.MeasureT-loop
 μ-loop headers₀ n pool at count interaction index field terms₀ near₀ place₀ i₀ headers terms near place i = count - i
 
-abbrev entry : tie.After-slice-known2 Inv-loop μ-loop → tie.Start Inv-loop μ-loop
-entry c = c .before .before .before
+abbrev start : tie.After-slice-known2 Inv-loop μ-loop → tie.Start Inv-loop μ-loop
+start c = c .before .before .before
 
-abbrev start : tie.At-loop Inv-loop μ-loop → tie.Start Inv-loop μ-loop
-start c = entry (c .before)
+abbrev loop-start : tie.At-loop Inv-loop μ-loop → tie.Start Inv-loop μ-loop
+loop-start c = start (c .before)
 
 -- In a turn of the loop the next monomial stands in the pool.
-next-stands : (c : tie.In-loop Inv-loop μ-loop) → PlaceInside (start (c .before) .args .pool .now) (c .before .loop .place)
+next-stands : (c : tie.In-loop Inv-loop μ-loop) → PlaceInside (loop-start (c .before) .args .pool .now) (c .before .loop .place)
 next-stands c =
-    let a = start (c .before) .args in
+    let a = loop-start (c .before) .args in
     let b = c .before .loop in
     let s = standing-next (a .count) (b .i) (b .place) (a .pool .now) (c .loop-test .taken) (b .inv .standing) in
     (s .0, s .1, s .2)
@@ -52,13 +52,13 @@ abbrev terms-now : tie.After-place-kept Inv-loop μ-loop → List ℕ
 terms-now c = c .place-kept .last .1 .1 .1 .1 .1 .1 .1 .0
 
 loop-holds : tie.Need-loop-holds Inv-loop μ-loop
-loop-holds c = listing-start (entry c .pre .1)
+loop-holds c = listing-start (start c .pre .1)
 
 place-kept-requires : tie.Need-place-kept-requires Inv-loop μ-loop
 place-kept-requires c κs =
     let t = turn c in
     let s = next-stands t in
-    (listing-asks (t .before .loop .inv) (t .loop-test .taken) (start (t .before) .pre .0), s .0, s .1)
+    (listing-asks (t .before .loop .inv) (t .loop-test .taken) (loop-start (t .before) .pre .0), s .0, s .1)
 
 add-place : tie.Need-add-place Inv-loop μ-loop
 add-place c = let s = next-stands (placed-turn c) in search needs
@@ -88,7 +88,7 @@ loop-again : tie.Need-loop-again Inv-loop μ-loop
 loop-again c =
     let k = placed (read c) in
     let t = placed-turn (read c) in
-    let a = start (t .before) .args in
+    let a = loop-start (t .before) .args in
     let b = t .before .loop in
     subst
     (λ (x : ℕ). Listing (a .interaction) (a .n) (a .pool .now) (a .index) (a .field) (a .at) (a .count) (a .headers .now) (a .terms .now)

@@ -21,27 +21,27 @@ abbrev μ-loop : tie.MeasureT-loop
 abbrev tallies : tie.Start Inv-loop μ-loop → List Tally
 tallies c = tallied (c .args .n) (c .args .headers .now) (c .args .pool .now)
 
-abbrev entry : tie.After-slice-known Inv-loop μ-loop → tie.Start Inv-loop μ-loop
-entry c = c .before .before .before
+abbrev start : tie.After-slice-known Inv-loop μ-loop → tie.Start Inv-loop μ-loop
+start c = c .before .before .before
 
-abbrev start : tie.At-loop Inv-loop μ-loop → tie.Start Inv-loop μ-loop
-start c = entry (c .before)
+abbrev loop-start : tie.At-loop Inv-loop μ-loop → tie.Start Inv-loop μ-loop
+loop-start c = start (c .before)
 
 -- A turn of the loop: the row is one of the tallies, and its variables are as many as its word says.
 module _ (c : tie.In-loop Inv-loop μ-loop) where
-  abbrev here : tie.Start Inv-loop μ-loop
-  here = start (c .before)
+  abbrev entry : tie.Start Inv-loop μ-loop
+  entry = loop-start (c .before)
 
-  row-tallied : c .before .loop .i < length (tallies here)
+  row-tallied : c .before .loop .i < length (tallies entry)
   row-tallied =
-      let e = tallied-length (here .args .n) (here .args .headers .now) (here .args .pool .now) in
+      let e = tallied-length (entry .args .n) (entry .args .headers .now) (entry .args .pool .now) in
       omega (arith, c .loop-test .taken)
 
   abbrev size : ℕ
-  size = rowSize (here .args .headers .now) (c .before .loop .i)
+  size = rowSize (entry .args .headers .now) (c .before .loop .i)
 
-  size-is : size ≡ length (getD (tallies here) (c .before .loop .i) none .vars)
-  size-is = vars-long (here .args .n) (c .before .loop .i) (here .args .headers .now) (here .args .pool .now) (here .pre .0) (c .loop-test .taken)
+  size-is : size ≡ length (getD (tallies entry) (c .before .loop .i) none .vars)
+  size-is = vars-long (entry .args .n) (c .before .loop .i) (entry .args .headers .now) (entry .args .pool .now) (entry .pre .0) (c .loop-test .taken)
 
 -- The row is written.
 module _ (c : tie.After-write-row Inv-loop μ-loop) where
@@ -53,9 +53,9 @@ module _ (c : tie.After-write-row Inv-loop μ-loop) where
 
   -- The variables of the row's tally stand behind those that were written.
   row-written : let b = turn .before .loop in
-      variables-now ≡ take (b .at) (b .variables) ++ (getD (tallies (here turn)) (b .i) none .vars ++ drop (b .at + size turn) (b .variables))
+      variables-now ≡ take (b .at) (b .variables) ++ (getD (tallies (entry turn)) (b .i) none .vars ++ drop (b .at + size turn) (b .variables))
   row-written =
-      let a = here turn .args in
+      let a = entry turn .args in
       let b = turn .before .loop in
       c .write-row .ensures .1
       ∙ ap (λ (x : List ℕ). take (b .at) (b .variables) ++ (x ++ drop (b .at + size turn) (b .variables)))
@@ -65,12 +65,12 @@ abbrev written : tie.After-slice-known2 Inv-loop μ-loop → tie.After-write-row
 written c = c .before .before
 
 loop-holds : tie.Need-loop-holds Inv-loop μ-loop
-loop-holds c = written-none (tallies (entry c)) (entry c .args .variables .now)
+loop-holds c = written-none (tallies (start c)) (start c .args .variables .now)
 
 write-row-requires : tie.Need-write-row-requires Inv-loop μ-loop
 write-row-requires c κs =
     let t = c .before in
-    let s = here t in
+    let s = entry t in
     let a = s .args in
     let b = t .before .loop in
     let r = s .pre .0 .room in
@@ -88,7 +88,7 @@ loop-again : tie.Need-loop-again Inv-loop μ-loop
 loop-again c =
     let w = written c in
     let t = turn w in
-    let s = here t in
+    let s = entry t in
     let b = t .before .loop in
     let u = w .write-row in
     written-more (tallies s) (s .args .variables .now) (b .variables) (b .at) (b .i) (b .inv) (row-tallied t) (variables-now w) (u .result) (size t)
@@ -99,7 +99,7 @@ same-length c = c .before .loop .inv .1
 
 returns : tie.Need-returns Inv-loop μ-loop
 returns c =
-    let s = start (c .before) in
+    let s = loop-start (c .before) in
     let a = s .args in
     let b = c .before .loop in
     let e = tallied-length (a .n) (a .headers .now) (a .pool .now) in
