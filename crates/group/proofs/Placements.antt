@@ -107,11 +107,11 @@ count-missing v (g ∷ gs) (suc k) s =
     ∙ count-missing v gs k (omega (arith, s .0), (λ i h. s .1 (suc i) (omega arith)), (λ i h l. s .2 (suc i) (omega arith) (omega arith)))
 
 -- Variables with room for an item are found.
-pub room-found : (gs : List Tally) (done : List Item) (t : Item) (v : List ℕ) (k : ℕ) → v ≡ t .vars → RoomForTerms gs (done ++ (t ∷ [])) → Spot v gs (Missing k) → ⊥
-room-found gs done t v k q r s =
-    let e = ap length (select-same v t done q) ∙ length-append (select v done) (t ∷ []) in
-    let z = count-missing v gs k s in
-    absurd (omega (arith, r v))
+pub room-found : (gs : List Tally) (done : List Item) (t : Item) (k : ℕ) → RoomForTerms gs (done ++ (t ∷ [])) → Spot (t .vars) gs (Missing k) → ⊥
+room-found gs done t k r s =
+    let e = ap length (select-same (t .vars) t done refl) ∙ length-append (select (t .vars) done) (t ∷ []) in
+    let z = count-missing (t .vars) gs k s in
+    absurd (omega (arith, r (t .vars)))
 
 pub spot-lt : (gs : List Tally) (k : ℕ) (done : List Item) (t : Item) → k < length gs → getD gs k none .vars ≡ t .vars → Fit gs (done ++ (t ∷ []))
     → suc (spot gs k done) ≤ talliedTotal gs
@@ -140,13 +140,13 @@ module _ (term : Item → List ℕ) (width : ℕ) (wide : (u : Item) → length 
       length-append (padded (flatMap term (select (g .vars) done)) (width * g .count)) (placed term width gs done) ∙ omega arith
 
 -- The next term of row k.
-module _ (b : Bool) (gs : List Tally) (n : ℕ) (H P T : List ℕ) (done : List Item) (t : Item) (v : List ℕ) (k : ℕ)
-    (p : Placing b gs n H P T done) (m : RoomForTerms gs (done ++ (t ∷ []))) (e : v ≡ t .vars) (s : Spot v (tallied n H P) (There k)) where
+module _ {b : Bool} {gs : List Tally} {n : ℕ} {H P T : List ℕ} {done : List Item} (p : Placing b gs n H P T done)
+    (t : Item) (k : ℕ) (m : RoomForTerms gs (done ++ (t ∷ []))) (s : Spot (t .vars) (tallied n H P) (There k)) where
   row-lt : k < n
   row-lt = subst (λ (i : ℕ). k < i) (tallied-length n H P) (s .0)
 
   in-groups : (k < length gs) × (getD gs k none .vars ≡ t .vars)
-  in-groups = subst (λ (l : List Tally). (k < length l) × (getD l k none .vars ≡ t .vars)) (p .tallies-are) (s .0, s .1 ∙ e)
+  in-groups = subst (λ (l : List Tally). (k < length l) × (getD l k none .vars ≡ t .vars)) (p .tallies-are) s
 
   ascending : Ascends gs
   ascending = subst Ascends (p .tallies-are) (p .rows-are .ascends)
@@ -283,7 +283,7 @@ pub record Listing (b : Bool) (n : ℕ) (P : List ℕ) (index field at count : �
   pub standing : Standing (count - i) P place
   pub going : Going b n P H₀ T₀ (itemsAt index field (listIn P at count)) H T (itemsAt index field (listIn P place (count - i)))
 
-module _ (b : Bool) (n : ℕ) (P : List ℕ) (index field at count : ℕ) (H₀ T₀ : List ℕ) where
+module _ {b : Bool} {n : ℕ} {P : List ℕ} {index field at count : ℕ} {H₀ T₀ : List ℕ} where
   pub listing-start : Standing count P at → Listing b n P index field at count H₀ T₀ H₀ T₀ at 0
   listing-start s =
       let e : count - 0 ≡ count = omega arith in
@@ -293,7 +293,7 @@ module _ (b : Bool) (n : ℕ) (P : List ℕ) (index field at count : ℕ) (H₀ 
         going = going-start b n P H₀ T₀ (itemsAt index field (listIn P at count)) _ (ap (λ (m : ℕ). itemsAt index field (listIn P at m)) e);
       }
 
-  module _ (H T : List ℕ) (place i : ℕ) (g : Listing b n P index field at count H₀ T₀ H T place i) (h : i < count) where
+  module _ {H T : List ℕ} {place i : ℕ} (g : Listing b n P index field at count H₀ T₀ H T place i) (h : i < count) where
     next-list : itemsAt index field (listIn P place (count - i))
         ≡ itemsAt index field (readMonomial (drop place P) ∷ []) ++ itemsAt index field (listIn P (place + 2 + getD P place 0) (count - (i + 1)))
     next-list =
@@ -313,9 +313,9 @@ module _ (b : Bool) (n : ℕ) (P : List ℕ) (index field at count : ℕ) (H₀ 
       going = going-step b n P H₀ T₀ (itemsAt index field (listIn P at count)) H T _ _ _ next-list (g .going) H′ T′ lh lt does;
     }
 
-  pub listing-done : (H T : List ℕ) (place i : ℕ) → Listing b n P index field at count H₀ T₀ H T place i → count ≤ i
+  pub listing-done : {H T : List ℕ} {place i : ℕ} → Listing b n P index field at count H₀ T₀ H T place i → count ≤ i
       → Places b n P H₀ T₀ H T (itemsAt index field (listIn P at count))
   unfolding itemsOf readList
-  listing-done H T place i g h =
+  listing-done {H} {T} {place} {i} g h =
       let z : count - i ≡ 0 = omega arith in
       going-done b n P H₀ T₀ (itemsAt index field (listIn P at count)) H T _ (ap (λ (m : ℕ). itemsAt index field (listIn P place m)) z) (g .going)

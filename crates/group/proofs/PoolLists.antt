@@ -16,7 +16,7 @@ use Rattle.semantics.specs.Lists.{All}
 use Rattle.semantics.proofs.Basics.{by-test, cond-true, cond-false}
 use Rattle.monomial.specs.Words.{monomialWords, listWords, readMonomial, readList, listIn, Fits, Stored}
 use Rattle.monomial.proofs.ListLaws.{words-cons, size-cons, one-length, words-length, front-count, stored-list, list-in-suc}
-use Rattle.group.specs.Grouped.{Tally, tallyAll, nonZero, Standing, listOf, InPool}
+use Rattle.group.specs.Grouped.{Tally, tallyAll, nonZero, MonomialInside, Standing, listOf, InPool}
 use Rattle.group.proofs.Tallies.{varsOf, tallyAll-append}
 
 pub read-coef : (P : List ℕ) (at : ℕ) → readMonomial (drop at P) .coef ≡ getD P (at + 1) 0
@@ -67,7 +67,7 @@ pub left-suc : (count i : ℕ) → i < count → count - i ≡ suc (count - (i +
 left-suc count i h = omega arith
 
 pub standing-next : (count i place : ℕ) (P : List ℕ) → i < count → Standing (count - i) P place
-    → (getD P place 0 ≤ 14) × (place + 2 + getD P place 0 ≤ length P) × (place ≤ 4294967295) × Standing (count - (i + 1)) P (place + 2 + getD P place 0)
+    → (getD P place 0 ≤ 14) × MonomialInside P place × (place ≤ 4294967295) × Standing (count - (i + 1)) P (place + 2 + getD P place 0)
 standing-next count i place P h s = subst (λ (m : ℕ). Standing m P place) (left-suc count i h) s
 
 -- What is left of a list, once its next monomial is counted.
@@ -124,10 +124,18 @@ list-standing (m ∷ ms) P at f w i b =
     let j = inside-is m ms P at w i in
     (omega arith, omega arith, omega arith, list-standing ms P (at + 2 + getD P at 0) (f .1) (rest-is m ms P at w i) j (omega arith))
 
-pub stands : (P : List ℕ) (i : ℕ) → InPool P i → Standing (getD P (2 * i + 1) 0) P (getD P (2 * i) 0)
+stands : (P : List ℕ) (i : ℕ) → InPool P i → Standing (getD P (2 * i + 1) 0) P (getD P (2 * i) 0)
 stands P i s =
     subst (λ (m : ℕ). Standing m P (getD P (2 * i) 0)) (sym (s .count-is))
     (list-standing (listOf P i) P (getD P (2 * i) 0) (s .fit) (s .words-are) (s .inside) (s .low))
+
+-- A record's list, where it starts and its length being read from the pool.
+module _ (P : List ℕ) (i : ℕ) {at count : ℕ} (a : at ≡ getD P (2 * i) 0) (c : count ≡ getD P (2 * i + 1) 0) where
+  pub list-read : listIn P at count ≡ listOf P i
+  list-read j = listIn P (a j) (c j)
+
+  pub stands-read : InPool P i → Standing count P at
+  stands-read s = subst (λ (k : ℕ). Standing count P k) (sym a) (subst (λ (m : ℕ). Standing m P (getD P (2 * i) 0)) (sym c) (stands P i s))
 
 -- The list that is read from the pool stands there, where any list does.
 pub stored-in : (P : List ℕ) (i : ℕ) (l : List Monomial) → Stored P i l → InPool P i

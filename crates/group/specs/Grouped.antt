@@ -10,7 +10,7 @@ use Rattle.semantics.specs.Monomial.{BeforeVars, Monomial, beforeVars}
 use Rattle.semantics.specs.Group.{Item, itemsOf, constraintTerm, interactionTerm}
 use Rattle.semantics.specs.Call.{zeros, padded}
 use Rattle.semantics.specs.Lists.{AscendBy, All}
-use Rattle.monomial.specs.Words.{listIn, Stored}
+use Rattle.monomial.specs.Words.{readMonomial, listIn, Stored}
 use Rattle.group.specs.declared.Found.{Found}
 use Rattle.group.specs.declared.Found.the-variants.{There, Missing}
 use Rattle.group.specs.declared.Tallied.{Tallied}
@@ -79,6 +79,16 @@ tallied n headers pool = map (tallyRow pool) (rows 4 n headers)
 abbrev pub RowInside : (pool row : List ℕ) → Type 0
 RowInside pool row = (getD row 0 0 + 2 + getD row 2 0 ≤ length pool) × (getD row 2 0 ≤ 14)
 
+-- Row i of the headers: where a monomial with its variables stands in the pool, how many variables it has, and these variables.
+abbrev pub rowPlace : (headers : List ℕ) (i : ℕ) → ℕ
+rowPlace headers i = getD headers (4 * i) 0
+
+abbrev pub rowSize : (headers : List ℕ) (i : ℕ) → ℕ
+rowSize headers i = getD headers (4 * i + 2) 0
+
+abbrev pub rowVars : (headers pool : List ℕ) (i : ℕ) → List ℕ
+rowVars headers pool i = take (rowSize headers i) (drop (rowPlace headers i + 2) pool)
+
 -- The headers hold n rows, which ascend, and then zeros.
 pub record Rows (n : ℕ) (headers pool : List ℕ) : Type 0 where
   pub room : 4 * n ≤ length headers
@@ -114,11 +124,24 @@ unfoldable pub nonZero : List Monomial → List (List ℕ)
 nonZero [] = []
 nonZero (m ∷ ms) = cond (eqb (m .coef) 0) (nonZero ms) (m .vars ∷ nonZero ms)
 
+-- The monomial whose words stand in the pool from `at` on: the number of its variables, its coefficient, its variables.
+abbrev pub monomialIn : (pool : List ℕ) (at : ℕ) → Monomial
+monomialIn pool at = readMonomial (drop at pool)
+
+-- These words are all inside the pool.
+abbrev pub MonomialInside : (pool : List ℕ) (at : ℕ) → Type 0
+MonomialInside pool at = at + 2 + getD pool at 0 ≤ length pool
+
 -- The words of n monomials stand in the pool from `at` on, at places that a word can hold.
 abbrev pub Standing : (n : ℕ) (pool : List ℕ) (at : ℕ) → Type 0
 Standing zero pool at = Unit {0}
 Standing (suc n) pool at =
-    (getD pool at 0 ≤ 14) × (at + 2 + getD pool at 0 ≤ length pool) × (at ≤ 4294967295) × Standing n pool (at + 2 + getD pool at 0)
+    (getD pool at 0 ≤ 14) × MonomialInside pool at × (at ≤ 4294967295) × Standing n pool (at + 2 + getD pool at 0)
+
+-- What counting `count` monomials asks: the rows so far, the monomials in the pool, and no more counted in all than a word can hold.
+abbrev pub ToCount : (n : ℕ) (headers pool : List ℕ) (at count : ℕ) → Type 0
+ToCount n headers pool at count =
+    Rows n headers pool × Standing count pool at × (talliedTotal (tallied n headers pool) + count ≤ 4294967295)
 
 -- The list of record i in the pool.
 abbrev pub listOf : (pool : List ℕ) (i : ℕ) → List Monomial

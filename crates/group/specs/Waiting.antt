@@ -3,10 +3,10 @@ use mathlib.Core.Path.{_≡_}
 use mathlib.Core.Bool.{Bool, true, false}
 use mathlib.Core.List.{List, map}
 use Prim.Native.Nat.{ℕ, suc, _+_, _-_, _≤_, _<_}
-use lib.ListN.{length, getD, take, drop}
+use lib.ListN.{length, getD, take}
 use Rattle.semantics.specs.Monomial.{beforeVars}
-use Rattle.monomial.specs.Words.{readMonomial, listIn}
-use Rattle.group.specs.Grouped.{Tally, tallyAll, talliedTotal, tallied, Rows, Spot, nonZero, Standing}
+use Rattle.monomial.specs.Words.{listIn}
+use Rattle.group.specs.Grouped.{Tally, tallyAll, talliedTotal, tallied, Rows, Spot, nonZero, monomialIn, MonomialInside, Standing}
 use Rattle.group.specs.declared.Found.the-variants.{Missing}
 use Rattle.group.specs.declared.pending.Next.{Next}
 use Rattle.group.specs.declared.pending.Next.the-variants.{Taken, Stopped}
@@ -14,10 +14,10 @@ use Rattle.group.specs.declared.pending.Run.{Run}
 
 -- A monomial stands in the pool, at a place that a word can hold.
 abbrev pub PlaceInside : (pool : List ℕ) (at : ℕ) → Type 0
-PlaceInside pool at = (getD pool at 0 ≤ 14) × (at + 2 + getD pool at 0 ≤ length pool) × (at ≤ 4294967295)
+PlaceInside pool at = (getD pool at 0 ≤ 14) × MonomialInside pool at × (at ≤ 4294967295)
 
 abbrev pub poolVars : (pool : List ℕ) (at : ℕ) → List ℕ
-poolVars pool at = readMonomial (drop at pool) .vars
+poolVars pool at = monomialIn pool at .vars
 
 -- The first b places are those of monomials without a row, in ascending order, each with the row that it goes in front of.
 pub record Pending (b : ℕ) (places fronts pool : List ℕ) (gs : List Tally) : Type 0 where

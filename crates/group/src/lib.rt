@@ -3,7 +3,7 @@ ghost use Prim.Native.Nat.{_+_, _≤_};
 ghost use lib.ListN.{length};
 ghost use Rattle.slices.specs.Lent.{old, new};
 ghost use Rattle.monomial.specs.Words.{listIn};
-ghost use Rattle.group.specs.Grouped.{Rows, tallied, tallyAll, talliedTotal, CountedMore, nonZero, Standing, listOf, InPool};
+ghost use Rattle.group.specs.Grouped.{Rows, tallied, tallyAll, talliedTotal, CountedMore, nonZero, ToCount, listOf, InPool};
 
 mod pending;
 pub mod place;
@@ -24,8 +24,7 @@ pub enum Tallied {
 
 // Counts the monomials of a list that stands at `at`: in runs, each of which has the monomials without a row put in at its end.
 fn tally_list(headers: &mut [u32], n: usize, pool: &[u32], at: usize, count: usize) -> Tallied
-    requires { ⌜ Rows n (now headers) (now pool) × Standing count (now pool) at
-        × (talliedTotal (tallied n (now headers) (now pool)) + count ≤ 4294967295) ⌝ }
+    requires { ⌜ ToCount n (now headers) (now pool) at count ⌝ }
     ensures { λ r. ⌜ CountedMore (new headers) (old pool)
         (tallyAll (nonZero (listIn (old pool) at count)) (tallied n (old headers) (old pool))) r ⌝ }
 {

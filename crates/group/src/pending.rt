@@ -5,11 +5,10 @@ use crate::search;
 ghost use mathlib.Core.Path.{_≡_};
 ghost use mathlib.Core.List.{[], _∷_};
 ghost use Prim.Native.Nat.{ℕ, _+_, _*_, _-_, _≤_, _<_};
-ghost use lib.ListN.{length, getD, drop};
+ghost use lib.ListN.{length, getD};
 ghost use lib.Seq.{sets};
 ghost use Rattle.slices.specs.Lent.{old, new};
-ghost use Rattle.monomial.specs.Words.{readMonomial};
-ghost use Rattle.group.specs.Grouped.{Rows, tallied, talliedTotal, CountedMore, nonZero, Standing};
+ghost use Rattle.group.specs.Grouped.{tallied, talliedTotal, CountedMore, nonZero, monomialIn, ToCount};
 ghost use Rattle.group.specs.Waiting.{PlaceInside, poolVars, Batch, batched, MayFollow, Nexts, Ran};
 use monomial::vars;
 use monomial::vars::Order;
@@ -120,9 +119,8 @@ fn tally_kept(
 ) -> Next
     requires { ⌜ Batch n b (now headers) (now pool) (now places) (now fronts) × PlaceInside (now pool) at
         × (talliedTotal (tallied n (now headers) (now pool)) < 4294967295) ⌝ }
-    ensures { λ r. ⌜ Nexts n b (nonZero (readMonomial (drop at (old pool)) ∷ []))
-        (batched n b (old headers) (old pool) (old places)) (new headers) (old pool)
-        (new places) (new fronts) r ⌝ }
+    ensures { λ r. ⌜ Nexts n b (nonZero (monomialIn (old pool) at ∷ [])) (batched n b (old headers) (old pool) (old places))
+        (new headers) (old pool) (new places) (new fronts) r ⌝ }
 {
     if pool[at + 1] == 0 {
         return Next::Taken(b, near);
@@ -140,8 +138,7 @@ pub fn tally_run(
     places: &mut [usize],
     fronts: &mut [usize],
 ) -> Run
-    requires { ⌜ Rows n (now headers) (now pool) × Standing count (now pool) at × (talliedTotal (tallied n (now headers) (now pool)) + count ≤ 4294967295)
-        × (0 < length (now places)) × (length (now fronts) ≡ length (now places)) ⌝ }
+    requires { ⌜ ToCount n (now headers) (now pool) at count × (0 < length (now places)) × (length (now fronts) ≡ length (now places)) ⌝ }
     ensures { λ r. ⌜ Ran n (old pool) at count (tallied n (old headers) (old pool)) (new headers)
         (new places) (new fronts) r ⌝ }
 {

@@ -6,8 +6,9 @@ ghost use lib.ListN.{length, getD, take, drop};
 ghost use lib.Seq.{sets};
 ghost use Rattle.slices.specs.Lent.{old, new};
 ghost use Rattle.semantics.specs.Group.{Item};
-ghost use Rattle.monomial.specs.Words.{readMonomial, listIn};
-ghost use Rattle.group.specs.Grouped.{Rows, tallied, Standing, listOf, InPool, termOf, termWidth, itemAt, itemsAt, ToPlace, Places, varsIn};
+ghost use Rattle.monomial.specs.Words.{listIn};
+ghost use Rattle.group.specs.Grouped.{Rows, tallied, rowPlace, rowSize, rowVars, monomialIn, MonomialInside, Standing};
+ghost use Rattle.group.specs.Grouped.{listOf, InPool, termOf, termWidth, itemAt, itemsAt, ToPlace, Places, varsIn};
 use crate::Found;
 
 // A term of a constraint, two words; `at` counts terms.
@@ -56,10 +57,10 @@ pub fn place_monomial(
     terms: &mut [u32],
     near: usize,
 ) -> usize
-    requires { ⌜ ToPlace interaction n (now headers) (now pool) (now terms) (itemAt index field (readMonomial (drop at (now pool))) ∷ [])
-        × (getD (now pool) at 0 ≤ 14) × (at + 2 + getD (now pool) at 0 ≤ length (now pool)) ⌝ }
+    requires { ⌜ ToPlace interaction n (now headers) (now pool) (now terms) (itemAt index field (monomialIn (now pool) at) ∷ [])
+        × (getD (now pool) at 0 ≤ 14) × MonomialInside (now pool) at ⌝ }
     ensures { λ _. ⌜ Places interaction n (old pool) (old headers) (old terms) (new headers) (new terms)
-        (itemAt index field (readMonomial (drop at (old pool))) ∷ []) ⌝ }
+        (itemAt index field (monomialIn (old pool) at) ∷ []) ⌝ }
 {
     let coef = pool[at + 1];
     let found = crate::search::find_near(headers, n, pool, at, near);
@@ -92,10 +93,10 @@ fn place_kept(
     terms: &mut [u32],
     near: usize,
 ) -> usize
-    requires { ⌜ ToPlace interaction n (now headers) (now pool) (now terms) (itemsAt index field (readMonomial (drop at (now pool)) ∷ []))
-        × (getD (now pool) at 0 ≤ 14) × (at + 2 + getD (now pool) at 0 ≤ length (now pool)) ⌝ }
+    requires { ⌜ ToPlace interaction n (now headers) (now pool) (now terms) (itemsAt index field (monomialIn (now pool) at ∷ []))
+        × (getD (now pool) at 0 ≤ 14) × MonomialInside (now pool) at ⌝ }
     ensures { λ _. ⌜ Places interaction n (old pool) (old headers) (old terms) (new headers) (new terms)
-        (itemsAt index field (readMonomial (drop at (old pool)) ∷ [])) ⌝ }
+        (itemsAt index field (monomialIn (old pool) at ∷ [])) ⌝ }
 {
     if pool[at + 1] == 0 {
         return near;
@@ -172,11 +173,10 @@ pub fn place_root(
 
 // The variables of row i go to `at`; hands back where the next go.
 fn write_row(headers: &[u32], i: usize, pool: &[u32], variables: &mut [u32], at: usize) -> usize
-    requires { ⌜ (4 * i + 4 ≤ length (now headers)) × (getD (now headers) (4 * i) 0 + 2 + getD (now headers) (4 * i + 2) 0 ≤ length (now pool))
-        × (at + getD (now headers) (4 * i + 2) 0 ≤ length (now variables)) ⌝ }
-    ensures { λ r. ⌜ (r ≡ at + getD (old headers) (4 * i + 2) 0) × (new variables ≡ take at (old variables) ++
-        (take (getD (old headers) (4 * i + 2) 0) (drop (getD (old headers) (4 * i) 0 + 2) (old pool))
-        ++ drop (at + getD (old headers) (4 * i + 2) 0) (old variables))) ⌝ }
+    requires { ⌜ (4 * i + 4 ≤ length (now headers)) × (rowPlace (now headers) i + 2 + rowSize (now headers) i ≤ length (now pool))
+        × (at + rowSize (now headers) i ≤ length (now variables)) ⌝ }
+    ensures { λ r. ⌜ (r ≡ at + rowSize (old headers) i) × (new variables
+        ≡ take at (old variables) ++ (rowVars (old headers) (old pool) i ++ drop (at + rowSize (old headers) i) (old variables))) ⌝ }
 {
     let row = 4 * i;
     let from = answers::wide(headers[row]) + 2;

@@ -1,8 +1,13 @@
-use mathlib.Core.Path.{refl, subst, _∙_}
-use Prim.Native.Nat.{_+_, _-_, _≤_}
+-- The list is counted in runs; after each, the monomials that wait are put in among the rows. The loop's invariant, `Tallying`: counting what is left of
+-- the list into the rows gives what counting the whole list into the first rows gives; `tallying-step` keeps it.
+use mathlib.Core.Path.{_≡_, refl, subst, _∙_}
+use mathlib.Core.List.{List}
+use Prim.Native.Nat.{ℕ, _+_, _-_, _≤_, _<_}
 use native.Mathlib.Omega.{arith}
 use borrow.Author.Needs.{needs}
-use Rattle.group.specs.Grouped.{CountedMore}
+use lib.ListN.{length}
+use Rattle.group.specs.declared.Tallied.{Tallied}
+use Rattle.group.specs.Grouped.{Tally, CountedMore}
 use Rattle.group.specs.Waiting.{batched}
 use Rattle.group.proofs.Runs.{Tallying, tallying-start, tallying-step, tallying-full, tallying-done}
 use Rattle.group.proofs.tally_list.Statement.{statement}
@@ -14,10 +19,68 @@ Inv-loop headers₀ n pool at count rows₀ place₀ i₀ headers rows place i =
 abbrev μ-loop : tie.MeasureT-loop
 μ-loop headers₀ n pool at count rows₀ place₀ i₀ headers rows place i = count - i
 
+abbrev start : tie.After-shared-slice-known Inv-loop μ-loop → tie.Start Inv-loop μ-loop
+start c = c .before .before
+
+abbrev loop-start : tie.At-loop Inv-loop μ-loop → tie.Start Inv-loop μ-loop
+loop-start c = start (c .before)
+
+-- A turn of the loop: a run, and then those that wait put in.
+abbrev run-turn : tie.After-fronts Inv-loop μ-loop → tie.In-loop Inv-loop μ-loop
+run-turn c = c .before .before .before
+
+abbrev ran : tie.After-fronts3 Inv-loop μ-loop → tie.After-tally-run Inv-loop μ-loop
+ran c = c .before .before .before .before .before .before .before
+
+module _ (c : tie.After-insert-pending Inv-loop μ-loop) where
+  abbrev run : tie.After-tally-run Inv-loop μ-loop
+  run = ran (c .before)
+
+  abbrev turn : tie.In-loop Inv-loop μ-loop
+  turn = run-turn (run .before)
+
+  abbrev entry : tie.Start Inv-loop μ-loop
+  entry = loop-start (turn .before)
+
+  abbrev headers-now : List ℕ
+  headers-now = c .insert-pending .last .0
+
+  -- What the run counted, those that waited among it.
+  abbrev tallies : List Tally
+  tallies =
+      let u = run .tally-run in
+      batched (turn .before .loop .rows) (u .result .pending) (u .last .0) (entry .args .pool .now) (u .last .1 .1 .1 .1 .1 .0)
+
+  counted : (r : Tallied) → c .insert-pending .result ≡ r → CountedMore headers-now (entry .args .pool .now) tallies r
+  counted r e = subst (CountedMore headers-now (entry .args .pool .now) tallies) e (c .insert-pending .ensures)
+
+  headers-long : length headers-now ≡ length (turn .before .loop .headers)
+  headers-long = c .insert-pending .kept .0 ∙ run .tally-run .kept .0
+
+  -- The run took at least one monomial, and no more than were left.
+  run-some : 0 < run .tally-run .result .done
+  run-some = run .tally-run .ensures .some (omega (arith, turn .loop-test .taken))
+
+  run-upto : turn .before .loop .i + run .tally-run .result .done ≤ entry .args .count
+  run-upto = omega (arith, run .tally-run .ensures .upto, turn .loop-test .taken)
+
+-- There is no room for those that wait, or they are put in.
+abbrev inserted : tie.After-slice-known3 Inv-loop μ-loop → tie.After-insert-pending Inv-loop μ-loop
+inserted c = c .before .before
+
+abbrev no-room : tie.After-enum-told Inv-loop μ-loop → tie.After-insert-pending Inv-loop μ-loop
+no-room c = inserted (c .before .before)
+
+abbrev told : tie.After-struct-known Inv-loop μ-loop → tie.After-next Inv-loop μ-loop
+told c = c .before .before
+
+abbrev put-in : tie.After-struct-known Inv-loop μ-loop → tie.After-insert-pending Inv-loop μ-loop
+put-in c = inserted (told c .before .before)
+
 loop-holds : tie.Need-loop-holds Inv-loop μ-loop
 loop-holds c =
-    let a = c .before .before .args in
-    let p = c .before .before .pre in
+    let a = start c .args in
+    let p = start c .pre in
     tallying-start (a .headers .now) (a .n) (a .pool .now) (a .at) (a .count) (p .0) (p .1) (p .2)
 
 sub-tally-run : tie.Need-sub-tally-run Inv-loop μ-loop
@@ -31,9 +94,9 @@ slice-aggregate-tally-run-2 c = search needs
 
 tally-run-requires : tie.Need-tally-run-requires Inv-loop μ-loop
 tally-run-requires c κs =
-    let b = c .before .before .before .before .loop in
-    let t = c .before .before .before .loop-test .taken in
-    (b .inv .rows-are, b .inv .standing, b .inv .small, omega arith, refl)
+    let g = run-turn c .before .loop .inv in
+    let t = run-turn c .loop-test .taken in
+    ((g .rows-are, g .standing, g .small), omega arith, refl)
 
 slice-aggregate-insert-pending : tie.Need-slice-aggregate-insert-pending Inv-loop μ-loop
 slice-aggregate-insert-pending c = search needs
@@ -42,7 +105,7 @@ slice-aggregate-insert-pending-2 : tie.Need-slice-aggregate-insert-pending-2 Inv
 slice-aggregate-insert-pending-2 c = search needs
 
 insert-pending-requires : tie.Need-insert-pending-requires Inv-loop μ-loop
-insert-pending-requires c κs = c .before .before .before .before .before .before .before .tally-run .ensures .batch
+insert-pending-requires c κs = ran c .tally-run .ensures .batch
 
 enum-known-next : tie.Need-enum-known-next Inv-loop μ-loop
 enum-known-next c = search needs
@@ -51,62 +114,30 @@ enum-told : tie.Need-enum-told Inv-loop μ-loop
 enum-told c = search needs
 
 same-length : tie.Need-same-length Inv-loop μ-loop
-same-length c =
-    c .before .before .before .before .insert-pending .kept .0
-    ∙ c .before .before .before .before .before .before .before .before .before .before .before .before .tally-run .kept .0 ∙
-    c .before .before .before .before .before .before .before .before .before .before .before .before .before .before .before .before .before .loop .inv .long
+same-length c = let v = no-room c in headers-long v ∙ turn v .before .loop .inv .long
 
 returns : tie.Need-returns Inv-loop μ-loop
 returns c =
-    let a = c .before .before .before .before .before .before .before .before .before .before .before .before .before .before .before .before .before .before .before .before .args in
-    let b = c .before .before .before .before .before .before .before .before .before .before .before .before .before .before .before .before .before .loop in
-    let P = a .pool .now in
-    let u = c .before .before .before .before .before .before .before .before .before .before .before .before .tally-run in
-    let v = c .before .before .before .before .insert-pending in
-    let gs = batched (b .rows) (u .result .pending) (u .last .0) P (u .last .1 .1 .1 .1 .1 .0) in
-    tallying-full (b .inv) (u .ensures) (v .last .0) (subst (CountedMore (v .last .0) P gs) (c .enum-told .given .1) (v .ensures))
+    let v = no-room c in
+    tallying-full (turn v .before .loop .inv) (run v .tally-run .ensures) (headers-now v) (counted v _ (c .enum-told .given .1))
 
 add-i : tie.Need-add-i Inv-loop μ-loop
 add-i c =
-    let a = c .before .before .before .before .before .before .before .before .before .before .before .before .before .before .before .before .before .before .before .before .before .before .args in
-    let b = c .before .before .before .before .before .before .before .before .before .before .before .before .before .before .before .before .before .before .before .loop in
-    let P = a .pool .now in
-    let u = c .before .before .before .before .before .before .before .before .before .before .before .before .before .before .tally-run in
-    let v = c .before .before .before .before .before .before .insert-pending in
-    let gs = batched (b .rows) (u .result .pending) (u .last .0) P (u .last .1 .1 .1 .1 .1 .0) in
-    let s = u .ensures .upto in
-    let t = c .before .before .before .before .before .before .before .before .before .before .before .before .before .before .before .before .before .before .loop-test .taken in
-    let r : b .i + u .result .done ≤ a .count = omega arith in
-    let q = c .before .before .before .before .before .before .before .before .before .before .before .before .before .before .before .before .before .before .before .before .before .before .pre .2 in
+    let r = run-upto (put-in c) in
+    let q = entry (put-in c) .pre .2 in
     search needs
 
 loop-less : tie.Need-loop-less Inv-loop μ-loop
 loop-less c =
-    let a = c .before .before .before .before .before .before .before .before .before .before .before .before .before .before .before .before .before .before .before .before .before .before .args in
-    let b = c .before .before .before .before .before .before .before .before .before .before .before .before .before .before .before .before .before .before .before .loop in
-    let P = a .pool .now in
-    let u = c .before .before .before .before .before .before .before .before .before .before .before .before .before .before .tally-run in
-    let v = c .before .before .before .before .before .before .insert-pending in
-    let gs = batched (b .rows) (u .result .pending) (u .last .0) P (u .last .1 .1 .1 .1 .1 .0) in
-    let r = u .ensures .some
-    (omega (
-      arith,
-      c .before .before .before .before .before .before .before .before .before .before .before .before .before .before .before .before .before .before .loop-test .taken,
-    ))
-    in
-    let s = u .ensures .upto in
+    let r = run-some (put-in c) in
+    let s = run-upto (put-in c) in
     search needs
 
 loop-again : tie.Need-loop-again Inv-loop μ-loop
 loop-again c =
-    let a = c .before .before .before .before .before .before .before .before .before .before .before .before .before .before .before .before .before .before .before .before .before .before .args in
-    let b = c .before .before .before .before .before .before .before .before .before .before .before .before .before .before .before .before .before .before .before .loop in
-    let P = a .pool .now in
-    let u = c .before .before .before .before .before .before .before .before .before .before .before .before .before .before .tally-run in
-    let v = c .before .before .before .before .before .before .insert-pending in
-    let gs = batched (b .rows) (u .result .pending) (u .last .0) P (u .last .1 .1 .1 .1 .1 .0) in
-    let n = c .before .before .next .given in
-    tallying-step (b .inv) (u .ensures) (v .last .0) (n .0 .0) (v .kept .0 ∙ u .kept .0) (subst (CountedMore (v .last .0) P gs) (n .1) (v .ensures))
+    let v = put-in c in
+    let n = told c .next .given in
+    tallying-step (turn v .before .loop .inv) (run v .tally-run .ensures) (headers-now v) (n .0 .0) (headers-long v) (counted v _ (n .1))
 
 same-length-2 : tie.Need-same-length-2 Inv-loop μ-loop
 same-length-2 c = c .before .loop .inv .long

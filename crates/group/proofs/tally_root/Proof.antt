@@ -1,13 +1,24 @@
-use mathlib.Core.Path.{sym, subst}
-use Prim.Native.Nat.{ℕ, _+_, _*_}
+-- Two words say where the record's list starts and how many monomials it has; the list at that place is the record's (`list-read`), and one call counts
+-- its monomials.
+use mathlib.Core.Path.{subst}
+use mathlib.Core.List.{List}
 use native.Mathlib.Omega.{arith}
-use lib.ListN.{getD}
-use Rattle.monomial.specs.Words.{listIn}
-use Rattle.group.specs.Grouped.{tallied, tallyAll, nonZero, CountedMore, Standing}
-use Rattle.group.proofs.PoolLists.{stands}
+use Rattle.semantics.specs.Monomial.{Monomial}
+use Rattle.group.specs.Grouped.{tallied, tallyAll, nonZero, CountedMore}
+use Rattle.group.proofs.PoolLists.{list-read, stands-read}
 use borrow.Author.Needs.{needs}
 use Rattle.group.proofs.tally_root.Statement.{statement}
 use Rattle.group.proofs.tally_root.Tie as tie
+
+-- Where the list starts is read, then its length.
+abbrev start : tie.After-wide → tie.Start
+start c = c .before .before .before .before
+
+abbrev at-read : tie.After-wide2 → tie.After-wide
+at-read c = c .before .before
+
+abbrev counted : tie.After-slice-known2 → tie.After-tally-list
+counted c = c .before .before
 
 mul-wide : tie.Need-mul-wide
 mul-wide c = search needs
@@ -38,28 +49,27 @@ wide-requires-2 c κs = search needs
 
 tally-list-requires : tie.Need-tally-list-requires
 tally-list-requires c κs =
-    let a = c .before .before .before .before .before .before .before .args in
-    let p = c .before .before .before .before .before .before .before .pre in
-    let P = a .pool .now in
-    let x = c .before .before .before .wide .ensures in
-    let y = c .before .wide2 .ensures in
+    let y = c .before in
+    let x = at-read y in
+    let a = start x .args in
+    let p = start x .pre in
     let e = p .1 .count-is in
-    (p .0, subst (λ (i : ℕ). Standing (c .before .wide2 .result) P i) (sym x) (subst (λ (i : ℕ). Standing i P (getD P (2 * a .node) 0)) (sym y) (stands P (a .node) (p .1))), omega (arith, p .2))
+    let l = y .wide2 .ensures in
+    (p .0, stands-read (a .pool .now) (a .node) (x .wide .ensures) l (p .1), omega (arith, p .2))
 
 same-length : tie.Need-same-length
 same-length c = search needs
 
 returns : tie.Need-returns
 returns c =
-    let a = c .before .before .before .before .before .before .before .before .before .before .args in
+    let y = counted c .before .before in
+    let x = at-read y in
+    let a = start x .args in
     let P = a .pool .now in
-    let u = c .before .before .tally-list in
+    let u = counted c .tally-list in
     let gs = tallied (a .n) (a .headers .now) P in
-    subst (λ (i : ℕ). CountedMore (u .last .0) P (tallyAll (nonZero (listIn P i (getD P (2 * a .node + 1) 0))) gs) (u .result)) (c .before .before .before .before .before .before .wide .ensures)
-    (subst
-    (λ (i : ℕ). CountedMore (u .last .0) P (tallyAll (nonZero (listIn P (c .before .before .before .before .before .before .wide .result) i)) gs)
-    (u .result))
-    (c .before .before .before .before .wide2 .ensures) (u .ensures))
+    subst (λ (l : List Monomial). CountedMore (u .last .0) P (tallyAll (nonZero l) gs) (u .result))
+    (list-read P (a .node) (x .wide .ensures) (y .wide2 .ensures)) (u .ensures)
 
 pub tally-root-spec : {M : Type 1} → statement M
 tally-root-spec =

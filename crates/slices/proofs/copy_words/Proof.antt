@@ -1,3 +1,5 @@
+-- Words are copied one by one until the list or the slice ends. The loop's invariant: the slice has the list's first `i` words and then its own
+-- (`Copied`), which `copy-more` keeps; `copy-full` and `copy-done` give the whole slice at either end.
 use mathlib.Core.Path.{refl}
 use Prim.Native.Nat.{_-_}
 use native.Mathlib.Omega.{arith}
@@ -13,6 +15,16 @@ Inv-loop list out₀ i₀ out i = Copied list out out₀ i
 abbrev μ-loop : tie.MeasureT-loop
 μ-loop list out₀ i₀ out i = length list - i
 
+abbrev start : tie.At-loop Inv-loop μ-loop → tie.Start Inv-loop μ-loop
+start c = c .before
+
+-- The slice is at its end; a word is copied.
+abbrev full : tie.Then1 Inv-loop μ-loop → tie.At-loop Inv-loop μ-loop
+full c = c .before .before
+
+abbrev turn : tie.After-shared-slice-known Inv-loop μ-loop → tie.At-loop Inv-loop μ-loop
+turn c = c .before .before .before
+
 loop-holds : tie.Need-loop-holds Inv-loop μ-loop
 loop-holds c = (omega arith, omega arith, refl, refl, refl)
 
@@ -21,8 +33,9 @@ same-length c = search needs
 
 returns : tie.Need-returns Inv-loop μ-loop
 returns c =
-    copy-full (c .before .before .before .args .list .now) (c .before .before .loop .out) (c .before .before .before .args .out .now)
-    (c .before .before .loop .i) (c .if1 .taken) (c .before .before .loop .inv)
+    let a = start (full c) .args in
+    let b = full c .loop in
+    copy-full (a .list .now) (b .out) (a .out .now) (b .i) (c .if1 .taken) (b .inv)
 
 mul-out : tie.Need-mul-out Inv-loop μ-loop
 mul-out c = search needs
@@ -44,15 +57,18 @@ loop-less c = search needs
 
 loop-again : tie.Need-loop-again Inv-loop μ-loop
 loop-again c =
-    copy-more (c .before .before .before .before .args .list .now) (c .before .before .before .loop .out)
-    (c .before .before .before .before .args .out .now) (c .before .before .before .loop .i) (omega arith) (omega arith)
-    (c .before .before .before .loop .inv)
+    let a = start (turn c) .args in
+    let b = turn c .loop in
+    copy-more (a .list .now) (b .out) (a .out .now) (b .i) (omega arith) (omega arith) (b .inv)
 
 same-length-2 : tie.Need-same-length-2 Inv-loop μ-loop
 same-length-2 c = search needs
 
 returns-2 : tie.Need-returns-2 Inv-loop μ-loop
-returns-2 c = copy-done (c .before .before .args .list .now) (c .before .loop .out) (c .before .before .args .out .now) (c .before .loop .i) (c .loop-test .left) (c .before .loop .inv)
+returns-2 c =
+    let a = start (c .before) .args in
+    let b = c .before .loop in
+    copy-done (a .list .now) (b .out) (a .out .now) (b .i) (c .loop-test .left) (b .inv)
 
 pub copy-words-spec : {M : Type 1} → statement M
 copy-words-spec =

@@ -1,3 +1,5 @@
+-- The number and 127 words are summed. The loop's invariant: the sum and the total of the words that are left give the whole (kept by `rest-more`),
+-- and the sum is small enough for one more word.
 use borrow.Author.Needs.{needs}
 use mathlib.Core.Path.{_≡_, ap}
 use Prim.Native.Nat.{ℕ, _+_, _*_, _-_, _≤_}
@@ -9,15 +11,22 @@ use Rattle.block.proofs.words.check_word.Statement.{statement}
 use Rattle.block.proofs.words.check_word.Tie as tie
 
 abbrev Inv-loop : tie.InvT-loop
-Inv-loop bytes at number sum₀ n₀ sum n = (n ≤ 127) × (sum ≤ 4294967295 * (n + 1)) × (sum + rest 127 bytes at n ≡ number + total (wordsOf 127 (drop at bytes)))
+Inv-loop bytes at number sum₀ n₀ sum n =
+    (n ≤ 127) × (sum ≤ 4294967295 * (n + 1)) × (sum + rest 127 bytes at n ≡ number + total (wordsOf 127 (drop at bytes)))
 
 abbrev μ-loop : tie.MeasureT-loop
 μ-loop bytes at number sum₀ n₀ sum n = 127 - n
 
+abbrev start : tie.At-loop Inv-loop μ-loop → tie.Start Inv-loop μ-loop
+start c = c .before .before
+
+abbrev turn : tie.After-word-at Inv-loop μ-loop → tie.At-loop Inv-loop μ-loop
+turn c = c .before .before
+
 loop-holds : tie.Need-loop-holds Inv-loop μ-loop
 loop-holds c =
-    let args = c .before .args in
-    (search needs, search needs, ap (λ (t : ℕ). args .number + t) (rest-all 127 (args .bytes .now) (args .at)))
+    let a = c .before .args in
+    (search needs, search needs, ap (λ (t : ℕ). a .number + t) (rest-all 127 (a .bytes .now) (a .at)))
 
 mul-word-at : tie.Need-mul-word-at Inv-loop μ-loop
 mul-word-at c = search needs
@@ -42,8 +51,8 @@ loop-less c = search needs
 
 loop-again : tie.Need-loop-again Inv-loop μ-loop
 loop-again c =
-    let args = c .before .before .before .before .args in
-    let more = rest-more 127 (args .bytes .now) (args .at) (c .before .before .loop .n) (search needs) (c .word-at .ensures) in
+    let a = start (turn c) .args in
+    let more = rest-more 127 (a .bytes .now) (a .at) (turn c .loop .n) (search needs) (c .word-at .ensures) in
     (search needs, search needs, omega (arith, more))
 
 cast-result : tie.Need-cast-result Inv-loop μ-loop
@@ -51,10 +60,10 @@ cast-result c = search needs
 
 returns : tie.Need-returns Inv-loop μ-loop
 returns c =
-    let args = c .before .before .before .args in
-    let loop = c .before .loop in
-    let none = rest-none 127 (args .bytes .now) (args .at) (loop .n) (search needs) in
-    summed (args .number) (loop .sum) (wordsOf 127 (drop (args .at) (args .bytes .now))) (omega (arith, none))
+    let a = start (c .before) .args in
+    let b = c .before .loop in
+    let none = rest-none 127 (a .bytes .now) (a .at) (b .n) (search needs) in
+    summed (a .number) (b .sum) (wordsOf 127 (drop (a .at) (a .bytes .now))) (omega (arith, none))
 
 pub check-word-spec : {M : Type 1} → statement M
 check-word-spec =

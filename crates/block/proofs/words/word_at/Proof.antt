@@ -1,7 +1,21 @@
+-- Four bytes are read and summed with their weights; each is at most 255, so that the sum fits, and `word-of` says that it is the word.
 use borrow.Author.Needs.{needs}
 use Rattle.block.proofs.Laws.{word-of}
 use Rattle.block.proofs.words.word_at.Statement.{statement}
 use Rattle.block.proofs.words.word_at.Tie as tie
+
+-- The bytes are read one by one.
+abbrev first : tie.After-wide2 → tie.After-wide
+first c = c .before .before
+
+abbrev second : tie.After-wide3 → tie.After-wide2
+second c = c .before .before
+
+abbrev third : tie.After-wide4 → tie.After-wide3
+third c = c .before .before
+
+abbrev start : tie.After-wide → tie.Start
+start c = c .before .before .before
 
 shared-slice-read-wide : tie.Need-shared-slice-read-wide
 shared-slice-read-wide c = search needs
@@ -56,9 +70,11 @@ add-result-3 c = search needs
 
 returns : tie.Need-returns
 returns c =
-    let args = c .before .before .before .before .before .before .before .before .before .args in
-    word-of (args .bytes .now) (args .at) (c .before .before .before .before .before .before .wide .ensures .0)
-    (c .before .before .before .before .wide2 .ensures .0) (c .before .before .wide3 .ensures .0) (c .wide4 .ensures .0)
+    let t = third c in
+    let s = second t in
+    let f = first s in
+    let a = start f .args in
+    word-of (a .bytes .now) (a .at) (f .wide .ensures .0) (s .wide2 .ensures .0) (t .wide3 .ensures .0) (c .wide4 .ensures .0)
 
 pub word-at-spec : {M : Type 1} → statement M
 word-at-spec =

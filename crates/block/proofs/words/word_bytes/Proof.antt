@@ -1,3 +1,4 @@
+-- Each byte is the word divided by a power of 256, modulo 256, as `wordBytes` has it.
 use borrow.Author.Needs.{needs}
 use mathlib.Core.Path.{refl}
 use Rattle.semantics.specs.Block.{wordBytes}

@@ -1,3 +1,5 @@
+-- Those that wait are put in from the last to the first. The loop's invariant, `Inserting`: with the gap left out that is kept for the `j` still to
+-- come, the words are the rows with the others put in among them (`insert-step` keeps it); at the end there is no gap (`insert-done`).
 use mathlib.Core.Path.{_∙_}
 use Prim.Native.Nat.{_+_, _*_, _-_, _≤_, _<_}
 use native.Mathlib.Omega.{arith}

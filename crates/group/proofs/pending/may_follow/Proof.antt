@@ -1,3 +1,4 @@
+-- With none waiting any monomial may wait, with no room left none may; else its variables are compared with those of the last that waits (`follows-last`).
 use Prim.Native.Nat.{_-_}
 use native.Mathlib.Omega.{arith}
 use Rattle.group.proofs.Waits.{follows-last}

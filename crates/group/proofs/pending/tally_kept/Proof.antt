@@ -1,3 +1,4 @@
+-- A monomial whose coefficient is 0 changes nothing (`nonZero-none`); any other is counted or waits, as `tally_near` says (`nonZero-kept`).
 use mathlib.Core.Path.{sym, ap, subst, _∙_}
 use mathlib.Core.List.{List}
 use Prim.Native.Nat.{ℕ}

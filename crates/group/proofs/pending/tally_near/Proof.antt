@@ -1,3 +1,5 @@
+-- The monomial is looked for among the rows. Found, its row counts one more (`batch-count`); not found, it waits behind the others if it may follow
+-- the last of them (`batch-wait`), and else those that wait come first.
 use mathlib.Core.Path.{refl, subst}
 use mathlib.Core.Bool.{true}
 use mathlib.Core.List.{List}

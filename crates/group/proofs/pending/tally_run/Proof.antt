@@ -1,3 +1,5 @@
+-- Monomials are taken one by one. The loop's invariant, `Running`: counting what is left of the list into the rows and those that wait gives what
+-- counting the whole list gives. `run-step` keeps it; a run ends where a monomial cannot wait (`run-stop`) or with the list (`run-done`).
 use mathlib.Core.Path.{sym, subst, _∙_}
 use mathlib.Core.List.{[], _∷_}
 use Prim.Native.Nat.{ℕ, _+_, _-_}
@@ -23,12 +25,12 @@ loop-holds : tie.Need-loop-holds Inv-loop μ-loop
 loop-holds c =
     let a = c .before .before .before .before .args in
     let p = c .before .before .before .before .pre in
-    run-start (a .n) (a .pool .now) (a .at) (a .count) (a .headers .now) (a .places .now) (a .fronts .now) (p .0) (p .1) (p .3) (p .4)
+    run-start (a .n) (a .pool .now) (a .at) (a .count) (a .headers .now) (a .places .now) (a .fronts .now) (p .0 .0) (p .0 .1) (p .1) (p .2)
 
 tally-kept-requires : tie.Need-tally-kept-requires Inv-loop μ-loop
 tally-kept-requires c κs =
     run-asks (c .before .before .before .before .loop .inv) (c .before .before .before .loop-test .taken)
-    (c .before .before .before .before .before .before .before .before .before .pre .2)
+    (c .before .before .before .before .before .before .before .before .before .pre .0 .2)
 
 enum-known-next : tie.Need-enum-known-next Inv-loop μ-loop
 enum-known-next c = search needs
@@ -66,7 +68,7 @@ add-place : tie.Need-add-place Inv-loop μ-loop
 add-place c =
     let x = run-asks (c .before .before .before .before .before .before .before .before .before .before .before .before .before .before .loop .inv)
     (c .before .before .before .before .before .before .before .before .before .before .before .before .before .loop-test .taken)
-    (c .before .before .before .before .before .before .before .before .before .before .before .before .before .before .before .before .before .before .before .pre .2)
+    (c .before .before .before .before .before .before .before .before .before .before .before .before .before .before .before .before .before .before .before .pre .0 .2)
     in
     omega (arith, x .1 .2)
 
@@ -74,7 +76,7 @@ mul-wide : tie.Need-mul-wide Inv-loop μ-loop
 mul-wide c =
     let x = run-asks (c .before .before .before .before .before .before .before .before .before .before .before .before .before .before .loop .inv)
     (c .before .before .before .before .before .before .before .before .before .before .before .before .before .loop-test .taken)
-    (c .before .before .before .before .before .before .before .before .before .before .before .before .before .before .before .before .before .before .before .pre .2)
+    (c .before .before .before .before .before .before .before .before .before .before .before .before .before .before .before .before .before .before .before .pre .0 .2)
     in
     omega (arith, x .1 .1)
 
@@ -83,7 +85,7 @@ shared-slice-read-wide c =
     let x = run-asks
     (c .before .before .before .before .before .before .before .before .before .before .before .before .before .before .before .loop .inv)
     (c .before .before .before .before .before .before .before .before .before .before .before .before .before .before .loop-test .taken)
-    (c .before .before .before .before .before .before .before .before .before .before .before .before .before .before .before .before .before .before .before .before .pre .2)
+    (c .before .before .before .before .before .before .before .before .before .before .before .before .before .before .before .before .before .before .before .before .pre .0 .2)
     in
     omega (arith, x .1 .1)
 
@@ -95,7 +97,7 @@ add-place-2 c =
     let x = run-asks
     (c .before .before .before .before .before .before .before .before .before .before .before .before .before .before .before .before .loop .inv)
     (c .before .before .before .before .before .before .before .before .before .before .before .before .before .before .before .loop-test .taken)
-    (c .before .before .before .before .before .before .before .before .before .before .before .before .before .before .before .before .before .before .before .before .before .pre .2)
+    (c .before .before .before .before .before .before .before .before .before .before .before .before .before .before .before .before .before .before .before .before .before .pre .0 .2)
     in
     let w = c .wide .ensures in
     omega (arith, x .1 .0, x .1 .2)

@@ -1,18 +1,74 @@
-use mathlib.Core.Path.{refl, sym, ap, subst, _∙_}
-use Prim.Native.Nat.{ℕ, _+_, _*_, _≤_, _<_}
+-- The row of the monomial's variables is looked for: room for the term says that there is one (`room-found`). The term is put at the row's cursor,
+-- and the cursor goes on by one, which is one item placed (`place-one`).
+use mathlib.Core.Path.{_≡_, refl, sym, ap, subst, _∙_}
+use mathlib.Core.List.{List}
+use Prim.Native.Nat.{ℕ, suc, _+_, _*_, _≤_, _<_}
 use native.Mathlib.Omega.{arith}
-use lib.ListN.{length, getD, drop, set}
+use borrow.Author.Needs.{needs}
+use lib.ListN.{length, getD, set}
 use lib.Seq.{sets}
-use Rattle.monomial.specs.Words.{readMonomial}
+use Rattle.semantics.specs.Group.{Item}
 use Rattle.group.specs.declared.Found.the-variants.{There, Missing}
-use Rattle.group.specs.Grouped.{tallied, Spot, itemAt, termWidth, termOf}
+use Rattle.group.specs.Grouped.{Tally, talliedTotal, tallied, Spot, monomialIn, itemAt, termWidth, termOf}
 use Rattle.group.proofs.Counting.{there-lt}
 use Rattle.group.proofs.PoolLists.{read-coef}
 use Rattle.group.proofs.Placements.{room-found, cursor-small, term-fits, place-one}
-use Rattle.group.specs.Waiting.{poolVars}
-use borrow.Author.Needs.{needs}
 use Rattle.group.proofs.place.place_monomial.Statement.{statement}
 use Rattle.group.proofs.place.place_monomial.Tie as tie
+
+-- The item of the monomial, and the tallies of the rows.
+module _ (c : tie.Start) where
+  abbrev item : Item
+  item = itemAt (c .args .index) (c .args .field) (monomialIn (c .args .pool .now) (c .args .at))
+
+  abbrev tallies : List Tally
+  tallies = tallied (c .args .n) (c .args .headers .now) (c .args .pool .now)
+
+abbrev start : tie.After-find-near → tie.Start
+start c = c .before .before .before .before .before .before
+
+-- The search has found no row, or one.
+abbrev unfound : tie.After-enum-told → tie.After-find-near
+unfound c = c .before .before
+
+abbrev searched : tie.After-known-told → tie.After-find-near
+searched c = c .before .before .before
+
+module _ (c : tie.After-known-told) where
+  abbrev entry : tie.Start
+  entry = start (searched c)
+
+  abbrev row : ℕ
+  row = c .before .found .given .0 .0
+
+  abbrev cursor : ℕ
+  cursor = getD (entry .args .headers .now) (4 * row + 1) 0
+
+  there : Spot (item entry .vars) (tallies entry) (There row)
+  there = subst (Spot (item entry .vars) (tallies entry)) (c .before .found .given .1) (searched c .find-near .ensures)
+
+  row-inside : (row < entry .args .n) × (4 * entry .args .n ≤ length (entry .args .headers .now))
+  row-inside =
+      let a = entry .args in
+      let r = entry .pre .0 .placing .rows-are in
+      (there-lt (a .n) row (a .headers .now) (a .pool .now) (item entry .vars) r there, r .room)
+
+  -- What is asked says that the cursor is inside the row's terms, and that a term at it is inside the slice.
+  cursor-inside : suc cursor ≤ talliedTotal (entry .pre .0 .gs)
+  cursor-inside = cursor-small (entry .pre .0 .placing) (item entry) row (entry .pre .0 .room) there
+
+  term-inside : termWidth (entry .args .interaction) * cursor + termWidth (entry .args .interaction) ≤ length (entry .args .terms .now)
+  term-inside = term-fits (entry .pre .0 .placing) (item entry) row (entry .pre .0 .room) there
+
+-- The cursor is read, and the term is put.
+abbrev told : tie.After-wide → tie.After-known-told
+told c = c .before .before .before
+
+abbrev term-put : tie.After-slice-known4 → tie.After-put-term
+term-put c = c .before .before
+
+abbrev put-told : tie.After-slice-known4 → tie.After-known-told
+put-told c = told (term-put c .before)
 
 add-coef : tie.Need-add-coef
 add-coef c = search needs
@@ -37,72 +93,45 @@ same-length c = search needs
 
 returns : tie.Need-returns
 returns c =
-    let a = c .before .before .before .before .before .before .before .before .args in
-    let P = a .pool .now in
-    let v = poolVars P (a .at) in
-    let t = itemAt (a .index) (a .field) (readMonomial (drop (a .at) P)) in
+    let s = start (unfound c) in
     let k = c .enum-told .given .0 .0 in
-    let s = subst (Spot v (tallied (a .n) (a .headers .now) P)) (c .enum-told .given .1) (c .before .before .find-near .ensures) in
-    λ gs done x y. absurd (room-found gs done t v k refl y (subst (λ l. Spot v l (Missing k)) (x .tallies-are) s))
-
--- The monomial has a row.
-there : (c : tie.After-known-told) → let a = c .before .before .before .before .before .before .before .before .before .args in
-    Spot (poolVars (a .pool .now) (a .at)) (tallied (a .n) (a .headers .now) (a .pool .now)) (There (c .before .found .given .0 .0))
-there c =
-    let a = c .before .before .before .before .before .before .before .before .before .args in
-    subst (Spot (poolVars (a .pool .now) (a .at)) (tallied (a .n) (a .headers .now) (a .pool .now))) (c .before .found .given .1) (c .before .before .before .find-near .ensures)
-
-row : (c : tie.After-known-told)
-    → let a = c .before .before .before .before .before .before .before .before .before .args in (c .before .found .given .0 .0 < a .n)
-    × (4 * a .n ≤ length (a .headers .now))
-row c =
-    let a = c .before .before .before .before .before .before .before .before .before .args in
-    let r = c .before .before .before .before .before .before .before .before .before .pre .0 .placing .rows-are in
-    (there-lt (a .n) (c .before .found .given .0 .0) (a .headers .now) (a .pool .now) (poolVars (a .pool .now) (a .at)) r (there c), r .room)
+    let m = subst (Spot (item s .vars) (tallies s)) (c .enum-told .given .1) (unfound c .find-near .ensures) in
+    λ gs done x y. absurd (room-found gs done (item s) k y (subst (λ l. Spot (item s .vars) l (Missing k)) (x .tallies-are) m))
 
 mul-row : tie.Need-mul-row
-mul-row c = let x = row c in search needs
+mul-row c = let x = row-inside c in search needs
 
 add-cursor : tie.Need-add-cursor
-add-cursor c = let x = row c in search needs
+add-cursor c = let x = row-inside c in search needs
 
 mul-cursor : tie.Need-mul-cursor
-mul-cursor c = let x = row c in search needs
+mul-cursor c = let x = row-inside c in search needs
 
 slice-read-cursor : tie.Need-slice-read-cursor
-slice-read-cursor c = let x = row (c .before) in omega arith
+slice-read-cursor c = let x = row-inside (c .before) in omega arith
 
 wide-requires : tie.Need-wide-requires
 wide-requires c κs = search needs
 
 put-term-requires : tie.Need-put-term-requires
 put-term-requires c κs =
-    let a = c .before .before .before .before .before .before .before .before .before .before .before .before .args in
-    let g = c .before .before .before .before .before .before .before .before .before .before .before .before .pre .0 in
-    let t = itemAt (a .index) (a .field) (readMonomial (drop (a .at) (a .pool .now))) in
-    let q = term-fits (a .interaction) (g .gs) (a .n) (a .headers .now) (a .pool .now) (a .terms .now) (g .done) t (t .vars)
-    (c .before .before .before .before .found .given .0 .0) (g .placing) (g .room) refl (there (c .before .before .before)) in
-    subst (λ (i : ℕ). termWidth (a .interaction) * i + termWidth (a .interaction) ≤ length (a .terms .now)) (sym (c .wide .ensures)) q
+    let a = entry (told c) .args in
+    subst (λ (i : ℕ). termWidth (a .interaction) * i + termWidth (a .interaction) ≤ length (a .terms .now)) (sym (c .wide .ensures)) (term-inside (told c))
 
 add-headers : tie.Need-add-headers
 add-headers c =
-    let a = c .before .before .before .before .before .before .before .before .before .before .before .before .before .before .before .args in
-    let g = c .before .before .before .before .before .before .before .before .before .before .before .before .before .before .before .pre .0 in
-    let t = itemAt (a .index) (a .field) (readMonomial (drop (a .at) (a .pool .now))) in
-    let q = cursor-small (a .interaction) (g .gs) (a .n) (a .headers .now) (a .pool .now) (a .terms .now) (g .done) t (t .vars)
-    (c .before .before .before .before .before .before .before .found .given .0 .0) (g .placing) (g .room) refl
-    (there (c .before .before .before .before .before .before)) in
-    let z = g .placing .small in
+    let x = cursor-inside (put-told c) in
+    let z = entry (put-told c) .pre .0 .placing .small in
     search needs
 
 add-headers-2 : tie.Need-add-headers-2
-add-headers-2 c = let q = add-cursor (c .before .before .before .before .before .before) in search needs
+add-headers-2 c = let q = add-cursor (put-told c) in search needs
 
 mul-headers : tie.Need-mul-headers
-mul-headers c = let q = mul-cursor (c .before .before .before .before .before .before) in search needs
+mul-headers c = let q = mul-cursor (put-told c) in search needs
 
 slice-write-headers : tie.Need-slice-write-headers
-slice-write-headers c = let x = row (c .before .before .before .before .before .before) in omega arith
+slice-write-headers c = let x = row-inside (put-told c) in omega arith
 
 same-length-2 : tie.Need-same-length-2
 same-length-2 c = search needs
@@ -110,18 +139,20 @@ same-length-2 c = search needs
 same-length-3 : tie.Need-same-length-3
 same-length-3 c = search needs
 
+-- The terms with this one put at the cursor.
+terms-are : (c : tie.After-slice-known4) → let s = entry (put-told c) in
+    term-put c .put-term .last .0
+    ≡ sets (s .args .terms .now) (termWidth (s .args .interaction) * cursor (put-told c)) (termOf (s .args .interaction) (item s))
+terms-are c =
+    let s = entry (put-told c) in
+    term-put c .put-term .ensures (item s) refl refl (read-coef (s .args .pool .now) (s .args .at))
+    ∙ ap (λ (i : ℕ). sets (s .args .terms .now) (termWidth (s .args .interaction) * i) (termOf (s .args .interaction) (item s))) (term-put c .before .wide .ensures)
+
 returns-2 : tie.Need-returns-2
 returns-2 c =
-    let a = c .before .before .before .before .before .before .before .before .before .before .before .before .before .before .before .args in
-    let H = a .headers .now in
-    let P = a .pool .now in
-    let T = a .terms .now in
-    let t = itemAt (a .index) (a .field) (readMonomial (drop (a .at) P)) in
-    let k = c .before .before .before .before .before .before .before .found .given .0 .0 in
-    let u = c .before .before .put-term in
-    let f = u .ensures t refl refl (read-coef P (a .at)) ∙ ap (λ (i : ℕ). sets T (termWidth (a .interaction) * i) (termOf (a .interaction) t)) (c .before .before .before .wide .ensures) in
-    λ gs done x y. place-one (a .interaction) gs (a .n) H P T done t (t .vars) k x y refl
-    (there (c .before .before .before .before .before .before)) (set H (4 * k + 1) (getD H (4 * k + 1) 0 + 1)) (u .last .0) f refl
+    let b = put-told c in
+    let H = entry b .args .headers .now in
+    λ gs done x y. place-one x (item (entry b)) (row b) y (there b) (set H (4 * row b + 1) (cursor b + 1)) (term-put c .put-term .last .0) (terms-are c) refl
 
 pub place-monomial-spec : {M : Type 1} → statement M
 place-monomial-spec =

@@ -1,12 +1,26 @@
+-- Two words say where the record's list starts and how many monomials it has; the list at that place is the record's (`list-read`), and its terms are
+-- placed by one call.
 use mathlib.Core.Path.{sym, subst}
-use Prim.Native.Nat.{ℕ, _+_, _*_}
-use lib.ListN.{getD}
-use Rattle.monomial.specs.Words.{listIn}
-use Rattle.group.specs.Grouped.{Standing, itemsAt, ToPlace, Places}
-use Rattle.group.proofs.PoolLists.{stands}
+use mathlib.Core.List.{List}
+use Rattle.semantics.specs.Monomial.{Monomial}
+use Rattle.group.specs.Grouped.{itemsAt, ToPlace, Places}
+use Rattle.group.proofs.PoolLists.{list-read, stands-read}
 use borrow.Author.Needs.{needs}
 use Rattle.group.proofs.place.place_root.Statement.{statement}
 use Rattle.group.proofs.place.place_root.Tie as tie
+
+-- Where the list starts is read, then its length.
+abbrev start : tie.After-wide → tie.Start
+start c = c .before .before .before .before .before
+
+abbrev at-read : tie.After-wide2 → tie.After-wide
+at-read c = c .before .before
+
+abbrev list-found : tie.After-place-list-arg2 → tie.After-wide2
+list-found c = c .before .before
+
+abbrev placed : tie.After-slice-known4 → tie.After-place-list
+placed c = c .before .before .before .before
 
 mul-wide : tie.Need-mul-wide
 mul-wide c = search needs
@@ -37,14 +51,14 @@ wide-requires-2 c κs = search needs
 
 place-list-requires : tie.Need-place-list-requires
 place-list-requires c κs =
-    let a = c .before .before .before .before .before .before .before .before .before .args in
-    let p = c .before .before .before .before .before .before .before .before .before .pre in
-    let P = a .pool .now in
-    let x = c .before .before .before .before .wide in
-    let y = c .before .before .wide2 in (
-      subst (λ (i : ℕ). ToPlace (a .interaction) (a .n) (a .headers .now) P (a .terms .now) (itemsAt (a .index) (a .field) (listIn P i (y .result)))) (sym (x .ensures))
-          (subst (λ (i : ℕ). ToPlace (a .interaction) (a .n) (a .headers .now) P (a .terms .now) (itemsAt (a .index) (a .field) (listIn P (getD P (2 * a .node) 0) i))) (sym (y .ensures)) (p .0)),
-      subst (λ (i : ℕ). Standing (y .result) P i) (sym (x .ensures)) (subst (λ (i : ℕ). Standing i P (getD P (2 * a .node) 0)) (sym (y .ensures)) (stands P (a .node) (p .1))),
+    let y = list-found c in
+    let x = at-read y in
+    let a = start x .args in
+    let p = start x .pre in
+    let P = a .pool .now in (
+      subst (λ (l : List Monomial). ToPlace (a .interaction) (a .n) (a .headers .now) P (a .terms .now) (itemsAt (a .index) (a .field) l))
+          (sym (list-read P (a .node) (x .wide .ensures) (y .wide2 .ensures))) (p .0),
+      stands-read P (a .node) (x .wide .ensures) (y .wide2 .ensures) (p .1),
     )
 
 same-length : tie.Need-same-length
@@ -55,14 +69,14 @@ same-length-2 c = search needs
 
 returns : tie.Need-returns
 returns c =
-    let a = c .before .before .before .before .before .before .before .before .before .before .before .before .before .before .args in
+    let y = list-found (placed c .before) in
+    let x = at-read y in
+    let a = start x .args in
     let P = a .pool .now in
-    let x = c .before .before .before .before .before .before .before .before .before .wide in
-    let y = c .before .before .before .before .before .before .before .wide2 in
-    let u = c .before .before .before .before .place-list in
+    let u = placed c .place-list in
     let T′ = u .last .1 .1 .1 .1 .1 .1 .1 .1 .0 in
-    subst (λ (i : ℕ). Places (a .interaction) (a .n) P (a .headers .now) (a .terms .now) (u .last .0) T′ (itemsAt (a .index) (a .field) (listIn P i (getD P (2 * a .node + 1) 0)))) (x .ensures)
-    (subst (λ (i : ℕ). Places (a .interaction) (a .n) P (a .headers .now) (a .terms .now) (u .last .0) T′ (itemsAt (a .index) (a .field) (listIn P (x .result) i))) (y .ensures) (u .ensures))
+    subst (λ (l : List Monomial). Places (a .interaction) (a .n) P (a .headers .now) (a .terms .now) (u .last .0) T′ (itemsAt (a .index) (a .field) l))
+    (list-read P (a .node) (x .wide .ensures) (y .wide2 .ensures)) (u .ensures)
 
 pub place-root-spec : {M : Type 1} → statement M
 place-root-spec =

@@ -1,3 +1,4 @@
+-- The family decides which of two calls is made; what each ensures is the term of its family (`put-interaction`, `put-constraint`).
 use mathlib.Core.Path.{subst}
 use mathlib.Core.Bool.{Bool}
 use Prim.Native.Nat.{_+_, _*_, _≤_}
@@ -8,33 +9,47 @@ use borrow.Author.Needs.{needs}
 use Rattle.group.proofs.place.put_term.Statement.{statement}
 use Rattle.group.proofs.place.put_term.Tie as tie
 
+abbrev interaction-start : tie.After-put-interaction-term-arg → tie.Start
+interaction-start c = c .before .before .before
+
+abbrev interaction-put : tie.After-slice-known2 → tie.After-put-interaction-term
+interaction-put c = c .before .before
+
+abbrev constraint-start : tie.After-put-constraint-term-arg → tie.Start
+constraint-start c = c .before .before .before
+
+abbrev constraint-put : tie.After-slice-known3 → tie.After-put-constraint-term
+constraint-put c = c .before .before
+
 put-interaction-term-requires : tie.Need-put-interaction-term-requires
 put-interaction-term-requires c κs =
-    let a = c .before .before .before .args in
-    subst (λ (b : Bool). termWidth b * a .at + termWidth b ≤ length (a .terms .now)) (c .before .if1 .taken) (c .before .before .before .pre)
+    let s = interaction-start c in
+    subst (λ (b : Bool). termWidth b * s .args .at + termWidth b ≤ length (s .args .terms .now)) (c .before .if1 .taken) (s .pre)
 
 same-length : tie.Need-same-length
 same-length c = search needs
 
 returns : tie.Need-returns
 returns c =
-    let a = c .before .before .before .before .before .before .args in
-    let u = c .before .before .put-interaction-term in
-    put-interaction (a .terms .now) (u .last .0) (a .at) (a .index) (a .field) (a .coef) (a .interaction) (c .before .before .before .before .if1 .taken) (u .ensures)
+    let b = interaction-put c .before in
+    let a = interaction-start b .args in
+    let u = interaction-put c .put-interaction-term in
+    put-interaction (a .terms .now) (u .last .0) (a .at) (a .index) (a .field) (a .coef) (a .interaction) (b .before .if1 .taken) (u .ensures)
 
 put-constraint-term-requires : tie.Need-put-constraint-term-requires
 put-constraint-term-requires c κs =
-    let a = c .before .before .before .args in
-    subst (λ (b : Bool). termWidth b * a .at + termWidth b ≤ length (a .terms .now)) (c .before .if1 .left) (c .before .before .before .pre)
+    let s = constraint-start c in
+    subst (λ (b : Bool). termWidth b * s .args .at + termWidth b ≤ length (s .args .terms .now)) (c .before .if1 .left) (s .pre)
 
 same-length-2 : tie.Need-same-length-2
 same-length-2 c = search needs
 
 returns-2 : tie.Need-returns-2
 returns-2 c =
-    let a = c .before .before .before .before .before .before .args in
-    let u = c .before .before .put-constraint-term in
-    put-constraint (a .terms .now) (u .last .0) (a .at) (a .index) (a .field) (a .coef) (a .interaction) (c .before .before .before .before .if1 .left) (u .ensures)
+    let b = constraint-put c .before in
+    let a = constraint-start b .args in
+    let u = constraint-put c .put-constraint-term in
+    put-constraint (a .terms .now) (u .last .0) (a .at) (a .index) (a .field) (a .coef) (a .interaction) (b .before .if1 .left) (u .ensures)
 
 pub put-term-spec : {M : Type 1} → statement M
 put-term-spec =

@@ -1,9 +1,24 @@
+-- The row says where its variables stand in the pool and how many they are; that part of the pool is copied, which puts the row's variables there
+-- (`copied-row`).
 use mathlib.Core.Path.{ap}
 use Prim.Native.Nat.{ℕ, _+_}
 use Rattle.group.proofs.RowVariables.{copied-row}
 use borrow.Author.Needs.{needs}
 use Rattle.group.proofs.place.write_row.Statement.{statement}
 use Rattle.group.proofs.place.write_row.Tie as tie
+
+-- Where the variables stand is read, then how many they are.
+abbrev start : tie.After-wide → tie.Start
+start c = c .before .before .before .before .before
+
+abbrev place-read : tie.After-wide2 → tie.After-wide
+place-read c = c .before .before
+
+abbrev size-read : tie.After-copy-words → tie.After-wide2
+size-read c = c .before .before .before
+
+abbrev copied : tie.After-slice-known2 → tie.After-copy-words
+copied c = c .before .before
 
 mul-row : tie.Need-mul-row
 mul-row c = search needs
@@ -70,12 +85,15 @@ same-length c = search needs
 
 returns : tie.Need-returns
 returns c =
-    let a = c .before .before .before .before .before .before .before .before .before .before .before .before .args in
-    let p = c .before .before .before .before .before .before .before .before .before .before .before .before .pre in
-    let x = c .before .before .before .before .before .before .before .wide in
-    let y = c .before .before .before .before .before .wide2 in
-    let u = c .before .before .copy-words in
-    (ap (λ (i : ℕ). a .at + i) (y .ensures), copied-row (a .variables .now) (a .pool .now) (u .last .1 .0) (a .at) (x .result) _ (y .result) _ (x .ensures) (y .ensures) (p .1) (p .2) (u .ensures))
+    let y = size-read (copied c) in
+    let x = place-read y in
+    let a = start x .args in
+    let p = start x .pre in
+    let u = copied c .copy-words in (
+      ap (λ (i : ℕ). a .at + i) (y .wide2 .ensures),
+      copied-row (a .variables .now) (a .pool .now) (u .last .1 .0) (a .at) (x .wide .result) _ (y .wide2 .result) _ (x .wide .ensures) (y .wide2 .ensures)
+          (p .1) (p .2) (u .ensures),
+    )
 
 pub write-row-spec : {M : Type 1} → statement M
 write-row-spec =

@@ -1,3 +1,5 @@
+-- Row `near` is compared first, and then the rows before it or behind it are searched, as the comparison says (`row-before`, `row-after`); where there
+-- is no such row, all are searched (`rows-all`).
 use native.Mathlib.Omega.{arith}
 use borrow.Author.Needs.{needs}
 use Rattle.group.proofs.Searching.{rows-all, row-asks, row-same, row-before, row-after}

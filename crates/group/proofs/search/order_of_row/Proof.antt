@@ -1,3 +1,4 @@
+-- The variables of a row and of the monomial, as both stand in the pool, are compared; `order-read` says that these are the lists compared.
 use borrow.Author.Needs.{needs}
 use Rattle.group.proofs.Searching.{order-read}
 use Rattle.group.proofs.search.order_of_row.Statement.{statement}

@@ -1,3 +1,5 @@
+-- Rows are looked at in steps that double. The loop's invariant: the rows below `low` stand before the variables (`Between`). A row that stands before
+-- them keeps it (`row-after`); one behind them ends the loop (`row-before`), and the rows that are left are searched by halves.
 use Prim.Native.Nat.{ℕ, _+_, _-_}
 use native.Mathlib.Omega.{arith}
 use borrow.Author.Needs.{needs}

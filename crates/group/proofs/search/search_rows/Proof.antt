@@ -1,3 +1,5 @@
+-- The search halves the rows that are left. The loop's invariant, `Between`: those below `low` stand before the variables, those from `high` on behind
+-- them; the row in the middle keeps it by `row-before` or `row-after`, or is the one that is looked for (`row-same`).
 use Prim.Native.Nat.{ℕ, _+_, _-_, _/_, _<_}
 use native.Mathlib.Omega.{arith}
 use borrow.Author.Needs.{needs}

@@ -1,3 +1,5 @@
+-- A word of each row is added. The loop's invariant, `Summing`: the total and the words of the rows that are left give the sum of the column, and
+-- the total is at most the largest word for each row passed; `summing-step` keeps it.
 use Prim.Native.Nat.{_+_, _*_, _-_, _≤_}
 use native.Mathlib.Omega.{arith}
 use borrow.Author.Needs.{needs}
@@ -10,6 +12,12 @@ Inv-loop headers n word total₀ i₀ total i = Summing word n headers total i
 
 abbrev μ-loop : tie.MeasureT-loop
 μ-loop headers n word total₀ i₀ total i = n - i
+
+abbrev start : tie.At-loop Inv-loop μ-loop → tie.Start Inv-loop μ-loop
+start c = c .before .before
+
+abbrev turn : tie.After-wide Inv-loop μ-loop → tie.In-loop Inv-loop μ-loop
+turn c = c .before .before
 
 loop-holds : tie.Need-loop-holds Inv-loop μ-loop
 loop-holds c = summing-start (c .before .args .word) (c .before .args .n) (c .before .args .headers .now)
@@ -32,16 +40,15 @@ wide-requires c κs = search needs
 -- The word that is added fits 32 bits.
 word-small : (c : tie.After-wide Inv-loop μ-loop) → c .wide .result ≤ 4294967295
 word-small c =
-    let b = c .before .before .before .loop in
-    let word = c .before .before .before .before .before .args .word in
-    omega (arith, c .wide .ensures, c .before .shared-slice-known2 .given (4 * b .i + word))
+    let b = turn c .before in
+    omega (arith, c .wide .ensures, c .before .shared-slice-known2 .given (4 * b .loop .i + start b .args .word))
 
 add-total : tie.Need-add-total Inv-loop μ-loop
 add-total c =
-    let at-loop = c .before .before .before in
-    let h = at-loop .loop .inv in
-    let t = c .before .before .loop-test .taken in
-    let p = at-loop .before .before .pre in
+    let b = turn c .before in
+    let h = b .loop .inv in
+    let t = turn c .loop-test .taken in
+    let p = start b .pre in
     let w = word-small c in
     search needs
 
@@ -53,16 +60,15 @@ loop-less c = search needs
 
 loop-again : tie.Need-loop-again Inv-loop μ-loop
 loop-again c =
-    let at-loop = c .before .before .before in
-    let start = at-loop .before .before in
-    let a = start .args in
-    let b = at-loop .loop in
-    summing-step (a .word) (a .n) (a .headers .now) (b .total) (b .i) (c .wide .result) (start .pre .0)
-    (c .before .before .loop-test .taken) (c .wide .ensures) (word-small c) (b .inv)
+    let s = start (turn c .before) in
+    let a = s .args in
+    let b = turn c .before .loop in
+    summing-step (a .word) (a .n) (a .headers .now) (b .total) (b .i) (c .wide .result) (s .pre .0)
+    (turn c .loop-test .taken) (c .wide .ensures) (word-small c) (b .inv)
 
 returns : tie.Need-returns Inv-loop μ-loop
 returns c =
-    let a = c .before .before .before .args in
+    let a = start (c .before) .args in
     let b = c .before .loop in
     summing-done (a .word) (a .n) (a .headers .now) (b .total) (b .i) (c .loop-test .left) (b .inv)
 

@@ -1,3 +1,5 @@
+-- The words are moved one by one, from the first to the last. The loop's invariant: the words that stood from `at + by` on stand `by` places lower,
+-- as far as `i`, and the rest is as it was (`Lowered`); `lowered-more` keeps it as one more word is moved.
 use mathlib.Core.Path.{_≡_, refl, _∙_}
 use Prim.Native.Nat.{_+_, _-_, _≤_}
 use native.Mathlib.Omega.{arith}
@@ -12,6 +14,12 @@ Inv-loop s₀ at end by i₀ s i = (at ≤ i) × (i + by ≤ end) × (length s �
 
 abbrev μ-loop : tie.MeasureT-loop
 μ-loop s₀ at end by i₀ s i = end - i
+
+abbrev start : tie.At-loop Inv-loop μ-loop → tie.Start Inv-loop μ-loop
+start c = c .before
+
+abbrev turn : tie.After-slice-known Inv-loop μ-loop → tie.At-loop Inv-loop μ-loop
+turn c = c .before .before
 
 loop-holds : tie.Need-loop-holds Inv-loop μ-loop
 loop-holds c =
@@ -44,16 +52,20 @@ loop-less c = search needs
 
 loop-again : tie.Need-loop-again Inv-loop μ-loop
 loop-again c =
-    let a = c .before .before .before .args in
-    let b = c .before .before .loop in
-    (omega arith, omega arith, length-set (b .s) _ _ ∙ b .inv .2, lowered-more (b .s) (a .s .now) (a .at) (b .i) (a .by) (omega arith) (omega arith) (b .inv .3) (omega arith))
+    let a = start (turn c) .args in
+    let b = turn c .loop in (
+      omega arith,
+      omega arith,
+      length-set (b .s) _ _ ∙ b .inv .2,
+      lowered-more (b .s) (a .s .now) (a .at) (b .i) (a .by) (omega arith) (omega arith) (b .inv .3) (omega arith),
+    )
 
 same-length : tie.Need-same-length Inv-loop μ-loop
 same-length c = search needs
 
 returns : tie.Need-returns Inv-loop μ-loop
 returns c =
-    let a = c .before .before .args in
+    let a = start (c .before) .args in
     let b = c .before .loop in
     lowered-all (b .s) (a .s .now) (a .at) (b .i) (a .by) (omega arith) (omega arith) (b .inv .3) (a .end) (omega arith)
 

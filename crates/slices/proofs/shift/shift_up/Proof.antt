@@ -1,3 +1,5 @@
+-- The words are moved one by one, from the last to the first. The loop's invariant: the words from `i` to `end` stand `by` places higher, and all
+-- below `i + by` is as it was (`Raised`); `raised-more` keeps it as one more word is moved.
 use mathlib.Core.Path.{_≡_, refl, ap, _∙_}
 use mathlib.Core.List.{_++_}
 use Prim.Native.Nat.{ℕ, _+_, _-_, _≤_}
@@ -13,6 +15,12 @@ Inv-loop s₀ at end by i₀ s i = (at ≤ i) × (i ≤ end) × (length s ≡ le
 
 abbrev μ-loop : tie.MeasureT-loop
 μ-loop s₀ at end by i₀ s i = i - at
+
+abbrev start : tie.At-loop Inv-loop μ-loop → tie.Start Inv-loop μ-loop
+start c = c .before
+
+abbrev turn : tie.After-slice-known Inv-loop μ-loop → tie.At-loop Inv-loop μ-loop
+turn c = c .before .before
 
 loop-holds : tie.Need-loop-holds Inv-loop μ-loop
 loop-holds c =
@@ -42,16 +50,20 @@ loop-less c = search needs
 
 loop-again : tie.Need-loop-again Inv-loop μ-loop
 loop-again c =
-    let a = c .before .before .before .args in
-    let b = c .before .before .loop in
-    (omega arith, omega arith, length-set (b .s) _ _ ∙ b .inv .2, raised-more (b .s) (a .s .now) (b .i) (b .i - 1) (a .end) (a .by) (omega arith) (omega arith) (omega arith) (b .inv .3))
+    let a = start (turn c) .args in
+    let b = turn c .loop in (
+      omega arith,
+      omega arith,
+      length-set (b .s) _ _ ∙ b .inv .2,
+      raised-more (b .s) (a .s .now) (b .i) (b .i - 1) (a .end) (a .by) (omega arith) (omega arith) (omega arith) (b .inv .3),
+    )
 
 same-length : tie.Need-same-length Inv-loop μ-loop
 same-length c = search needs
 
 returns : tie.Need-returns Inv-loop μ-loop
 returns c =
-    let a = c .before .before .args in
+    let a = start (c .before) .args in
     let b = c .before .loop in
     b .inv .3 ∙ ap (λ (i : ℕ). take (i + a .by) (a .s .now) ++ (take (a .end - i) (drop i (a .s .now)) ++ drop (a .end + a .by) (a .s .now))) (omega arith)
 
