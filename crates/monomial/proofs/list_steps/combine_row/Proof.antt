@@ -7,7 +7,7 @@ use Rattle.semantics.specs.Arithmetic.{prime}
 use Rattle.semantics.specs.Monomial as semantics
 use Rattle.semantics.specs.Monomial.{above, mulMonomial}
 use Rattle.semantics.specs.Lists.{Sorted}
-use Rattle.monomial.specs.Words.{nums, monomialOf, listIn, longestOf, Fits}
+use Rattle.monomial.specs.Words.{nums, monomialOf, longestIn, Fits}
 use Rattle.monomial.proofs.Canons.{fits-product}
 use Rattle.monomial.proofs.ListLaws.{left-front}
 use Rattle.monomial.proofs.Summing.{Adding, adding-none, adding-more, adding-done}
@@ -18,7 +18,7 @@ use Rattle.monomial.proofs.list_steps.combine_row.Tie as tie
 abbrev Inv-loop : tie.InvT-loop
 Inv-loop work₀ count pool left at m total₀ from₀ i₀ work total from i =
     Adding (mulMonomial prime (monomialOf left)) pool at m count work₀ work total from i
-    × (longestOf (listIn pool from (m - i)) ≤ longestOf (listIn pool at m))
+    × (longestIn pool from (m - i) ≤ longestIn pool at m)
 
 abbrev μ-loop : tie.MeasureT-loop
 μ-loop work₀ count pool left at m total₀ from₀ i₀ work total from i = m - i
@@ -44,7 +44,7 @@ multiply-requires c κs =
     let b = c .before .before .before .loop in
     let r = c .before .monomial-in in
     let f = left-front (a .pool .now) (b .from) (a .m) (b .i) (omega arith) (b .inv .0 .left) in
-    let k = short-first (a .pool .now) (b .from) (a .m) (b .i) (longestOf (listIn (a .pool .now) (a .at) (a .m))) (omega arith) (b .inv .1) in (
+    let k = short-first (a .pool .now) (b .from) (a .m) (b .i) (longestIn (a .pool .now) (a .at) (a .m)) (omega arith) (b .inv .1) in (
       omega (arith, k, r .ensures .1, c .before .before .before .before .before .before .pre .5),
       c .before .before .before .before .before .before .pre .4 .sorted,
       subst (λ (x : semantics.Monomial). Sorted above (x .vars)) (sym (r .ensures .0)) (f .one .sorted),
@@ -55,7 +55,7 @@ combine-like-terms-requires c κs =
     let a = c .before .before .before .before .before .before .before .args in
     let b = c .before .before .before .before .loop in
     let r = c .before .before .monomial-in in
-    let k = short-first (a .pool .now) (b .from) (a .m) (b .i) (longestOf (listIn (a .pool .now) (a .at) (a .m))) (omega arith) (b .inv .1) in (
+    let k = short-first (a .pool .now) (b .from) (a .m) (b .i) (longestIn (a .pool .now) (a .at) (a .m)) (omega arith) (b .inv .1) in (
       omega (arith, c .before .before .before .before .before .before .before .pre .0, b .inv .0 .few),
       b .inv .0 .summed,
       omega (arith, k, r .ensures .1, c .multiply .ensures .1, c .before .before .before .before .before .before .before .pre .5),
@@ -102,7 +102,7 @@ loop-again c =
     let r = c .before .before .before .before .before .monomial-in in
     let x = c .before .before .before .multiply in
     let p = c .before .before .combine-like-terms in
-    let k = short-first (a .pool .now) (b .from) (a .m) (b .i) (longestOf (listIn (a .pool .now) (a .at) (a .m))) (omega arith) (b .inv .1) in
+    let k = short-first (a .pool .now) (b .from) (a .m) (b .i) (longestIn (a .pool .now) (a .at) (a .m)) (omega arith) (b .inv .1) in
     let y = fits-product (monomialOf (a .left)) (monomialOf (r .result))
     (omega (
       arith,
@@ -117,7 +117,7 @@ loop-again c =
           (b .total) (p .result) (b .from) (b .i) (r .result .count) (monomialOf (x .result))
           (b .inv .0) (omega arith) (r .ensures .1) (p .kept .0) (x .ensures .0 ∙ ap (mulMonomial prime (monomialOf (a .left))) (r .ensures .0))
           (subst Fits (sym (x .ensures .0)) y) (p .ensures .0) (p .ensures .1),
-      short-rest (a .pool .now) (b .from) (a .m) (b .i) (longestOf (listIn (a .pool .now) (a .at) (a .m))) (omega arith) (b .inv .1) (r .result .count) (r .ensures .1),
+      short-rest (a .pool .now) (b .from) (a .m) (b .i) (longestIn (a .pool .now) (a .at) (a .m)) (omega arith) (b .inv .1) (r .result .count) (r .ensures .1),
     )
 
 same-length : tie.Need-same-length Inv-loop μ-loop

@@ -3,7 +3,7 @@ use Prim.Native.Nat.{_+_, _-_, _≤_}
 use native.Mathlib.Omega.{arith}
 use borrow.Author.Needs.{needs}
 use lib.ListN.{length}
-use Rattle.monomial.specs.Words.{nums, monomialOf, listIn, longestOf, Fits}
+use Rattle.monomial.specs.Words.{nums, monomialOf, longestIn, Fits}
 use Rattle.monomial.proofs.ListLaws.{left-front}
 use Rattle.monomial.proofs.Products.{short-first, first-short, Multiplying, multiplying-none, row-room, multiplying-more, multiplying-done}
 use Rattle.monomial.proofs.lists.multiply_lists.Statement.{statement}
@@ -33,7 +33,7 @@ combine-row-requires c κs =
     let b = c .before .before .before .loop in
     let r = c .before .monomial-in in
     let f = left-front (a .pool .now) (b .from) (a .n) (b .i) (omega arith) (b .inv .rest) in
-    let k = short-first (a .pool .now) (b .from) (a .n) (b .i) (longestOf (listIn (a .pool .now) (a .left) (a .n))) (omega arith) (b .inv .short) in (
+    let k = short-first (a .pool .now) (b .from) (a .n) (b .i) (longestIn (a .pool .now) (a .left) (a .n)) (omega arith) (b .inv .short) in (
       row-room (a .pool .now) (a .left) (a .n) (a .right) (a .m) (a .work .now) (b .total) (b .i) (b .inv .few) (omega arith) (c .before .before .before .before .before .before .pre .0),
       b .inv .summed,
       c .before .before .before .before .before .before .pre .3,
@@ -70,7 +70,7 @@ loop-again c =
     let b = c .before .before .before .before .before .before .loop in
     let r = c .before .before .before .before .monomial-in in
     let p = c .before .before .combine-row in
-    let k = short-first (a .pool .now) (b .from) (a .n) (b .i) (longestOf (listIn (a .pool .now) (a .left) (a .n))) (omega arith) (b .inv .short) in
+    let k = short-first (a .pool .now) (b .from) (a .n) (b .i) (longestIn (a .pool .now) (a .left) (a .n)) (omega arith) (b .inv .short) in
     multiplying-more (a .pool .now) (a .left) (a .n) (a .right) (a .m) (a .work .now) (b .work) (p .last .0) (b .total) (p .result) (b .from) (b .i) (r .result .count) (monomialOf (r .result))
     (b .inv) (omega arith) (r .ensures .1) (p .kept .0) (r .ensures .0)
     (omega (

@@ -12,7 +12,7 @@ use Rattle.monomial.proofs.vars.merge_vars.Statement.{statement}
 use Rattle.monomial.proofs.vars.merge_vars.Tie as tie
 
 abbrev Inv-loop : tie.InvT-loop
-Inv-loop a n b m r₀ i₀ j₀ r i j = (i ≤ n) × (j ≤ m) × (length r ≡ 14) × Merging (nums r) (nums a) (nums b) i n j m
+Inv-loop a n b m r₀ i₀ j₀ r i j = (i ≤ n) × (j ≤ m) × (length r ≡ 14) × Merging (nums r) a b i n j m
 
 abbrev μ-loop : tie.MeasureT-loop
 μ-loop a n b m r₀ i₀ j₀ r i j = n + m - (i + j)
@@ -20,7 +20,7 @@ abbrev μ-loop : tie.MeasureT-loop
 loop-holds : tie.Need-loop-holds Inv-loop μ-loop
 loop-holds c =
     let a = c .args in
-    (search needs, search needs, search needs, merging-none [] (nums (a .a)) (nums (a .b)) (a .n) (a .m))
+    (search needs, search needs, search needs, merging-none [] (a .a) (a .b) (a .n) (a .m))
 
 add-loop : tie.Need-add-loop Inv-loop μ-loop
 add-loop c = search needs
@@ -63,8 +63,8 @@ loop-again c =
       v .ensures .1,
       v .ensures .2,
       length-set (b .r) (b .i + b .j) x ∙ h .2,
-      subst (λ (r : List ℕ). Merging r (nums (a .a)) (nums (a .b)) (b .i + v .result .left) (a .n) (b .j + (1 - v .result .left)) (a .m)) (sym (map-set num (b .r) (b .i + b .j) x))
-          (merging-more (nums (b .r)) (nums (a .a)) (nums (a .b)) (b .i) (a .n) (b .j) (a .m) (num x) (v .result .left) (omega arith) (v .ensures .0) (h .3) (v .ensures .3)),
+      subst (λ (r : List ℕ). Merging r (a .a) (a .b) (b .i + v .result .left) (a .n) (b .j + (1 - v .result .left)) (a .m)) (sym (map-set num (b .r) (b .i + b .j) x))
+          (merging-more (nums (b .r)) (a .a) (a .b) (b .i) (a .n) (b .j) (a .m) (num x) (v .result .left) (omega arith) (v .ensures .0) (h .3) (v .ensures .3)),
     )
 
 returns : tie.Need-returns Inv-loop μ-loop
@@ -72,7 +72,7 @@ returns c =
     let a = c .before .before .args in
     let b = c .before .loop in
     let h = b .inv in
-    merging-all (nums (b .r)) (nums (a .a)) (nums (a .b)) (b .i) (a .n) (b .j) (a .m) (h .0) (h .1) (omega arith) (h .3) (c .before .before .pre .1) (c .before .before .pre .2)
+    merging-all (nums (b .r)) (a .a) (a .b) (b .i) (a .n) (b .j) (a .m) (h .0) (h .1) (omega arith) (h .3) (c .before .before .pre .1) (c .before .before .pre .2)
 
 pub merge-vars-spec : {M : Type 1} → statement M
 merge-vars-spec =
