@@ -132,10 +132,10 @@ module _ (vs us : List PackedVar) (i n j m : ℕ) (hs : n ≤ length (nums vs)) 
       go false e = only-right (ltb-false i n e) k
 
 -- The same of variables in their fourteen places.
-abbrev noVar : PackedVar
+abbrev pub noVar : PackedVar
 noVar = record { 0 = 0 }
 
-abbrev TakesVar : (vs us : List PackedVar) (i n j m : ℕ) (v : PackedVar) (l : ℕ) → Type 0
+abbrev pub TakesVar : (vs us : List PackedVar) (i n j m : ℕ) (v : PackedVar) (l : ℕ) → Type 0
 TakesVar vs us i n j m v l = (l ≤ 1) × (i + l ≤ n) × (j + (1 - l) ≤ m) × Takes vs us i n j m (num v) l
 
 module _ (vs us : List PackedVar) (i n j m : ℕ) (es : length vs ≡ 14) (ed : length us ≡ 14) (hn : n ≤ 14) (hm : m ≤ 14) where
