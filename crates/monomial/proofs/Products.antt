@@ -46,7 +46,8 @@ pub record Multiplying (pool : List ℕ) (left n right m : ℕ) (work₀ work : 
   pub few : total ≤ i * m
   pub rest : ListFits pool from (n - i)
   pub short : longestIn pool from (n - i) ≤ longestIn pool left n
-  pub all-is : insertAll (products prime (listIn pool from (n - i)) (listIn pool right m)) (held total work) ≡ insertAll (products prime (listIn pool left n) (listIn pool right m)) []
+  pub all-is : insertAll (products prime (listIn pool from (n - i)) (listIn pool right m)) (held total work)
+      ≡ insertAll (products prime (listIn pool left n) (listIn pool right m)) []
 
 pub no-product : (work : List ℕ) → 4096 ≤ length work → Summed 0 work
 no-product work h = record { room = h; ascends = rw (held-zero work) tt; fit = rw (held-zero work) tt }

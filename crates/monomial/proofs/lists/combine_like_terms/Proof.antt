@@ -1,4 +1,4 @@
--- The monomial is searched. Where one has its variables it is summed into that one, by `insert-at`; else it is put where the search ended, by
+-- The monomial is looked for. Where one has its variables it is summed into that one, by `insert-at`; else it is put where the search ended, by
 -- `insert-gap`.
 use mathlib.Core.Path.{sym, subst, _∙_}
 use mathlib.Core.List.{List}
@@ -15,7 +15,7 @@ use Rattle.monomial.proofs.Inserting.{insert-gap, insert-at}
 use Rattle.monomial.proofs.lists.combine_like_terms.Statement.{statement}
 use Rattle.monomial.proofs.lists.combine_like_terms.Tie as tie
 
--- The monomial is searched in the work list.
+-- The monomial is looked for in the work list.
 module _ (c : tie.After-find-monomial) where
   abbrev entry : tie.Start
   entry = c .before .before .before
@@ -34,8 +34,8 @@ module _ (c : tie.After-known-told) where
   abbrev place : ℕ
   place = c .before .found .given .0 .0
 
-  stands : Stands (sought found-in) (list found-in) (At place)
-  stands = subst (Stands (sought found-in) (list found-in)) (c .before .found .given .1) (found-in .find-monomial .ensures)
+  place-stands : Stands (sought found-in) (list found-in) (At place)
+  place-stands = subst (Stands (sought found-in) (list found-in)) (c .before .found .given .1) (found-in .find-monomial .ensures)
 
 -- None has.
 module _ (c : tie.After-known-told2) where
@@ -45,8 +45,8 @@ module _ (c : tie.After-known-told2) where
   abbrev gap : ℕ
   gap = c .before .found2 .given .0 .0
 
-  fits-in : Stands (sought missed-in) (list missed-in) (Gap gap)
-  fits-in = subst (Stands (sought missed-in) (list missed-in)) (c .before .found2 .given .1) (missed-in .find-monomial .ensures)
+  gap-stands : Stands (sought missed-in) (list missed-in) (Gap gap)
+  gap-stands = subst (Stands (sought missed-in) (list missed-in)) (c .before .found2 .given .1) (missed-in .find-monomial .ensures)
 
 -- It is summed or put.
 abbrev summed : tie.After-slice-known2 → tie.After-sum-at
@@ -64,7 +64,7 @@ enum-known-found c = search needs
 sum-at-requires : tie.Need-sum-at-requires
 sum-at-requires c κs =
     let s = entry (found-in (c .before)) in
-    (omega (arith, stands (c .before) .0, held-length (s .args .count) (s .args .work .now)), omega arith, s .pre .1 .room)
+    (omega (arith, place-stands (c .before) .0, held-length (s .args .count) (s .args .work .now)), omega arith, s .pre .1 .room)
 
 enum-known-found-2 : tie.Need-enum-known-found-2
 enum-known-found-2 c = search needs
@@ -72,7 +72,7 @@ enum-known-found-2 c = search needs
 insert-at-requires : tie.Need-insert-at-requires
 insert-at-requires c κs =
     let s = entry (missed-in (c .before)) in
-    (omega (arith, fits-in (c .before) .0, held-length (s .args .count) (s .args .work .now)), omega arith, s .pre .1 .room, omega arith)
+    (omega (arith, gap-stands (c .before) .0, held-length (s .args .count) (s .args .work .now)), omega arith, s .pre .1 .room, omega arith)
 
 same-length : tie.Need-same-length
 same-length c = search needs
@@ -82,7 +82,7 @@ returns c =
     let v = summed c .sum-at in
     let k = summed c .before .before in
     let f = found-in k in
-    let h = stands k in
+    let h = place-stands k in
     (v .ensures .0 ∙ sym (insert-at prime (sought f) (list f) (place k) (entry f .pre .1 .ascends) (h .0) (h .1)), omega (arith, v .ensures .1))
 
 same-length-2 : tie.Need-same-length-2
@@ -93,7 +93,7 @@ returns-2 c =
     let v = inserted c .insert-at in
     let k = inserted c .before .before in
     let f = missed-in k in
-    let h = fits-in k in
+    let h = gap-stands k in
     (v .ensures .0 ∙ sym (insert-gap prime (sought f) (list f) (gap k) (h .0) (h .1) (h .2)), v .ensures .1)
 
 pub combine-like-terms-spec : {M : Type 1} → statement M

@@ -1,4 +1,5 @@
--- Where both lists go on, the lower of their first variables is next, the left one where they are equal.
+-- Where one list has ended the other's first variable is next. Where both go on, the lower of their first ones is, the left one where they are
+-- equal: `var-left` and `var-right`.
 use mathlib.Core.Path.{sym, _∙_}
 use Prim.Native.Nat.{ℕ, _≤_, _<_}
 use native.Mathlib.Omega.{arith}
