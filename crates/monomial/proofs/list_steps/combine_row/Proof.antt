@@ -1,5 +1,5 @@
--- Each monomial of the list is read, multiplied by the left one, and summed. The loop's invariant: `Adding`, of the products, kept by
--- `adding-more`; and no monomial that is left is longer than the longest of the list, kept by `short-rest`.
+-- Each monomial of the list is read, multiplied by the left one, and summed. The loop's invariant: what is summed, with the
+-- products that are left, gives the sum of all (`Adding`), kept by `adding-more`; no monomial that is left is longer than the longest, kept by `short-rest`.
 use mathlib.Core.Path.{_≡_, sym, ap, subst, _∙_}
 use mathlib.Core.List.{List}
 use Prim.Native.Nat.{ℕ, _+_, _-_, _≤_}

@@ -1,4 +1,4 @@
--- The lower of the count that stands there and of the words that are left: `vars-in-is`.
+-- The result is the lower of the count that stands at `at` and of how many words stand behind the first two: `vars-in-is`.
 use native.Mathlib.Omega.{arith}
 use borrow.Author.Needs.{needs}
 use Rattle.monomial.proofs.ListLaws.{vars-in-is}

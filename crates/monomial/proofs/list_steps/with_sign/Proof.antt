@@ -1,4 +1,4 @@
--- The negative of the monomial, or the monomial itself: `one-signed`, by the sign.
+-- The result is the negative of the monomial where it is to be negated, else the monomial itself: `one-signed`.
 use mathlib.Core.Path.{refl}
 use borrow.Author.Needs.{needs}
 use mathlib.Core.Bool.{true, false}

@@ -1,5 +1,5 @@
--- The variables of each monomial of the list are counted. The loop's invariant is `Longest`: the larger of the most so far and the longest of
--- what is left is the longest of all; `longest-more` keeps it.
+-- The variables of each monomial of the list are counted, and the most is kept. The loop's invariant is `Longest`: the larger of the most so far
+-- and the longest of what is left is the longest of all; `longest-more` keeps it.
 use mathlib.Core.List.{List}
 use Prim.Native.Nat.{ℕ, _+_, _-_, _≤_}
 use native.Mathlib.Omega.{arith}
