@@ -112,7 +112,8 @@ module _ (ws : List ℕ) (k count : ℕ) (l : 16 * count ≤ length ws) where
       ap (λ (m : Monomial). m .coef) (held-at count k ws one h)
       ∙ getD-take 16 (drop (16 * k) ws) 1 0 (omega arith) ∙ getD-drop (16 * k) ws 1 0
 
-  pub held-sum : k < count → (v : ℕ) → held count (set ws (16 * k + 1) v) ≡ take k (held count ws) ++ (record { vars = varsAt (held count ws) k; coef = v } ∷ drop (k + 1) (held count ws))
+  pub held-sum : k < count → (v : ℕ)
+      → held count (set ws (16 * k + 1) v) ≡ take k (held count ws) ++ (record { vars = varsAt (held count ws) k; coef = v } ∷ drop (k + 1) (held count ws))
   unfolding held
   held-sum h v =
       let R : List (List ℕ) = rows 16 count ws in
@@ -134,7 +135,8 @@ module _ (ws : List ℕ) (k count : ℕ) (l : 16 * count ≤ length ws) where
         → held (count - 1) us ≡ take k (held count ws) ++ keep (plus p m (getD (held count ws) k one)) (drop (k + 1) (held count ws))
     sum-out z us q =
         held-out h us q
-        ∙ ap (λ (r : List Monomial). take k (held count ws) ++ r) (sym (keep-zero (plus p m (getD (held count ws) k one)) (drop (k + 1) (held count ws)) (ap (λ (y : Monomial). y .coef) sum-is ∙ z)))
+        ∙ ap (λ (r : List Monomial). take k (held count ws) ++ r)
+        (sym (keep-zero (plus p m (getD (held count ws) k one)) (drop (k + 1) (held count ws)) (ap (λ (y : Monomial). y .coef) sum-is ∙ z)))
 
     pub sum-kept : (v ≡ 0 → ⊥) → held count (set ws (16 * k + 1) v) ≡ take k (held count ws) ++ keep (plus p m (getD (held count ws) k one)) (drop (k + 1) (held count ws))
     sum-kept z =

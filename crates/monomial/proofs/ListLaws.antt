@@ -167,7 +167,9 @@ module _ (words : List ℕ) (from n i : ℕ) (h : i < n) where
   left-front l = front-of words from (n - (i + 1)) (subst (ListFits words from) more l)
 
   pub left-cons : (s : ℕ) → s ≡ varsIn words from → listIn words from (n - i) ≡ readMonomial (drop from words) ∷ listIn words (from + 2 + s) (n - (i + 1))
-  left-cons s e = ap (listIn words from) more ∙ list-in-next words from (n - (i + 1)) ∙ ap (λ (k : ℕ). readMonomial (drop from words) ∷ listIn words (from + 2 + k) (n - (i + 1))) (sym e)
+  left-cons s e =
+      ap (listIn words from) more ∙ list-in-next words from (n - (i + 1))
+      ∙ ap (λ (k : ℕ). readMonomial (drop from words) ∷ listIn words (from + 2 + k) (n - (i + 1))) (sym e)
 
   pub left-rest : (s : ℕ) → s ≡ varsIn words from → ListFits words from (n - i) → ListFits words (from + 2 + s) (n - (i + 1))
   left-rest s e l = subst (λ (k : ℕ). ListFits words (from + 2 + k) (n - (i + 1))) (sym e) (left-front l .rest)

@@ -68,11 +68,15 @@ differs xs ys i q h e l = lex-tail (length xs) (length ys) xs ys q (lex-at xs ys
 module _ (s d : List ℕ) (n m : ℕ) (hs : n ≤ length s) (hd : m ≤ length d) where
   pub at-shorter : n < m → Before ≡ orderOf (take n s) (take m d)
   unfolding beforeVars
-  at-shorter h = is-before (take n s) (take m d) (lex-head (length (take n s)) (length (take m d)) (take n s) (take m d) (omega (arith, length-take-le n s hs, length-take-le m d hd)))
+  at-shorter h =
+      is-before (take n s) (take m d)
+      (lex-head (length (take n s)) (length (take m d)) (take n s) (take m d) (omega (arith, length-take-le n s hs, length-take-le m d hd)))
 
   pub at-longer : m < n → After ≡ orderOf (take n s) (take m d)
   unfolding beforeVars
-  at-longer h = is-after (take n s) (take m d) (lex-head (length (take m d)) (length (take n s)) (take m d) (take n s) (omega (arith, length-take-le n s hs, length-take-le m d hd)))
+  at-longer h =
+      is-after (take n s) (take m d)
+      (lex-head (length (take m d)) (length (take n s)) (take m d) (take n s) (omega (arith, length-take-le n s hs, length-take-le m d hd)))
 
   pub at-same : n ≡ m → (i : ℕ) → i ≡ n → take i s ≡ take i d → Same ≡ orderOf (take n s) (take m d)
   at-same q i k e = is-same (take n s) (take m d) (ap (λ (j : ℕ). take j s) (sym k) ∙ e ∙ ap (λ (j : ℕ). take j d) (k ∙ q))

@@ -8,7 +8,7 @@ use lib.ListN.{length, take, drop, length-take}
 use Rattle.semantics.specs.Arithmetic.{prime}
 use Rattle.semantics.specs.Monomial.{Monomial, mulMonomial, products}
 use Rattle.semantics.specs.Lists.{All}
-use Rattle.monomial.specs.Words.{readMonomial, listIn, longestOf, held, insertAll, Fits, ListFits, Summed}
+use Rattle.monomial.specs.Words.{readMonomial, listIn, longestOf, longestIn, held, insertAll, Fits, ListFits, Summed}
 use Rattle.monomial.proofs.Canons.{sum-nil, sum-append, asc-sum, fits-sum, fits-product}
 use Rattle.monomial.proofs.ListLaws.{varsIn, left-cons, left-rest, left-all, none-left}
 use Rattle.monomial.proofs.Sizes.{longest-cons, longest-left, held-zero}
@@ -22,15 +22,15 @@ unfolding products
 products-cons p x xs ys = refl
 
 -- What is left is no longer than the bound on all: so is the next, and what is left after it.
-module _ (pool : List ℕ) (from n i bound : ℕ) (h : i < n) (b : longestOf (listIn pool from (n - i)) ≤ bound) where
+module _ (pool : List ℕ) (from n i bound : ℕ) (h : i < n) (b : longestIn pool from (n - i) ≤ bound) where
   pub short-first : varsIn pool from ≤ bound
   short-first = omega (arith, longest-left pool from n i (varsIn pool from) h refl)
 
-  pub short-rest : (s : ℕ) → s ≡ varsIn pool from → longestOf (listIn pool (from + 2 + s) (n - (i + 1))) ≤ bound
+  pub short-rest : (s : ℕ) → s ≡ varsIn pool from → longestIn pool (from + 2 + s) (n - (i + 1)) ≤ bound
   short-rest s e = omega (arith, longest-left pool from n i s h e)
 
-pub short-all : (pool : List ℕ) (at n : ℕ) → longestOf (listIn pool at (n - 0)) ≤ longestOf (listIn pool at n)
-short-all pool at n = let z : n - 0 ≡ n = omega arith in omega (arith, ap (λ (k : ℕ). longestOf (listIn pool at k)) z)
+pub short-all : (pool : List ℕ) (at n : ℕ) → longestIn pool at (n - 0) ≤ longestIn pool at n
+short-all pool at n = let z : n - 0 ≡ n = omega arith in omega (arith, ap (λ (k : ℕ). longestIn pool at k) z)
 
 pub fits-row : (x : Monomial) (ys : List Monomial) → length (x .vars) + longestOf ys ≤ 14 → All Fits (map (mulMonomial prime x) ys)
 fits-row x [] h = tt
@@ -45,8 +45,9 @@ pub record Multiplying (pool : List ℕ) (left n right m : ℕ) (work₀ work : 
   pub summed : Summed total work
   pub few : total ≤ i * m
   pub rest : ListFits pool from (n - i)
-  pub short : longestOf (listIn pool from (n - i)) ≤ longestOf (listIn pool left n)
-  pub all-is : insertAll (products prime (listIn pool from (n - i)) (listIn pool right m)) (held total work) ≡ insertAll (products prime (listIn pool left n) (listIn pool right m)) []
+  pub short : longestIn pool from (n - i) ≤ longestIn pool left n
+  pub all-is : insertAll (products prime (listIn pool from (n - i)) (listIn pool right m)) (held total work)
+      ≡ insertAll (products prime (listIn pool left n) (listIn pool right m)) []
 
 pub no-product : (work : List ℕ) → 4096 ≤ length work → Summed 0 work
 no-product work h = record { room = h; ascends = rw (held-zero work) tt; fit = rw (held-zero work) tt }
@@ -73,7 +74,7 @@ module _ (pool : List ℕ) (left n right m : ℕ) (work₀ : List ℕ) where
 
   pub multiplying-more : (work work₁ : List ℕ) (total next from i s : ℕ) (x : Monomial) → Multiplying pool left n right m work₀ work total from i → i < n
       → s ≡ varsIn pool from → length work₁ ≡ length work → x ≡ readMonomial (drop from pool)
-      → length (x .vars) + longestOf (listIn pool right m) ≤ 14
+      → length (x .vars) + longestIn pool right m ≤ 14
       → held next work₁ ≡ insertAll (map (mulMonomial prime x) (listIn pool right m)) (held total work) → next ≤ total + m
       → Multiplying pool left n right m work₀ work₁ next (from + 2 + s) (i + 1)
   multiplying-more work work₁ total next from i s x g h e l p b q c = record {
@@ -86,7 +87,7 @@ module _ (pool : List ℕ) (left n right m : ℕ) (work₀ : List ℕ) where
     };
     few = omega (arith, g .few);
     rest = left-rest pool from n i h s e (g .rest);
-    short = short-rest pool from n i (longestOf (listIn pool left n)) h (g .short) s e;
+    short = short-rest pool from n i (longestIn pool left n) h (g .short) s e;
     all-is =
         ap (insertAll others) q ∙ sym (sum-append row others (held total work))
         ∙ ap (λ (l : List Monomial). insertAll l (held total work)) (sym (products-cons prime x (listIn pool (from + 2 + s) (n - (i + 1))) (listIn pool right m)))

@@ -9,7 +9,7 @@ use Rattle.slices.specs.Rows.{rows}
 use Rattle.slices.proofs.Lists.{getD-front}
 use Rattle.semantics.specs.Monomial.{Monomial}
 use Rattle.semantics.specs.Expand.{listSize}
-use Rattle.monomial.specs.Words.{readMonomial, listIn, longestOf, held, ListFits}
+use Rattle.monomial.specs.Words.{readMonomial, listIn, longestOf, longestIn, held, ListFits}
 use Rattle.monomial.proofs.Rows.{held-split}
 use Rattle.monomial.proofs.ListLaws.{size-nil, size-cons, size-append, varsIn, left-cons, left-rest, left-all, none-left}
 
@@ -23,22 +23,22 @@ longest-nil = refl
 
 -- The longest of what is left is the next or one behind it; s is the number of variables of the next.
 pub longest-left : (pool : List ℕ) (from n i s : ℕ) → i < n → s ≡ varsIn pool from
-    → longestOf (listIn pool from (n - i)) ≡ max s (longestOf (listIn pool (from + 2 + s) (n - (i + 1))))
+    → longestIn pool from (n - i) ≡ max s (longestIn pool (from + 2 + s) (n - (i + 1)))
 longest-left pool from n i s h e =
     ap longestOf (left-cons pool from n i h s e) ∙ longest-cons (readMonomial (drop from pool)) (listIn pool (from + 2 + s) (n - (i + 1)))
-    ∙ ap (λ (k : ℕ). max k (longestOf (listIn pool (from + 2 + s) (n - (i + 1))))) (sym e)
+    ∙ ap (λ (k : ℕ). max k (longestIn pool (from + 2 + s) (n - (i + 1)))) (sym e)
 
 -- The longest so far and the longest of what is left.
 pub record Longest (pool : List ℕ) (at n most from i : ℕ) : Type 0 where
   pub i-le : i ≤ n
   pub left : ListFits pool from (n - i)
-  pub most-is : max most (longestOf (listIn pool from (n - i))) ≡ longestOf (listIn pool at n)
+  pub most-is : max most (longestIn pool from (n - i)) ≡ longestIn pool at n
 
 module _ (pool : List ℕ) (at n : ℕ) where
   pub longest-none : ListFits pool at n → Longest pool at n 0 at 0
   longest-none l =
       let z : n - 0 ≡ n = omega arith in
-      record { i-le = omega arith; left = left-all pool at n l; most-is = omega (arith, ap (λ (k : ℕ). longestOf (listIn pool at k)) z) }
+      record { i-le = omega arith; left = left-all pool at n l; most-is = omega (arith, ap (λ (k : ℕ). longestIn pool at k) z) }
 
   pub longest-more : (most from i s next : ℕ) → Longest pool at n most from i → i < n → s ≡ varsIn pool from → next ≡ max most s
       → Longest pool at n next (from + 2 + s) (i + 1)
@@ -48,7 +48,7 @@ module _ (pool : List ℕ) (at n : ℕ) where
     most-is = omega (arith, longest-left pool from n i s h e, f, l .most-is);
   }
 
-  pub longest-done : (most from i : ℕ) → Longest pool at n most from i → n ≤ i → most ≡ longestOf (listIn pool at n)
+  pub longest-done : (most from i : ℕ) → Longest pool at n most from i → n ≤ i → most ≡ longestIn pool at n
   longest-done most from i l h = omega (arith, l .most-is, ap longestOf (none-left pool from n i h) ∙ longest-nil)
 
 -- The work list row by row.

@@ -48,6 +48,10 @@ unfoldable pub longestOf : List semantics.Monomial → ℕ
 longestOf [] = 0
 longestOf (m ∷ ms) = max (length (m .vars)) (longestOf ms)
 
+-- Of the n monomials whose words stand from `at` on, the most variables that one has.
+abbrev pub longestIn : (words : List ℕ) (at n : ℕ) → ℕ
+longestIn words at n = longestOf (listIn words at n)
+
 -- The work list: sixteen words for each monomial, in which the same words stand in front.
 unfoldable pub held : (count : ℕ) → (work : List ℕ) → List semantics.Monomial
 held count work = map readMonomial (rows 16 count work)

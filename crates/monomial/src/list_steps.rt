@@ -6,7 +6,7 @@ ghost use lib.ListN.{length, getD, take, drop};
 ghost use Rattle.slices.specs.Lent.{old, new};
 ghost use Rattle.semantics.specs.Arithmetic.{prime};
 ghost use Rattle.semantics.specs.Monomial.{mulMonomial};
-ghost use Rattle.monomial.specs.Words.{monomialOf, readMonomial, held, listIn, longestOf, insertAll, negatedIf, Fits, ListFits, Summed};
+ghost use Rattle.monomial.specs.Words.{monomialOf, readMonomial, held, listIn, longestIn, insertAll, negatedIf, Fits, ListFits, Summed};
 use crate::Monomial;
 use crate::lists::combine_like_terms;
 use crate::multiply;
@@ -93,7 +93,7 @@ pub fn combine_row(
     m: usize,
 ) -> usize
     requires { ⌜ (count + m ≤ 256) × Summed count (now work) × ListFits (now pool) at m
-        × (left .count ≤ 14) × Fits (monomialOf left) × (left .count + longestOf (listIn (now pool) at m) ≤ 14) ⌝ }
+        × (left .count ≤ 14) × Fits (monomialOf left) × (left .count + longestIn (now pool) at m ≤ 14) ⌝ }
     ensures { λ r. ⌜ (held r (new work)
         ≡ insertAll (map (mulMonomial prime (monomialOf left)) (listIn (old pool) at m)) (held count (old work)))
         × (r ≤ count + m) ⌝ }

@@ -8,7 +8,7 @@ ghost use Rattle.semantics.specs.Arithmetic.{prime};
 ghost use Rattle.semantics.specs.Monomial.{negMonomial, products, insertMonomial};
 ghost use Rattle.semantics.specs.Expand.{listSize};
 ghost use Rattle.semantics.specs.Lists.{All};
-ghost use Rattle.monomial.specs.Words.{monomialOf, held, listIn, listWords, longestOf, insertAll, negatedIf, Fits, ListFits, Summed};
+ghost use Rattle.monomial.specs.Words.{monomialOf, held, listIn, listWords, longestIn, insertAll, negatedIf, Fits, ListFits, Summed};
 use crate::Monomial;
 use crate::list_steps::combine_row;
 use crate::list_steps::monomial_in;
@@ -92,7 +92,7 @@ pub fn multiply_lists(
     m: usize,
 ) -> usize
     requires { ⌜ (n * m ≤ 256) × (4096 ≤ length (now work)) × ListFits (now pool) left n
-        × ListFits (now pool) right m × (longestOf (listIn (now pool) left n) + longestOf (listIn (now pool) right m) ≤ 14) ⌝ }
+        × ListFits (now pool) right m × (longestIn (now pool) left n + longestIn (now pool) right m ≤ 14) ⌝ }
     ensures { λ r. ⌜ (held r (new work)
         ≡ insertAll (products prime (listIn (old pool) left n) (listIn (old pool) right m)) [])
         × (r ≤ n * m) ⌝ }
@@ -113,7 +113,7 @@ pub fn multiply_lists(
 // The most variables of a monomial of the n that stand at `at`.
 pub fn longest(pool: &[u32], at: usize, n: usize) -> usize
     requires { ⌜ ListFits (now pool) at n ⌝ }
-    ensures { λ r. ⌜ r ≡ longestOf (listIn (old pool) at n) ⌝ }
+    ensures { λ r. ⌜ r ≡ longestIn (old pool) at n ⌝ }
 {
     let mut most: usize = 0;
     let mut from = at;

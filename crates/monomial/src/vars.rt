@@ -8,7 +8,7 @@ ghost use Rattle.slices.specs.Lent.{old};
 ghost use Rattle.semantics.specs.Monomial.{sort, above};
 ghost use Rattle.semantics.specs.Lists.{Sorted};
 ghost use Rattle.monomial.specs.Words.{num, nums};
-ghost use Rattle.monomial.specs.Merged.{merged};
+ghost use Rattle.monomial.specs.Merged.{mergedRest};
 ghost use Rattle.monomial.specs.Orders.{orderOf};
 
 pub enum Order {
@@ -66,10 +66,8 @@ struct Next {
 // The lower of the first variables that are left: of a from i to n, of b from j to m.
 fn next_var(a: [PackedVar; 14], i: usize, n: usize, b: [PackedVar; 14], j: usize, m: usize) -> Next
     requires { ⌜ (i ≤ n) × (n ≤ 14) × (j ≤ m) × (m ≤ 14) × (i + j < n + m) ⌝ }
-    ensures { λ r. ⌜ (r .left ≤ 1) × (i + r .left ≤ n) × (j + (1 - r .left) ≤ m) ×
-        (merged (take (n - i) (drop i (nums a))) (take (m - j) (drop j (nums b)))
-        ≡ num (r .var) ∷ merged (take (n - (i + r .left)) (drop (i + r .left) (nums a)))
-        (take (m - (j + (1 - r .left))) (drop (j + (1 - r .left)) (nums b)))) ⌝ }
+    ensures { λ r. ⌜ (r .left ≤ 1) × (i + r .left ≤ n) × (j + (1 - r .left) ≤ m)
+        × (mergedRest a i n b j m ≡ num (r .var) ∷ mergedRest a (i + r .left) n b (j + (1 - r .left)) m) ⌝ }
 {
     if m <= j {
         return Next { var: a[i], left: 1 };

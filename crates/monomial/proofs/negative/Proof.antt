@@ -1,3 +1,4 @@
+-- The variables stay, and the coefficient is what `neg` ensures.
 use mathlib.Core.Path.{refl}
 use borrow.Author.Needs.{needs}
 use Rattle.semantics.specs.Monomial.{negMonomial}

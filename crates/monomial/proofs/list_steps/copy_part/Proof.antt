@@ -1,3 +1,5 @@
+-- The words are copied one by one. The loop's invariant is `Copying`: the first i stand in the output, and around them what stood there;
+-- `copying-more` keeps it.
 use Prim.Native.Nat.{_+_, _-_, _<_}
 use native.Mathlib.Omega.{arith}
 use borrow.Author.Needs.{needs}
@@ -12,36 +14,40 @@ Inv-loop list from n out₀ at i₀ out i = Copying list from n out₀ at out i
 abbrev μ-loop : tie.MeasureT-loop
 μ-loop list from n out₀ at i₀ out i = n - i
 
+-- In a turn of the loop the places read and written are inside.
+module _ (c : tie.In-loop Inv-loop μ-loop) where
+  abbrev turn : tie.At-loop Inv-loop μ-loop
+  turn = c .before
+
+  abbrev entry : tie.Start Inv-loop μ-loop
+  entry = turn .before
+
+  read-inside : entry .args .from + turn .loop .i < length (entry .args .list .now)
+  read-inside = omega (arith, entry .pre .0)
+
+  written-inside : entry .args .at + turn .loop .i < length (turn .loop .out)
+  written-inside = omega (arith, entry .pre .1, turn .loop .inv .length-is)
+
 loop-holds : tie.Need-loop-holds Inv-loop μ-loop
 loop-holds c = copying-none (c .args .list .now) (c .args .from) (c .args .n) (c .args .out .now) (c .args .at)
 
 add-out : tie.Need-add-out Inv-loop μ-loop
-add-out c =
-    let h : c .before .before .args .from + c .before .loop .i < length (c .before .before .args .list .now) = omega (arith, c .before .before .pre .0) in
-    search needs
+add-out c = let h = read-inside c in search needs
 
 mul-out : tie.Need-mul-out Inv-loop μ-loop
-mul-out c =
-    let h : c .before .before .args .from + c .before .loop .i < length (c .before .before .args .list .now) = omega (arith, c .before .before .pre .0) in
-    search needs
+mul-out c = let h = read-inside c in search needs
 
 shared-slice-read-out : tie.Need-shared-slice-read-out Inv-loop μ-loop
-shared-slice-read-out c = omega (arith, c .before .before .before .pre .0)
+shared-slice-read-out c = read-inside (c .before)
 
 add-out-2 : tie.Need-add-out-2 Inv-loop μ-loop
-add-out-2 c =
-    let h : c .before .before .before .args .at + c .before .before .loop .i < length (c .before .before .loop .out) = omega
-    (arith, c .before .before .before .pre .1, c .before .before .loop .inv .length-is) in
-    search needs
+add-out-2 c = let h = written-inside (c .before) in search needs
 
 mul-out-2 : tie.Need-mul-out-2 Inv-loop μ-loop
-mul-out-2 c =
-    let h : c .before .before .before .args .at + c .before .before .loop .i < length (c .before .before .loop .out) = omega
-    (arith, c .before .before .before .pre .1, c .before .before .loop .inv .length-is) in
-    search needs
+mul-out-2 c = let h = written-inside (c .before) in search needs
 
 slice-write-out : tie.Need-slice-write-out Inv-loop μ-loop
-slice-write-out c = omega (arith, c .before .before .before .pre .1, c .before .before .loop .inv .length-is)
+slice-write-out c = written-inside (c .before)
 
 add-i : tie.Need-add-i Inv-loop μ-loop
 add-i c = search needs
@@ -51,9 +57,10 @@ loop-less c = search needs
 
 loop-again : tie.Need-loop-again Inv-loop μ-loop
 loop-again c =
-    let a = c .before .before .before .args in
-    let b = c .before .before .loop in
-    copying-more (a .list .now) (a .from) (a .n) (a .out .now) (a .at) (b .out) (b .i) (c .before .before .before .pre .0) (c .before .before .before .pre .1) (b .inv) (omega arith)
+    let s = entry (c .before) in
+    let a = s .args in
+    let b = turn (c .before) .loop in
+    copying-more (a .list .now) (a .from) (a .n) (a .out .now) (a .at) (b .out) (b .i) (s .pre .0) (s .pre .1) (b .inv) (omega arith)
 
 same-length : tie.Need-same-length Inv-loop μ-loop
 same-length c = c .before .loop .inv .length-is

@@ -1,4 +1,7 @@
+-- The variables are counted, and as many are copied. The loop's invariant: the first i variables are the words from the third on, kept by
+-- `filled-more`; the count is at most fourteen, and inside the words.
 use mathlib.Core.Path.{_≡_, refl, sym, ap, _∙_}
+use mathlib.Core.List.{List}
 use Prim.Native.Nat.{ℕ, _+_, _-_, _≤_}
 use native.Mathlib.Omega.{arith}
 use borrow.Author.Needs.{needs}
@@ -13,18 +16,35 @@ use Rattle.monomial.proofs.list_steps.monomial_in.Statement.{statement}
 use Rattle.monomial.proofs.list_steps.monomial_in.Tie as tie
 
 abbrev Inv-loop : tie.InvT-loop
-Inv-loop words at vars₀ count i₀ vars i = (i ≤ count) × (count ≤ 14) × (at + 2 + count ≤ length words) × (length vars ≡ 14) × (take i (nums vars) ≡ take i (drop (at + 2) words))
+Inv-loop words at vars₀ count i₀ vars i =
+    (i ≤ count) × (count ≤ 14) × (at + 2 + count ≤ length words) × (length vars ≡ 14) × (take i (nums vars) ≡ take i (drop (at + 2) words))
 
 abbrev μ-loop : tie.MeasureT-loop
 μ-loop words at vars₀ count i₀ vars i = count - i
+
+-- The variables are counted.
+module _ (c : tie.After-vars-in Inv-loop μ-loop) where
+  abbrev entry : tie.Start Inv-loop μ-loop
+  entry = c .before .before
+
+  abbrev words : List ℕ
+  words = entry .args .words .now
+
+  abbrev at : ℕ
+  at = entry .args .at
 
 vars-in-requires : tie.Need-vars-in-requires Inv-loop μ-loop
 vars-in-requires c κs = c .before .pre .0
 
 loop-holds : tie.Need-loop-holds Inv-loop μ-loop
 loop-holds c =
-    let a = c .before .before .args in
-    (search needs, omega (arith, c .vars-in .ensures, c .before .before .pre .1), omega (arith, c .vars-in .ensures, c .before .before .pre .0, vars-in-is (a .words .now) (a .at)), search needs, refl)
+    let e = c .vars-in .ensures in (
+      search needs,
+      omega (arith, e, entry c .pre .1),
+      omega (arith, e, entry c .pre .0, vars-in-is (words c) (at c)),
+      search needs,
+      refl,
+    )
 
 add-t8 : tie.Need-add-t8 Inv-loop μ-loop
 add-t8 c = search needs
@@ -52,18 +72,20 @@ loop-less c = search needs
 
 loop-again : tie.Need-loop-again Inv-loop μ-loop
 loop-again c =
-    let a = c .before .before .before .before .before .args in
-    let b = c .before .before .loop in
+    let t = c .before .before in
+    let b = t .loop in
+    let n = t .before in
     let h = b .inv in
-    let x : PackedVar = record { 0 = getD (a .words .now) (a .at + 2 + b .i) 0 } in
+    let x : PackedVar = record { 0 = getD (words n) (at n + 2 + b .i) 0 } in
     let l = length-map (b .vars) num in
-    let d = length-drop (a .at + 2) (a .words .now) in (
+    let d = length-drop (at n + 2) (words n) in (
       omega arith,
       h .1,
       h .2,
       length-set (b .vars) (b .i) x ∙ h .3,
       ap (take (b .i + 1)) (map-set num (b .vars) (b .i) x)
-          ∙ filled-more (nums (b .vars)) (drop (a .at + 2) (a .words .now)) (b .i) (num x) (omega arith) (omega arith) (h .4) (sym (getD-drop (a .at + 2) (a .words .now) (b .i) 0)),
+          ∙ filled-more (nums (b .vars)) (drop (at n + 2) (words n)) (b .i) (num x) (omega arith) (omega arith) (h .4)
+          (sym (getD-drop (at n + 2) (words n) (b .i) 0)),
     )
 
 add-t18 : tie.Need-add-t18 Inv-loop μ-loop
@@ -77,13 +99,14 @@ shared-slice-read-t21 c = search needs
 
 returns : tie.Need-returns Inv-loop μ-loop
 returns c =
-    let a = c .before .before .before .before .before .args in
-    let b = c .before .before .loop in
-    let n = c .before .before .before .vars-in .result in
-    let q : b .i ≡ n = omega arith in (
-      read-in (a .words .now) (nums (b .vars)) (a .at) n (c .before .before .before .vars-in .ensures)
-          (ap (λ (i : ℕ). take i (nums (b .vars))) (sym q) ∙ b .inv .4 ∙ ap (λ (i : ℕ). take i (drop (a .at + 2) (a .words .now))) q),
-      c .before .before .before .vars-in .ensures,
+    let t = c .before .before in
+    let b = t .loop in
+    let n = t .before in
+    let v = n .vars-in in
+    let q : b .i ≡ v .result = omega arith in (
+      read-in (words n) (nums (b .vars)) (at n) (v .result) (v .ensures)
+          (ap (λ (i : ℕ). take i (nums (b .vars))) (sym q) ∙ b .inv .4 ∙ ap (λ (i : ℕ). take i (drop (at n + 2) (words n))) q),
+      v .ensures,
     )
 
 pub monomial-in-spec : {M : Type 1} → statement M

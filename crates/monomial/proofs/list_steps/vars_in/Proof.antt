@@ -1,8 +1,12 @@
+-- The result is the lower of the count that stands at `at` and of how many words stand behind the first two: `vars-in-is`.
 use native.Mathlib.Omega.{arith}
 use borrow.Author.Needs.{needs}
 use Rattle.monomial.proofs.ListLaws.{vars-in-is}
 use Rattle.monomial.proofs.list_steps.vars_in.Statement.{statement}
 use Rattle.monomial.proofs.list_steps.vars_in.Tie as tie
+
+abbrev entry : tie.After-wide → tie.Start
+entry c = c .before .before .before
 
 mul-wide : tie.Need-mul-wide
 mul-wide c = search needs
@@ -23,7 +27,9 @@ smaller-requires : tie.Need-smaller-requires
 smaller-requires c κs = search needs
 
 returns : tie.Need-returns
-returns c = omega (arith, c .smaller .ensures, c .before .wide .ensures, vars-in-is (c .before .before .before .before .args .words .now) (c .before .before .before .before .args .at))
+returns c =
+    let a = entry (c .before) .args in
+    omega (arith, c .smaller .ensures, c .before .wide .ensures, vars-in-is (a .words .now) (a .at))
 
 pub vars-in-spec : {M : Type 1} → statement M
 vars-in-spec =

@@ -1,3 +1,4 @@
+-- The result is the negative of the monomial where it is to be negated, else the monomial itself: `one-signed`.
 use mathlib.Core.Path.{refl}
 use borrow.Author.Needs.{needs}
 use mathlib.Core.Bool.{true, false}
@@ -10,14 +11,15 @@ negative-requires : tie.Need-negative-requires
 negative-requires c κs = search needs
 
 returns : tie.Need-returns
-returns c = (
-  one-signed (c .before .before .args .negated) true (monomialOf (c .negative .result)) (monomialOf (c .before .before .args .m))
-      (c .before .if1 .taken) (c .negative .ensures .0),
-  c .negative .ensures .1,
-)
+returns c =
+    let a = c .before .before .args in
+    let v = c .negative in
+    (one-signed (a .negated) true (monomialOf (v .result)) (monomialOf (a .m)) (c .before .if1 .taken) (v .ensures .0), v .ensures .1)
 
 returns-2 : tie.Need-returns-2
-returns-2 c = (one-signed (c .before .args .negated) false (monomialOf (c .before .args .m)) (monomialOf (c .before .args .m)) (c .if1 .left) refl, refl)
+returns-2 c =
+    let a = c .before .args in
+    (one-signed (a .negated) false (monomialOf (a .m)) (monomialOf (a .m)) (c .if1 .left) refl, refl)
 
 pub with-sign-spec : {M : Type 1} → statement M
 with-sign-spec = tie.close (tie.spec negative-requires returns returns-2)

@@ -1,11 +1,34 @@
-use mathlib.Core.Path.{_∙_}
-use Prim.Native.Nat.{_+_}
+-- The count and the coefficient are stored, and the variables copied behind them: `head-copied`.
+use mathlib.Core.Path.{_≡_, _∙_}
+use mathlib.Core.List.{List}
+use Prim.Native.Nat.{ℕ, _+_}
 use native.Mathlib.Omega.{arith}
 use borrow.Author.Needs.{needs}
-use lib.ListN.{getD, take, drop, set, length-set}
+use lib.ListN.{length, getD, take, drop, set, length-set}
 use Rattle.monomial.proofs.list_steps.write_row.Statement.{statement}
 use Rattle.monomial.proofs.list_steps.write_row.Tie as tie
 use Rattle.monomial.proofs.Rows.{head-copied}
+
+-- The count and the coefficient are stored.
+module _ (c : tie.After-shared-slice-known2) where
+  abbrev entry : tie.Start
+  entry = c .before .before .before
+
+  abbrev coef : ℕ
+  coef = getD (entry .args .work .now) (entry .args .from + 1) 0
+
+  abbrev counted : List ℕ
+  counted = set (entry .args .out .now) (entry .args .at) (entry .args .n)
+
+  counted-length : length counted ≡ length (entry .args .out .now)
+  counted-length = length-set (entry .args .out .now) (entry .args .at) (entry .args .n)
+
+-- The variables are copied.
+abbrev copied : tie.After-slice-known2 → tie.After-copy-part
+copied c = c .before .before
+
+abbrev stored : tie.After-copy-part → tie.After-shared-slice-known2
+stored c = c .before .before
 
 cast-out : tie.Need-cast-out
 cast-out c = search needs
@@ -32,7 +55,7 @@ mul-out-3 : tie.Need-mul-out-3
 mul-out-3 c = search needs
 
 slice-write-out-2 : tie.Need-slice-write-out-2
-slice-write-out-2 c = omega (arith, length-set (c .before .before .before .args .out .now) (c .before .before .before .args .at) (c .before .before .before .args .n))
+slice-write-out-2 c = omega (arith, counted-length c)
 
 add-copy-part : tie.Need-add-copy-part
 add-copy-part c = search needs
@@ -45,15 +68,16 @@ copy-part-requires c κs = search needs
 
 same-length : tie.Need-same-length
 same-length c =
-    let a = c .before .before .before .before .before .before .before .args in
-    c .before .before .copy-part .kept .1 .1 .1 .0 ∙ length-set (set (a .out .now) (a .at) (a .n)) (a .at + 1) _ ∙ length-set (a .out .now) (a .at) (a .n)
+    let h = stored (copied c) in
+    copied c .copy-part .kept .1 .1 .1 .0 ∙ length-set (counted h) (entry h .args .at + 1) (coef h) ∙ counted-length h
 
 returns : tie.Need-returns
 returns c =
-    let a = c .before .before .before .before .before .before .before .args in
-    head-copied (a .out .now) (c .before .before .copy-part .last .1 .1 .1 .0) (take (a .n) (drop (a .from + 2) (a .work .now))) (a .at) (a .n)
-    (getD (a .work .now) (a .from + 1) 0) (a .n) (omega (arith, c .before .before .before .before .before .before .before .pre .2))
-    (c .before .before .copy-part .ensures)
+    let v = copied c .copy-part in
+    let h = stored (copied c) in
+    let a = entry h .args in
+    head-copied (a .out .now) (v .last .1 .1 .1 .0) (take (a .n) (drop (a .from + 2) (a .work .now))) (a .at) (a .n) (coef h) (a .n)
+    (omega (arith, entry h .pre .2)) (v .ensures)
 
 pub write-row-spec : {M : Type 1} → statement M
 write-row-spec =

@@ -1,4 +1,5 @@
--- The search halves the slots that are left. The loop's invariant: those below `low` stand before the variables, those from `high` on behind them.
+-- The search halves the slots that are left. The loop's invariant: those below `low` stand before the variables, kept by `found-after`; those
+-- from `high` on stand behind them, kept by `found-before`.
 use mathlib.Core.Path.{ap, subst, _∙_}
 use mathlib.Core.List.{List}
 use Prim.Native.Nat.{ℕ, _+_, _-_, _/_, _≤_, _<_}
@@ -24,28 +25,34 @@ Inv-loop work count mine n low₀ high₀ low high =
 abbrev μ-loop : tie.MeasureT-loop
 μ-loop work count mine n low₀ high₀ low high = high - low
 
+abbrev entry : tie.After-numbers Inv-loop μ-loop → tie.Start Inv-loop μ-loop
+entry c = c .before .before .before
+
 abbrev start : tie.At-loop Inv-loop μ-loop → tie.Start Inv-loop μ-loop
-start c = c .before .before .before .before
+start c = entry (c .before)
 
 abbrev numbers-of : tie.At-loop Inv-loop μ-loop → List ℕ
 numbers-of c = c .before .numbers .result
 
+abbrev test : tie.After-slot-count Inv-loop μ-loop → tie.In-loop Inv-loop μ-loop
+test c = c .before .before
+
 abbrev turn : tie.After-order-at Inv-loop μ-loop → tie.At-loop Inv-loop μ-loop
-turn c = c .before .before .before .before
+turn c = test (c .before) .before
 
 abbrev middle : tie.At-loop Inv-loop μ-loop → ℕ
 middle c = (c .loop .low + c .loop .high) / 2
 
 -- The slot in the middle is one of those that are searched.
 inside : (c : tie.After-order-at Inv-loop μ-loop) → middle (turn c) < start (turn c) .args .count
-inside c = let h = turn c .loop .inv in let t = c .before .before .before .loop-test .taken in omega arith
+inside c = let h = turn c .loop .inv in let t = test (c .before) .loop-test .taken in omega arith
 
 numbers-requires : tie.Need-numbers-requires Inv-loop μ-loop
 numbers-requires c κs = search needs
 
 loop-holds : tie.Need-loop-holds Inv-loop μ-loop
 loop-holds c =
-    let a = c .before .before .before .args in
+    let a = entry c .args in
     (omega arith, omega arith, λ i h. absurd (omega arith), λ i h k. absurd (omega (arith, held-length (a .count) (a .work .now))))
 
 add-k : tie.Need-add-k Inv-loop μ-loop
@@ -134,7 +141,8 @@ returns-2 c =
     let low = b .loop .low in (
       omega arith,
       subst (λ (v : List ℕ). FirstBefore (sought v (a .m .count)) (held (a .count) (a .work .now)) low) (b .before .numbers .ensures) (h .2),
-      subst (λ (v : List ℕ). RestAfter (sought v (a .m .count)) (held (a .count) (a .work .now)) low) (b .before .numbers .ensures) (λ i k m. h .3 i (omega arith) m),
+      subst (λ (v : List ℕ). RestAfter (sought v (a .m .count)) (held (a .count) (a .work .now)) low) (b .before .numbers .ensures)
+          (λ i k m. h .3 i (omega arith) m),
     )
 
 pub find-monomial-spec : {M : Type 1} → statement M

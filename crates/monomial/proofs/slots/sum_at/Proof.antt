@@ -1,3 +1,4 @@
+-- The sum is stored in slot k, by `sum-kept`. Where it is 0 the slots behind k are moved down by one, by `sum-out`.
 use native.Mathlib.Omega.{arith}
 use borrow.Author.Needs.{needs}
 use Rattle.semantics.specs.Arithmetic.{prime}
@@ -5,6 +6,17 @@ use Rattle.monomial.specs.Words.{monomialOf}
 use Rattle.monomial.proofs.Inserting.{sum-out, sum-kept}
 use Rattle.monomial.proofs.slots.sum_at.Statement.{statement}
 use Rattle.monomial.proofs.slots.sum_at.Tie as tie
+
+-- The coefficients are summed.
+abbrev entry : tie.After-add → tie.Start
+entry c = c .before .before .before
+
+-- The sum is 0, and the slots are moved.
+abbrev moved : tie.After-slice-known3 → tie.After-shift-down
+moved c = c .before .before
+
+abbrev zero : tie.After-shift-down → tie.Then1
+zero c = c .before .before
 
 mul-add : tie.Need-mul-add
 mul-add c = search needs
@@ -38,10 +50,11 @@ same-length c = search needs
 
 returns : tie.Need-returns
 returns c =
-    let a = c .before .before .before .before .before .before .before .before .args in
-    let v = c .before .before .before .before .before .add in (
+    let z = zero (moved c) in
+    let v = z .before .add in
+    let a = entry (z .before) .args in (
       sum-out (a .work .now) (a .k) (a .count) (omega arith) prime (monomialOf (a .m)) (omega arith) (v .result) (v .ensures)
-          (c .before .before .before .before .if1 .taken) _ (c .before .before .shift-down .ensures),
+          (z .if1 .taken) _ (moved c .shift-down .ensures),
       omega arith,
     )
 
@@ -62,8 +75,8 @@ same-length-2 c = search needs
 
 returns-2 : tie.Need-returns-2
 returns-2 c =
-    let a = c .before .before .before .before .args in
     let v = c .before .add in
+    let a = entry (c .before) .args in
     (sum-kept (a .work .now) (a .k) (a .count) (omega arith) prime (monomialOf (a .m)) (omega arith) (v .result) (v .ensures) (c .if1 .left), omega arith)
 
 pub sum-at-spec : {M : Type 1} → statement M

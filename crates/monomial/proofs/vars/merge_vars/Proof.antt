@@ -1,3 +1,5 @@
+-- The next variable of the two lists is written, until none is left. The loop's invariant, `Merging`: what is written and what remains are the
+-- two lists merged; `merging-more` keeps it.
 use mathlib.Core.Path.{_≡_, sym, subst, _∙_}
 use mathlib.Core.List.{List, []}
 use Prim.Native.Nat.{ℕ, _+_, _-_, _≤_}
@@ -5,22 +7,28 @@ use native.Mathlib.Omega.{arith}
 use borrow.Author.Needs.{needs}
 use lib.ListN.{length, length-map, length-set}
 use Rattle.slices.proofs.Lists.{map-set}
-use Rattle.packed_var.specs.declared.PackedVar.{PackedVar}
 use Rattle.monomial.specs.Words.{num, nums}
 use Rattle.monomial.proofs.Merging.{Merging, merging-none, merging-more, merging-all}
 use Rattle.monomial.proofs.vars.merge_vars.Statement.{statement}
 use Rattle.monomial.proofs.vars.merge_vars.Tie as tie
 
 abbrev Inv-loop : tie.InvT-loop
-Inv-loop a n b m r₀ i₀ j₀ r i j = (i ≤ n) × (j ≤ m) × (length r ≡ 14) × Merging (nums r) (nums a) (nums b) i n j m
+Inv-loop a n b m r₀ i₀ j₀ r i j = (i ≤ n) × (j ≤ m) × (length r ≡ 14) × Merging (nums r) a b i n j m
 
 abbrev μ-loop : tie.MeasureT-loop
 μ-loop a n b m r₀ i₀ j₀ r i j = n + m - (i + j)
 
+-- A turn of the loop: the next variable, and how far it takes the left list.
+abbrev turn : tie.After-next-var Inv-loop μ-loop → tie.At-loop Inv-loop μ-loop
+turn c = c .before .before
+
+abbrev next : tie.After-struct-known Inv-loop μ-loop → tie.After-next-var Inv-loop μ-loop
+next c = c .before .before
+
 loop-holds : tie.Need-loop-holds Inv-loop μ-loop
 loop-holds c =
     let a = c .args in
-    (search needs, search needs, search needs, merging-none [] (nums (a .a)) (nums (a .b)) (a .n) (a .m))
+    (search needs, search needs, search needs, merging-none [] (a .a) (a .b) (a .n) (a .m))
 
 add-loop : tie.Need-add-loop Inv-loop μ-loop
 add-loop c = search needs
@@ -41,38 +49,41 @@ array-set-from-r : tie.Need-array-set-from-r Inv-loop μ-loop
 array-set-from-r c = search needs
 
 add-i : tie.Need-add-i Inv-loop μ-loop
-add-i c = omega (arith, c .before .before .next-var .ensures)
+add-i c = omega (arith, next c .next-var .ensures)
 
 sub-j : tie.Need-sub-j Inv-loop μ-loop
-sub-j c = omega (arith, c .before .before .before .next-var .ensures)
+sub-j c = omega (arith, next (c .before) .next-var .ensures)
 
 add-j : tie.Need-add-j Inv-loop μ-loop
-add-j c = omega (arith, c .before .before .before .next-var .ensures)
+add-j c = omega (arith, next (c .before) .next-var .ensures)
 
 loop-less : tie.Need-loop-less Inv-loop μ-loop
-loop-less c = omega (arith, c .before .before .before .next-var .ensures)
+loop-less c = omega (arith, next (c .before) .next-var .ensures)
 
 loop-again : tie.Need-loop-again Inv-loop μ-loop
 loop-again c =
-    let a = c .before .before .before .before .before .before .args in
-    let b = c .before .before .before .before .before .loop in
-    let h = b .inv in
-    let v = c .before .before .before .next-var in
-    let x : PackedVar = v .result .var in
-    let l = length-map (b .r) num in (
+    let b = turn (next (c .before)) in
+    let a = b .before .args in
+    let l = b .loop in
+    let h = l .inv in
+    let v = next (c .before) .next-var in
+    let x = v .result .var in
+    let k = v .result .left in
+    let e = length-map (l .r) num in (
       v .ensures .1,
       v .ensures .2,
-      length-set (b .r) (b .i + b .j) x ∙ h .2,
-      subst (λ (r : List ℕ). Merging r (nums (a .a)) (nums (a .b)) (b .i + v .result .left) (a .n) (b .j + (1 - v .result .left)) (a .m)) (sym (map-set num (b .r) (b .i + b .j) x))
-          (merging-more (nums (b .r)) (nums (a .a)) (nums (a .b)) (b .i) (a .n) (b .j) (a .m) (num x) (v .result .left) (omega arith) (v .ensures .0) (h .3) (v .ensures .3)),
+      length-set (l .r) (l .i + l .j) x ∙ h .2,
+      subst (λ (r : List ℕ). Merging r (a .a) (a .b) (l .i + k) (a .n) (l .j + (1 - k)) (a .m)) (sym (map-set num (l .r) (l .i + l .j) x))
+          (merging-more (nums (l .r)) (a .a) (a .b) (l .i) (a .n) (l .j) (a .m) (num x) k (omega arith) (v .ensures .0) (h .3) (v .ensures .3)),
     )
 
 returns : tie.Need-returns Inv-loop μ-loop
 returns c =
-    let a = c .before .before .args in
+    let s = c .before .before in
+    let a = s .args in
     let b = c .before .loop in
     let h = b .inv in
-    merging-all (nums (b .r)) (nums (a .a)) (nums (a .b)) (b .i) (a .n) (b .j) (a .m) (h .0) (h .1) (omega arith) (h .3) (c .before .before .pre .1) (c .before .before .pre .2)
+    merging-all (nums (b .r)) (a .a) (a .b) (b .i) (a .n) (b .j) (a .m) (h .0) (h .1) (omega arith) (h .3) (s .pre .1) (s .pre .2)
 
 pub merge-vars-spec : {M : Type 1} → statement M
 merge-vars-spec =

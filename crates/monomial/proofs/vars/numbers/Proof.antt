@@ -1,4 +1,4 @@
--- The loop's invariant: the first i numbers are those of the variables.
+-- The numbers are stored one by one. The loop's invariant: the first i are those of the variables; `filled-more` keeps it.
 use mathlib.Core.Path.{_≡_, refl, sym, _∙_}
 use Prim.Native.Nat.{_-_, _≤_}
 use native.Mathlib.Omega.{arith}

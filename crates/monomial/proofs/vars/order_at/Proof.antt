@@ -1,4 +1,4 @@
--- Lists of one length are compared from the front. The loop's invariant: the variables passed are the same.
+-- Lists of one length are compared from the front. The loop's invariant: the variables passed are the same; `alike-more` keeps it.
 use mathlib.Core.Path.{_≡_, refl, sym, _∙_}
 use mathlib.Core.List.{List}
 use Prim.Native.Nat.{ℕ, _+_, _-_, _≤_}
@@ -33,12 +33,25 @@ module _ (c : tie.Start Inv-loop μ-loop) where
   right-long : c .args .m ≤ length right
   right-long = omega (arith, length-drop (c .args .from) (c .args .other .now), c .pre)
 
+-- The lengths are compared.
+abbrev start : tie.After-shared-slice-known2 Inv-loop μ-loop → tie.Start Inv-loop μ-loop
+start c = c .before .before
+
+abbrev alike : tie.Else2 Inv-loop μ-loop → tie.Start Inv-loop μ-loop
+alike c = start (c .before .before)
+
 -- A turn of the loop, and the variables at i that it compares.
 abbrev entry : tie.At-loop Inv-loop μ-loop → tie.Start Inv-loop μ-loop
-entry c = c .before .before .before .before .before
+entry c = alike (c .before)
+
+abbrev test : tie.After-shared-slice-known4 Inv-loop μ-loop → tie.In-loop Inv-loop μ-loop
+test c = c .before .before
 
 abbrev turn : tie.After-below Inv-loop μ-loop → tie.At-loop Inv-loop μ-loop
-turn c = c .before .before .before .before
+turn c = test (c .before) .before
+
+abbrev first : tie.After-below2 Inv-loop μ-loop → tie.After-below Inv-loop μ-loop
+first c = c .before .before
 
 module _ (c : tie.At-loop Inv-loop μ-loop) where
   abbrev x : ℕ
@@ -56,17 +69,17 @@ module _ (c : tie.At-loop Inv-loop μ-loop) where
 less : (c : tie.After-below Inv-loop μ-loop) → c .below .result ≡ ltb (x (turn c)) (y (turn c))
 less c = c .below .ensures ∙ (λ k. ltb (sym (x-is (turn c)) k) (sym (y-is (turn c)) k))
 
-more : (c : tie.After-below2 Inv-loop μ-loop) → c .below2 .result ≡ ltb (y (turn (c .before .before))) (x (turn (c .before .before)))
-more c = let b = turn (c .before .before) in c .below2 .ensures ∙ (λ k. ltb (sym (y-is b) k) (sym (x-is b) k))
+more : (c : tie.After-below2 Inv-loop μ-loop) → c .below2 .result ≡ ltb (y (turn (first c))) (x (turn (first c)))
+more c = let b = turn (first c) in c .below2 .ensures ∙ (λ k. ltb (sym (y-is b) k) (sym (x-is b) k))
 
 returns : tie.Need-returns Inv-loop μ-loop
 returns c =
-    let s = c .before .before .before in
+    let s = start (c .before) in
     at-shorter (left s) (right s) (s .args .n) (s .args .m) (left-long s) (right-long s) (c .if1 .taken)
 
 returns-2 : tie.Need-returns-2 Inv-loop μ-loop
 returns-2 c =
-    let s = c .before .before .before .before in
+    let s = start (c .before .before) in
     at-longer (left s) (right s) (s .args .n) (s .args .m) (left-long s) (right-long s) (c .if2 .taken)
 
 loop-holds : tie.Need-loop-holds Inv-loop μ-loop
@@ -106,7 +119,7 @@ below-requires-2 c κs = search needs
 
 returns-4 : tie.Need-returns-4 Inv-loop μ-loop
 returns-4 c =
-    let b = turn (c .before .before .before) in
+    let b = turn (first (c .before)) in
     let s = entry b in
     let h = b .loop .inv in
     at-more (left s) (right s) (s .args .n) (s .args .m) (left-long s) (right-long s) (h .1) (b .loop .i) (omega arith) (h .2)
@@ -120,12 +133,13 @@ loop-less c = search needs
 
 loop-again : tie.Need-loop-again Inv-loop μ-loop
 loop-again c =
-    let b = turn (c .before .before .before) in
+    let f = first (c .before) in
+    let b = turn f in
     let s = entry b in
     let h = b .loop .inv in
     let l = left-long s in
     let r = right-long s in
-    let not-less = ltb-false (x b) (y b) (sym (less (c .before .before .before)) ∙ c .before .before .if3 .left) in
+    let not-less = ltb-false (x b) (y b) (sym (less f) ∙ c .before .before .if3 .left) in
     let not-more = ltb-false (y b) (x b) (sym (more (c .before)) ∙ c .if4 .left) in
     (omega arith, h .1, alike-more (left s) (right s) (b .loop .i) (omega arith) (omega arith) (h .2) (omega arith))
 
