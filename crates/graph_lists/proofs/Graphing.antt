@@ -17,10 +17,10 @@ use Rattle.semantics.proofs.Encoding.{sheet-length}
 use Rattle.semantics.proofs.Access.{constraint-word, words-count}
 use Rattle.semantics.proofs.Orders.{order-closed, order-roots, order-below, order-distinct, distinct-length}
 use Rattle.semantics.proofs.GraphSheets.{constraint-root, graph-roots, sorted-length}
-use Rattle.records.specs.Access.{references, recordsOf, constraintsAt, interactionsAt, wordsFrom}
+use Rattle.records.specs.Access.{recordsOf, constraintsAt, interactionsAt, wordsFrom}
 use Rattle.records.specs.Orders.{Order}
 use Rattle.records.proofs.Steps.{inside, few-records, lows}
-use Rattle.records.proofs.Reading.{counts-small, constraints-are, interactions-stand}
+use Rattle.records.proofs.Reading.{references, counts-small, constraints-are, interactions-stand}
 use Rattle.nodes.specs.Memory.{tabulate, mark, nodesOut, builtOf}
 use Rattle.nodes.proofs.States as states
 use Rattle.nodes.proofs.Marks.{tabulate-length}

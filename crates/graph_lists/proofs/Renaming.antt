@@ -8,8 +8,8 @@ use Rattle.semantics.specs.Sheet.{Interaction, interactionWords}
 use Rattle.semantics.specs.Graph.{renamed}
 use Rattle.semantics.specs.Walk.{Mem}
 use Rattle.semantics.proofs.Members.{mem-here, mem-there, mem-left, mem-right, mem-getD}
-use Rattle.records.specs.Access.{references, messageLength, eachWords}
-use Rattle.records.proofs.Reading.{bus-is, weight-is, count-word, count-is, length-is, message-is, next-stands, interaction-inside, field-word, first-stands}
+use Rattle.records.specs.Access.{messageLength, eachWords}
+use Rattle.records.proofs.Reading.{references, bus-is, weight-is, count-word, count-is, length-is, message-is, next-stands, interaction-inside, field-word, first-stands}
 use Rattle.graph_lists.specs.Lists.{nodeNumbers, marksOf, NamedInteraction, NamedInteractions, renamedWords, renamedAll}
 
 -- Two functions that agree on a list.

@@ -8,9 +8,10 @@ use native.Mathlib.Omega.{arith}
 use lib.Dec.{eqb}
 use lib.ListN.{length}
 use Rattle.semantics.specs.Sheet.{Interaction, Sheet}
-use Rattle.semantics.specs.Monomial.{Above, Asc, Monomial, before, beforeVars}
+use Rattle.semantics.specs.Monomial.{Asc, Monomial, before, beforeVars}
 use Rattle.semantics.specs.Group.{Root, labelled, constraintRoots, countRoots, fieldRoots, Item, itemsOf, items, key, later, groups}
 use Rattle.semantics.specs.Lists.{All}
+use Rattle.semantics.proofs.Combining.{Above}
 use Rattle.semantics.proofs.Basics.{by-test, not-both}
 use Rattle.semantics.proofs.Order.{lex-head, lex-tail, beforeVars-irrefl}
 use Rattle.semantics.proofs.Sorting.{all-append}

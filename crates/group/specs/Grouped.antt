@@ -204,10 +204,6 @@ unfoldable pub talliedHeaders : (vo to : ℕ) → List Tally → List ℕ
 talliedHeaders vo to [] = []
 talliedHeaders vo to (g ∷ gs) = vo ∷ to ∷ length (g .vars) ∷ g .count ∷ talliedHeaders (vo + length (g .vars)) (to + g .count) gs
 
--- A slice of zeros with room for some words.
-abbrev pub Vacant : (words slice : List ℕ) → Type 0
-Vacant words slice = (slice ≡ zeros (length slice)) × (length words ≤ length slice)
-
 -- What placing the items `ts` does, whatever was placed before.
 abbrev pub Places : (interaction : Bool) (n : ℕ) (pool headers terms headers′ terms′ : List ℕ) (ts : List Item) → Type 0
 Places interaction n pool headers terms headers′ terms′ ts =

@@ -15,7 +15,7 @@ use Rattle.semantics.specs.Call.{zeros, padded}
 use Rattle.semantics.specs.Lists.{All}
 use Rattle.semantics.proofs.Calls.{zeros-add, zeros-long, padded-is}
 use Rattle.group.specs.Grouped.{Tally, tallyAll, Ascends, talliedTotal, tallyRow, tallied, RowInside, Rows, column, sum, totalled, cursors, select, placed}
-use Rattle.group.specs.Grouped.{itemsAt, termOf, termWidth, Placing, varsIn, talliedHeaders, Vacant, InPool, varsNamed}
+use Rattle.group.specs.Grouped.{itemsAt, termOf, termWidth, Placing, varsIn, talliedHeaders, InPool, varsNamed}
 use Rattle.group.proofs.Tallies.{total-all, length-all}
 use Rattle.group.proofs.Places.{placed-none}
 use Rattle.group.proofs.Headers.{tallied-length}
@@ -60,6 +60,10 @@ start-cursors P s (row ∷ rs) a =
     ap (λ (x : ℕ). x ∷ words 1 (totalled 1 3 (s + getD row 3 0) rs)) (getD-set-same row 1 s 0 (omega arith) ∙ e)
     ∙ ap (λ (l : List ℕ). (s + 0) ∷ l)
     (start-cursors P (s + getD row 3 0) rs (a .1) ∙ ap (λ (x : ℕ). cursors (s + x) (map (tallyRow P) rs) []) (sym (row-count P row)))
+
+-- A slice of zeros with room for some words.
+abbrev pub Vacant : (words slice : List ℕ) → Type 0
+Vacant words slice = (slice ≡ zeros (length slice)) × (length words ≤ length slice)
 
 zeros-padded : (ws : List ℕ) (m n : ℕ) → ws ≡ zeros m → m ≤ n → zeros n ≡ padded ws n
 zeros-padded ws m n e h =

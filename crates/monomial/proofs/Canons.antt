@@ -8,13 +8,13 @@ use native.Mathlib.Omega.{arith}
 use lib.ListN.{length, length-append}
 use borrow.Author.Tests.{ltb-true, ltb-false, lt-ltb, le-ltb}
 use Rattle.semantics.specs.Arithmetic.{prime, addM}
-use Rattle.semantics.specs.Monomial.{Above, Asc, Monomial, beforeVars, sort, above, plus, negMonomial, mulMonomial, insertMonomial, combine}
+use Rattle.semantics.specs.Monomial.{Asc, Monomial, beforeVars, sort, above, plus, negMonomial, mulMonomial, insertMonomial, combine}
 use Rattle.semantics.specs.Lists.{All, Sorted}
 use Rattle.semantics.proofs.Arithmetic.{addM-lt, mulM-lt, negM-lt, addM-comm, addM-cancel, zero-addM, addM-zero, mulM-zero, mulM-one, sums}
 use Rattle.semantics.proofs.Order.{beforeVars-irrefl, beforeVars-total, sameVars}
 use Rattle.semantics.proofs.Sorting.{sort-same, sorted-sort}
 use Rattle.semantics.proofs.Monomials.{one, val, val-cons, val-one, val-lt}
-use Rattle.semantics.proofs.Combining.{NoZero, above-trans, val-insert, val-combine, asc-insert, asc-combine, nz-insert, nz-combine, Small, all-insert, all-combine, small-plus}
+use Rattle.semantics.proofs.Combining.{Above, NoZero, above-trans, val-insert, val-combine, asc-insert, asc-combine, nz-insert, nz-combine, Small, all-insert, all-combine, small-plus}
 use Rattle.monomial.specs.Words.{Fits, insertAll}
 
 -- The weight of one variable list: `val p (onlyAt v)` is the coefficient at v.

@@ -9,7 +9,8 @@ use native.Mathlib.Omega.{arith}
 use lib.ListN.{length, getD, take, drop}
 use lib.Seq.{take-all, getD-take, getD-drop, drop-drop}
 use Rattle.slices.proofs.Lists.{take-min}
-use Rattle.semantics.specs.Monomial.{Above, Asc, Monomial, beforeVars}
+use Rattle.semantics.specs.Monomial.{Asc, Monomial, beforeVars}
+use Rattle.semantics.proofs.Combining.{Above}
 use Rattle.semantics.proofs.Order.{beforeVars-trans}
 use Rattle.monomial.specs.Words.{readMonomial, held}
 use Rattle.monomial.specs.declared.vars.Order.{Order}

@@ -15,9 +15,16 @@ use Rattle.semantics.proofs.Encoding.{head-limits, check-sound, sheet-back}
 use Rattle.semantics.proofs.Access.{spare, words-are, words-count, count-words, constraint-word, interactions-from}
 use Rattle.semantics.proofs.Members.{mem-getD}
 use Rattle.semantics.proofs.GraphSheets.{named-below, interaction-facts}
-use Rattle.records.specs.Access.{referencesOf, references, countsOf, fieldsOf, recordsOf, constraintsAt, interactionsAt, wordsFrom, messageLength, eachWords, countAt}
+use Rattle.records.specs.Access.{countsOf, fieldsOf, recordsOf, constraintsAt, interactionsAt, wordsFrom, messageLength, eachWords, countAt}
 use Rattle.records.specs.Access.{fieldsAt, rootWords, countWords, fieldWords, ReferencesInside, AllRootsInside}
 use Rattle.records.proofs.Steps.{inside}
+
+-- The records that an interaction refers to, and that some do: fields, then the count.
+abbrev pub referencesOf : Interaction → List ℕ
+referencesOf x = x .message ++ (x .count ∷ [])
+
+abbrev pub references : List Interaction → List ℕ
+references xs = flatMap referencesOf xs
 
 -- The sheet that was found is the one that the words read as.
 pub read-found : (ws : List ℕ) (t : Sheet) → check prime ws ≡ good t → t ≡ readSheet ws

@@ -81,13 +81,7 @@ abbrev pub AllRootsInside : (ws : List ℕ) (at n : ℕ) → Type 0
 AllRootsInside ws at zero = Unit {0}
 AllRootsInside ws at (suc n) = RootsInside ws at × AllRootsInside ws (at + (4 + messageLength ws at)) n
 
--- The same of interactions that are read: the references of one, of some, their counts and their fields.
-abbrev pub referencesOf : semantics.Interaction → List ℕ
-referencesOf x = x .message ++ (x .count ∷ [])
-
-abbrev pub references : List semantics.Interaction → List ℕ
-references xs = flatMap referencesOf xs
-
+-- The same of interactions that are read: their counts and their fields.
 abbrev pub countsOf : List semantics.Interaction → List ℕ
 countsOf xs = flatMap (λ (x : semantics.Interaction). x .count ∷ []) xs
 

@@ -6,13 +6,17 @@ use Prim.Native.Nat.{ℕ, _<_}
 use lib.Dec.{eqb}
 use borrow.Author.Tests.{eqb-true, eqb-false}
 use Rattle.semantics.specs.Arithmetic.{addM}
-use Rattle.semantics.specs.Monomial.{Above, Asc, Monomial, beforeVars, keep, plus, insertMonomial, combine}
+use Rattle.semantics.specs.Monomial.{BeforeVars, Asc, Monomial, beforeVars, keep, plus, insertMonomial, combine}
 use Rattle.semantics.specs.Lists.{All}
 use Rattle.semantics.proofs.Basics.{by-test}
 use Rattle.semantics.proofs.Arithmetic.{addM-lt, zero-addM, zero-mulM, addM-mulM, sums}
 use Rattle.semantics.proofs.Order.{beforeVars-trans, beforeVars-total}
 use Rattle.semantics.proofs.Sorting.{all-imply}
 use Rattle.semantics.proofs.Monomials.{one, val, val-cons, val-one, val-lt}
+
+-- Every monomial of a list stands after `v`.
+abbrev pub Above : List ℕ → List Monomial → Type 0
+Above v ms = All (λ (m : Monomial). BeforeVars v (m .vars)) ms
 
 -- What holds of an insertion, by the three cases of its first step.
 pub by-order : (P : List Monomial → Type 0) (p : ℕ) (m x : Monomial) (xs : List Monomial)

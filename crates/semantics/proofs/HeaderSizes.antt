@@ -11,12 +11,13 @@ use Rattle.slices.proofs.Lists.{flat-length}
 use Rattle.semantics.specs.Answer.{good}
 use Rattle.semantics.specs.Sheet.{Interaction, Sheet, Inside, Each, GoodInteraction}
 use Rattle.semantics.specs.Walk.{Mem, Below, order}
-use Rattle.semantics.specs.Monomial.{Above, Asc, Monomial, sort, listAt}
+use Rattle.semantics.specs.Monomial.{Asc, Monomial, sort, listAt}
 use Rattle.semantics.specs.Expand.{expandAll}
 use Rattle.semantics.specs.Group.{Root, constraintRoots, countRoots, fieldRoots, Item, itemsOf, items, later, Group, push, split, groups, headers, layout}
 use Rattle.semantics.specs.Call.{Outcome, handedBack, family, constraintOutputs, constraintCall, interactionOutputs, maxFieldsLen, interactionCall}
 use Rattle.semantics.specs.Refusals.{SmallHeaders, headersOf, HeaderSizes}
 use Rattle.semantics.specs.Lists.{All}
+use Rattle.semantics.proofs.Combining.{Above}
 use Rattle.semantics.proofs.Basics.{by-test}
 use Rattle.semantics.proofs.Order.{sameVars, same-vars, same-not, same-is}
 use Rattle.semantics.proofs.Sorting.{all-imply, sort-all, sort-same}

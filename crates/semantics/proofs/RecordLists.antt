@@ -10,13 +10,13 @@ use borrow.Author.Tests.{eqb-false, ltb-false}
 use Rattle.semantics.specs.Sheet.{Record, Each, GoodRecord}
 use Rattle.semantics.specs.Packing.{packFault}
 use Rattle.semantics.specs.Value.{Leaf, Node, leaf, const, add, sub, neg, mul, nodeOf, recordAt, nodeValue, fill}
-use Rattle.semantics.specs.Monomial.{Above, Asc, Monomial, plus, negMonomial, mulMonomial, products, combine, working, finished, recordList, lists, listAt}
+use Rattle.semantics.specs.Monomial.{Asc, Monomial, plus, negMonomial, mulMonomial, products, combine, working, finished, recordList, lists, listAt}
 use Rattle.semantics.specs.Expand.{longer, workFault, recordFault}
 use Rattle.semantics.specs.Lists.{All}
 use Rattle.semantics.proofs.Basics.{by-test, not-both}
 use Rattle.semantics.proofs.Arithmetic.{mulM-lt, negM-lt}
 use Rattle.semantics.proofs.Sorting.{all-append, all-at, all-map}
-use Rattle.semantics.proofs.Combining.{asc-combine, Small, all-combine, small-plus}
+use Rattle.semantics.proofs.Combining.{Above, asc-combine, Small, all-combine, small-plus}
 use Rattle.semantics.proofs.Passes.{fill-all}
 use Rattle.semantics.proofs.Records.{each-low, good-value}
 use Rattle.semantics.proofs.Expansions.{list-at}

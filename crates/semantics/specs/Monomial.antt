@@ -6,7 +6,7 @@ use Prim.Native.Nat.{ℕ}
 use lib.Dec.{eqb, ltb}
 use lib.ListN.{length, getD}
 use Rattle.semantics.specs.Arithmetic.{addM, mulM, negM}
-use Rattle.semantics.specs.Lists.{All, AscendBy}
+use Rattle.semantics.specs.Lists.{AscendBy}
 use Rattle.semantics.specs.Sheet.{Record}
 use Rattle.semantics.specs.Packing.{packed}
 use Rattle.semantics.specs.Value.{Node, leaf, const, add, sub, neg, mul, nodeOf, fill}
@@ -30,10 +30,7 @@ beforeVars xs ys = before (length xs ∷ xs) (length ys ∷ ys)
 abbrev pub BeforeVars : List ℕ → List ℕ → Type 0
 BeforeVars u v = beforeVars u v ≡ true
 
--- Every monomial of a list stands after `v`; a list strictly ascends.
-abbrev pub Above : List ℕ → List Monomial → Type 0
-Above v ms = All (λ (m : Monomial). BeforeVars v (m .vars)) ms
-
+-- A list strictly ascends.
 abbrev pub Asc : List Monomial → Type 0
 Asc ms = AscendBy BeforeVars (λ (m : Monomial). m .vars) ms
 
