@@ -3,7 +3,7 @@ ghost use mathlib.Core.List.{[], _∷_};
 ghost use Rattle.answers.specs.Replies.{writtenReply};
 ghost use Rattle.slices.specs.Lent.{old, new};
 ghost use Rattle.semantics.specs.Check.{primeOf};
-ghost use Rattle.semantics.specs.Call.{builderCall, constraintCall, interactionCall, Gives, handed};
+ghost use Rattle.semantics.specs.Call.{builderCall, constraintCall, interactionCall, Gives, outcomeOf};
 ghost use Rattle.expansion.specs.Answers.{constraintReply, interactionReply};
 ghost use Rattle.demands.specs.Demand.{GraphBuilt, ConstraintsExpanded, InteractionsExpanded};
 use answers::Written;
@@ -29,7 +29,7 @@ pub fn expand_constraints(
     ensures outcome { λ r. ⌜ Gives constraintReply r (work ∷ pool ∷ headers ∷ variables ∷ terms ∷ [])
         (constraintCall (primeOf (old s)) (old s)) ⌝ }
     ensures demand { λ r. ⌜ ConstraintsExpanded (old s)
-        (handed constraintReply r (work ∷ pool ∷ headers ∷ variables ∷ terms ∷ [])) ⌝ }
+        (outcomeOf constraintReply r (work ∷ pool ∷ headers ∷ variables ∷ terms ∷ [])) ⌝ }
 {
     let lists = expansion::expand_constraints(s, work, pool, headers, variables, terms);
     lists
@@ -49,7 +49,7 @@ pub fn expand_interactions(
     ensures outcome { λ r. ⌜ Gives interactionReply r
         (work ∷ pool ∷ headers ∷ variables ∷ terms ∷ «denom_headers» ∷ «denom_variables» ∷ «denom_terms» ∷ [])
         (interactionCall (primeOf (old s)) (old s)) ⌝ }
-    ensures demand { λ r. ⌜ InteractionsExpanded (old s) (handed interactionReply r
+    ensures demand { λ r. ⌜ InteractionsExpanded (old s) (outcomeOf interactionReply r
         (work ∷ pool ∷ headers ∷ variables ∷ terms ∷ «denom_headers» ∷ «denom_variables» ∷ «denom_terms» ∷ [])) ⌝ }
 {
     let lists = expansion::expand_interactions(

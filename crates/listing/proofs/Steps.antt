@@ -6,7 +6,7 @@ use lib.ListN.{getD}
 use borrow.Author.Tests.{eq-eqb, ne-eqb}
 use Rattle.semantics.specs.Arithmetic.{prime}
 use Rattle.semantics.specs.Call.{Outcome, Accepted, handedBack, builderCall, maxRotationCall, constraintCall, interactionCall}
-use Rattle.semantics.specs.Sheetlist.{decimal, line, dagText, endText, refusedText, consText, interText, step, interactionLines, constraintLines, graphLines, sheetLines}
+use Rattle.semantics.specs.Sheetlist.{decimal, line, dagText, endText, refusedText, step, interactionLines, constraintLines, graphLines, sheetLines, constraintStep, interactionStep}
 use Rattle.listing.specs.declared.headers.Family.the-variants.{Constraints, Numerators, Denominators}
 use Rattle.listing.specs.Families.{familyLines}
 
@@ -27,11 +27,11 @@ builds sheet = builderCall prime sheet (1016 ∷ 1016 ∷ [])
 abbrev pub rotates : (graph : List ℕ) → Outcome
 rotates graph = maxRotationCall prime graph
 
-abbrev pub constraintsOf : (graph : List ℕ) → Outcome
-constraintsOf graph = constraintCall prime graph (4096 ∷ 4096 ∷ 1024 ∷ 1024 ∷ 1024 ∷ [])
+abbrev pub expandsConstraints : (graph : List ℕ) → Outcome
+expandsConstraints graph = constraintCall prime graph (4096 ∷ 4096 ∷ 1024 ∷ 1024 ∷ 1024 ∷ [])
 
-abbrev pub interactionsOf : (graph : List ℕ) → Outcome
-interactionsOf graph = interactionCall prime graph (4096 ∷ 4096 ∷ 512 ∷ 512 ∷ 512 ∷ 512 ∷ 512 ∷ 512 ∷ [])
+abbrev pub expandsInteractions : (graph : List ℕ) → Outcome
+expandsInteractions graph = interactionCall prime graph (4096 ∷ 4096 ∷ 512 ∷ 512 ∷ 512 ∷ 512 ∷ 512 ∷ 512 ∷ [])
 
 -- What each prints.
 pub interaction-prints : (o : Outcome) → familyLines Numerators (handedBack 2 o 0) (handedBack 2 o 1) (handedBack 2 o 2)
@@ -41,20 +41,17 @@ unfolding interactionLines
 interaction-prints o = refl
 
 pub constraint-prints : (graph : List ℕ) (o : Outcome) → familyLines Constraints (handedBack 2 o 0) (handedBack 2 o 1) (handedBack 2 o 2)
-    ++ step interText (interactionsOf graph) (interactionLines prime (interactionsOf graph))
+    ++ interactionStep prime graph
     ≡ constraintLines prime graph o
 unfolding constraintLines
 constraint-prints graph o = refl
 
--- The graph's line, and what comes after it.
+-- The graph's line.
 abbrev pub dagLine : (graph : List ℕ) (rotation : ℕ) → List ℕ
 dagLine graph rotation = line (dagText ∷ decimal (getD graph 1 0) ∷ decimal (getD graph 2 0) ∷ decimal rotation ∷ [])
 
-abbrev pub afterGraph : (graph : List ℕ) → List ℕ
-afterGraph graph = step consText (constraintsOf graph) (constraintLines prime graph (constraintsOf graph))
-
 pub graph-prints : (graph : List ℕ)
-    → step dagText (rotates graph) (dagLine graph (getD (rotates graph .reply .numbers) 0 0) ++ afterGraph graph) ≡ graphLines prime graph
+    → step dagText (rotates graph) (dagLine graph (getD (rotates graph .reply .numbers) 0 0) ++ constraintStep prime graph) ≡ graphLines prime graph
 unfolding graphLines
 graph-prints graph = refl
 

@@ -7,12 +7,12 @@ use lib.ListN.{length, getD, length-append}
 use borrow.Author.Tests.{eqb-true}
 use Rattle.semantics.specs.Arithmetic.{prime}
 use Rattle.semantics.specs.Call.{Outcome, Accepted, handedBack, readerCall}
-use Rattle.semantics.specs.Sheetlist.{line, dagText, endText, readText, consText, interText, step, interactionLines, constraintLines, graphLines, sheetLines, sheetlist}
+use Rattle.semantics.specs.Sheetlist.{line, dagText, endText, readText, consText, interText, step, interactionLines, constraintLines, graphLines, sheetLines, sheetlist, constraintStep}
 use Rattle.semantics.proofs.Basics.{by-test}
 use Rattle.listing.specs.declared.headers.Family.the-variants.{Constraints, Numerators, Denominators}
 use Rattle.listing.specs.Families.{familyLines}
 use Rattle.listing.proofs.Lengths.{dag-most, refused-most, end-length}
-use Rattle.listing.proofs.Steps.{builds, rotates, constraintsOf, interactionsOf, dagLine, afterGraph}
+use Rattle.listing.proofs.Steps.{builds, rotates, expandsConstraints, expandsInteractions, dagLine}
 use Rattle.listing.proofs.Handing.{constraints-handed, numerators-handed, denominators-handed}
 
 -- A step's refusal, or what comes next.
@@ -22,10 +22,10 @@ step-most name o rest n h k =
     by-test (λ (l : List ℕ). length l ≤ n) (eqb (o .reply .number) 0) (λ e. k (eqb-true (o .reply .number) 0 e))
     (λ e. omega (arith, refused-most name (o .reply .number) (o .reply .place)))
 
-interactions-most : (graph : List ℕ) → Accepted (interactionsOf graph) → length (interactionLines prime (interactionsOf graph)) ≤ 20163
+interactions-most : (graph : List ℕ) → Accepted (expandsInteractions graph) → length (interactionLines prime (expandsInteractions graph)) ≤ 20163
 unfolding interactionLines
 interactions-most graph a =
-    let i = interactionsOf graph in
+    let i = expandsInteractions graph in
     let n : List ℕ = familyLines Numerators (handedBack 2 i 0) (handedBack 2 i 1) (handedBack 2 i 2) in
     let d : List ℕ = familyLines Denominators (handedBack 2 i 3) (handedBack 2 i 4) (handedBack 2 i 5) in
     omega (
@@ -37,11 +37,11 @@ interactions-most graph a =
       denominators-handed prime graph 4096 4096 512 512 512 128 171 (omega arith) (omega arith) a .most,
     )
 
-constraints-most : (graph : List ℕ) → Accepted (constraintsOf graph) → length (constraintLines prime graph (constraintsOf graph)) ≤ 42691
+constraints-most : (graph : List ℕ) → Accepted (expandsConstraints graph) → length (constraintLines prime graph (expandsConstraints graph)) ≤ 42691
 unfolding constraintLines
 constraints-most graph a =
-    let c = constraintsOf graph in
-    let i = interactionsOf graph in
+    let c = expandsConstraints graph in
+    let i = expandsInteractions graph in
     let m : List ℕ = familyLines Constraints (handedBack 2 c 0) (handedBack 2 c 1) (handedBack 2 c 2) in
     omega (
       arith,
@@ -53,12 +53,12 @@ constraints-most graph a =
 graph-most : (graph : List ℕ) → length (graphLines prime graph) ≤ 42728
 unfolding graphLines
 graph-most graph =
-    let c = constraintsOf graph in
+    let c = expandsConstraints graph in
     let rotation = getD (rotates graph .reply .numbers) 0 0 in
-    step-most dagText (rotates graph) (dagLine graph rotation ++ afterGraph graph) 42728 (omega arith)
+    step-most dagText (rotates graph) (dagLine graph rotation ++ constraintStep prime graph) 42728 (omega arith)
     (λ a. omega (
       arith,
-      length-append (dagLine graph rotation) (afterGraph graph),
+      length-append (dagLine graph rotation) (constraintStep prime graph),
       dag-most (getD graph 1 0) (getD graph 2 0) rotation,
       step-most consText c (constraintLines prime graph c) 42691 (omega arith) (constraints-most graph),
     ))

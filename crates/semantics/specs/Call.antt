@@ -42,12 +42,12 @@ abbrev pub Handed : {X : Type 0} → (fields : Reply → X) → X → (slices : 
 Handed fields x slices o = (x ≡ fields (o .reply)) × (slices ≡ o .slices)
 
 -- What a call handed back: the reply that its answer stands for, and what every slice lent for writing holds.
-abbrev pub handed : {X : Type 0} → (replyOf : X → Reply) → X → List Lent → Outcome
-handed replyOf x lent = record { reply = replyOf x; slices = contents lent }
+abbrev pub outcomeOf : {X : Type 0} → (replyOf : X → Reply) → X → List Lent → Outcome
+outcomeOf replyOf x lent = record { reply = replyOf x; slices = contents lent }
 
 -- That is the call's outcome for the lengths that were lent; the same where it hands back the fields of a reply.
 abbrev pub Gives : {X : Type 0} → (replyOf : X → Reply) → X → List Lent → (call : List ℕ → Outcome) → Type 0
-Gives replyOf x lent call = handed replyOf x lent ≡ call (lengths lent)
+Gives replyOf x lent call = outcomeOf replyOf x lent ≡ call (lengths lent)
 
 abbrev pub Returns : {X : Type 0} → (fields : Reply → X) → X → List Lent → (call : List ℕ → Outcome) → Type 0
 Returns fields x lent call = Handed fields x (contents lent) (call (lengths lent))

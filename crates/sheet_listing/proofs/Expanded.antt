@@ -6,12 +6,12 @@ use native.Mathlib.Omega.{arith}
 use lib.ListN.{length, getD, take}
 use Rattle.semantics.specs.Arithmetic.{prime}
 use Rattle.semantics.specs.Call.{Outcome, Accepted, handedBack}
-use Rattle.semantics.specs.Sheetlist.{decimal, line, refusedText, consText, interText, endText, step, constraintLines, interactionLines}
+use Rattle.semantics.specs.Sheetlist.{decimal, line, refusedText, consText, interText, endText, constraintStep, interactionStep}
 use Rattle.answers.specs.declared.Refusal.{Refusal}
 use Rattle.listing.specs.declared.headers.Family.{Family}
 use Rattle.listing.specs.declared.headers.Family.the-variants.{Constraints, Numerators, Denominators}
 use Rattle.listing.specs.Families.{widthOf, familyLines, HeadersInside}
-use Rattle.listing.proofs.Steps.{constraintsOf, interactionsOf, step-on, constraint-prints, interaction-prints}
+use Rattle.listing.proofs.Steps.{expandsConstraints, expandsInteractions, step-on, constraint-prints, interaction-prints}
 use Rattle.listing.proofs.Handing.{constraints-handed, numerators-handed, denominators-handed}
 use Rattle.grouping.specs.declared.Lengths.{Lengths}
 use Rattle.constraint_lists.specs.declared.ConstraintLists.{ConstraintLists}
@@ -20,7 +20,7 @@ use Rattle.interaction_lists.specs.declared.InteractionLengths.{InteractionLeng
 use Rattle.interaction_lists.specs.declared.InteractionLists.{InteractionLists}
 use Rattle.interaction_lists.specs.declared.InteractionLists.the-variants as interaction
 use Rattle.expansion.specs.Answers.{constraintOutcome, interactionOutcome}
-use Rattle.sheet_listing.specs.Fronts.{frontLines, Fronts}
+use Rattle.sheet_listing.specs.Fronts.{frontLines, Fronts, bothLines}
 use Rattle.sheet_listing.specs.Refusals.{ofConstraints, ofInteractions}
 use Rattle.sheet_listing.proofs.Sounds.{Sound, constraint-sound, interaction-sound, output-refused}
 
@@ -51,119 +51,108 @@ module _ (family : Family) (o : Outcome) (s : Sound 2 o) (k : ℕ) (n : Lengths)
     inside = rw (← headers-back, ← variables-back, ← terms-back) inside;
   }
 
--- What comes after the constraints, and what the interactions print from the front of their slices.
-abbrev pub afterConstraints : (graph : List ℕ) → List ℕ
-afterConstraints graph = step interText (interactionsOf graph) (interactionLines prime (interactionsOf graph))
-
-abbrev pub bothLines : InteractionLengths → (hs vs ts hs′ vs′ ts′ : List ℕ) → List ℕ
-bothLines n hs vs ts hs′ vs′ ts′ = frontLines Numerators (n .numerators) hs vs ts ++ (frontLines Denominators (n .denominators) hs′ vs′ ts′ ++ line (endText ∷ []))
-
--- What the constraints print, and all that comes after them.
-abbrev pub constraintText : (graph : List ℕ) → List ℕ
-constraintText graph = step consText (constraintsOf graph) (constraintLines prime graph (constraintsOf graph))
-
 -- Constraints.
-module _ (graph : List ℕ) (r : ConstraintLists) (work pool hs vs ts : List ℕ) (e : constraintOutcome r work pool hs vs ts ≡ constraintsOf graph) where
+module _ (graph : List ℕ) (r : ConstraintLists) (work pool hs vs ts : List ℕ) (e : constraintOutcome r work pool hs vs ts ≡ expandsConstraints graph) where
   pub constraints-refused : (x u : Refusal) → r ≡ constraint.Refused x → u ≡ ofConstraints r
-      → line (refusedText ∷ consText ∷ decimal (u .number) ∷ decimal (u .place) ∷ []) ≡ constraintText graph
+      → line (refusedText ∷ consText ∷ decimal (u .number) ∷ decimal (u .place) ∷ []) ≡ constraintStep prime graph
   constraints-refused x u q f =
-      let o : constraintOutcome (constraint.Refused x) work pool hs vs ts ≡ constraintsOf graph = ap (λ a. constraintOutcome a work pool hs vs ts) (sym q) ∙ e in
-      output-refused consText 2 (constraintsOf graph) _ x u (constraint-sound prime graph 4096 4096 1024 1024 1024) (f ∙ ap ofConstraints q)
+      let o : constraintOutcome (constraint.Refused x) work pool hs vs ts ≡ expandsConstraints graph = ap (λ a. constraintOutcome a work pool hs vs ts) (sym q) ∙ e in
+      output-refused consText 2 (expandsConstraints graph) _ x u (constraint-sound prime graph 4096 4096 1024 1024 1024) (f ∙ ap ofConstraints q)
       (ap (λ (y : Outcome). y .reply) o) (subst (λ (y : Outcome). 2 < length (y .slices)) o (omega arith))
 
   module _ (n : Lengths) (q : r ≡ constraint.Written n) where
-    written : constraintsOf graph ≡ constraintOutcome (constraint.Written n) work pool hs vs ts
+    written : expandsConstraints graph ≡ constraintOutcome (constraint.Written n) work pool hs vs ts
     written = sym e ∙ ap (λ a. constraintOutcome a work pool hs vs ts) q
 
-    accepted : Accepted (constraintsOf graph)
+    accepted : Accepted (expandsConstraints graph)
     accepted = ap (λ (u : Outcome). u .reply .number) written
 
-    many : 4 < length (constraintsOf graph .slices)
+    many : 4 < length (expandsConstraints graph .slices)
     many = omega (arith, ap (λ (u : Outcome). length (u .slices)) written)
 
-    count : (k : ℕ) → getD (constraintsOf graph .reply .counts) k 0 ≡ getD (n .headers ∷ n .variables ∷ n .terms ∷ []) k 0
+    count : (k : ℕ) → getD (expandsConstraints graph .reply .counts) k 0 ≡ getD (n .headers ∷ n .variables ∷ n .terms ∷ []) k 0
     count k = ap (λ (u : Outcome). getD (u .reply .counts) k 0) written
 
-    slice : (k : ℕ) → getD (constraintsOf graph .slices) k [] ≡ getD (work ∷ pool ∷ hs ∷ vs ∷ ts ∷ []) k []
+    slice : (k : ℕ) → getD (expandsConstraints graph .slices) k [] ≡ getD (work ∷ pool ∷ hs ∷ vs ∷ ts ∷ []) k []
     slice k = ap (λ (u : Outcome). getD (u .slices) k []) written
 
-    sound : Sound 2 (constraintsOf graph)
+    sound : Sound 2 (expandsConstraints graph)
     sound = constraint-sound prime graph 4096 4096 1024 1024 1024
 
     constraint-fronts : Fronts Constraints n hs vs ts
     constraint-fronts =
-        fronts Constraints (constraintsOf graph) sound 0 n hs vs ts many (count 0) (count 1) (count 2) (slice 2) (slice 3) (slice 4)
+        fronts Constraints (expandsConstraints graph) sound 0 n hs vs ts many (count 0) (count 1) (count 2) (slice 2) (slice 3) (slice 4)
         (constraints-handed prime graph 4096 4096 1024 1024 1024 256 512 (omega arith) (omega arith) accepted .inside)
 
-    constraint-joins : frontLines Constraints n hs vs ts ++ afterConstraints graph ≡ constraintText graph
+    constraint-joins : frontLines Constraints n hs vs ts ++ interactionStep prime graph ≡ constraintStep prime graph
     constraint-joins =
-        ap (λ (l : List ℕ). l ++ afterConstraints graph)
-        (sym (lines-back Constraints (constraintsOf graph) sound 0 n hs vs ts many (count 0) (count 1) (count 2) (slice 2) (slice 3) (slice 4)))
-        ∙ constraint-prints graph (constraintsOf graph)
-        ∙ step-on consText (constraintsOf graph) _ accepted
+        ap (λ (l : List ℕ). l ++ interactionStep prime graph)
+        (sym (lines-back Constraints (expandsConstraints graph) sound 0 n hs vs ts many (count 0) (count 1) (count 2) (slice 2) (slice 3) (slice 4)))
+        ∙ constraint-prints graph (expandsConstraints graph)
+        ∙ step-on consText (expandsConstraints graph) _ accepted
 
-    pub constraints-written : Fronts Constraints n hs vs ts × (frontLines Constraints n hs vs ts ++ afterConstraints graph ≡ constraintText graph)
+    pub constraints-written : Fronts Constraints n hs vs ts × (frontLines Constraints n hs vs ts ++ interactionStep prime graph ≡ constraintStep prime graph)
     constraints-written = (constraint-fronts, constraint-joins)
 
 -- Interactions.
 module _ (graph : List ℕ) (r : InteractionLists) (work pool hs vs ts hs′ vs′ ts′ : List ℕ)
-    (e : interactionOutcome r work pool hs vs ts hs′ vs′ ts′ ≡ interactionsOf graph) where
-  both-sound : Sound 2 (interactionsOf graph)
+    (e : interactionOutcome r work pool hs vs ts hs′ vs′ ts′ ≡ expandsInteractions graph) where
+  both-sound : Sound 2 (expandsInteractions graph)
   both-sound = interaction-sound prime graph 4096 4096 512 512 512 512 512 512
 
   pub interactions-refused : (x u : Refusal) → r ≡ interaction.Refused x → u ≡ ofInteractions r
-      → line (refusedText ∷ interText ∷ decimal (u .number) ∷ decimal (u .place) ∷ []) ≡ afterConstraints graph
+      → line (refusedText ∷ interText ∷ decimal (u .number) ∷ decimal (u .place) ∷ []) ≡ interactionStep prime graph
   interactions-refused x u q f =
-      let o : interactionOutcome (interaction.Refused x) work pool hs vs ts hs′ vs′ ts′ ≡ interactionsOf graph =
+      let o : interactionOutcome (interaction.Refused x) work pool hs vs ts hs′ vs′ ts′ ≡ expandsInteractions graph =
       ap (λ a. interactionOutcome a work pool hs vs ts hs′ vs′ ts′) (sym q) ∙ e in
-      output-refused interText 2 (interactionsOf graph) _ x u both-sound (f ∙ ap ofInteractions q)
+      output-refused interText 2 (expandsInteractions graph) _ x u both-sound (f ∙ ap ofInteractions q)
       (ap (λ (y : Outcome). y .reply) o) (subst (λ (y : Outcome). 2 < length (y .slices)) o (omega arith))
 
   module _ (n : InteractionLengths) (q : r ≡ interaction.Written n) where
-    both-written : interactionsOf graph ≡ interactionOutcome (interaction.Written n) work pool hs vs ts hs′ vs′ ts′
+    both-written : expandsInteractions graph ≡ interactionOutcome (interaction.Written n) work pool hs vs ts hs′ vs′ ts′
     both-written = sym e ∙ ap (λ a. interactionOutcome a work pool hs vs ts hs′ vs′ ts′) q
 
-    both-accepted : Accepted (interactionsOf graph)
+    both-accepted : Accepted (expandsInteractions graph)
     both-accepted = ap (λ (u : Outcome). u .reply .number) both-written
 
-    eight : length (interactionsOf graph .slices) ≡ 8
+    eight : length (expandsInteractions graph .slices) ≡ 8
     eight = ap (λ (u : Outcome). length (u .slices)) both-written
 
-    count-at : (k : ℕ) → getD (interactionsOf graph .reply .counts) k 0
+    count-at : (k : ℕ) → getD (expandsInteractions graph .reply .counts) k 0
         ≡ getD (interactionOutcome (interaction.Written n) work pool hs vs ts hs′ vs′ ts′ .reply .counts) k 0
     count-at k = ap (λ (u : Outcome). getD (u .reply .counts) k 0) both-written
 
-    slice-at : (k : ℕ) → getD (interactionsOf graph .slices) k [] ≡ getD (work ∷ pool ∷ hs ∷ vs ∷ ts ∷ hs′ ∷ vs′ ∷ ts′ ∷ []) k []
+    slice-at : (k : ℕ) → getD (expandsInteractions graph .slices) k [] ≡ getD (work ∷ pool ∷ hs ∷ vs ∷ ts ∷ hs′ ∷ vs′ ∷ ts′ ∷ []) k []
     slice-at k = ap (λ (u : Outcome). getD (u .slices) k []) both-written
 
     numerator-fronts : Fronts Numerators (n .numerators) hs vs ts
     numerator-fronts =
-        fronts Numerators (interactionsOf graph) both-sound 0 (n .numerators) hs vs ts (omega (arith, eight)) (count-at 0) (count-at 1) (count-at 2) (slice-at 2) (slice-at 3) (slice-at 4)
+        fronts Numerators (expandsInteractions graph) both-sound 0 (n .numerators) hs vs ts (omega (arith, eight)) (count-at 0) (count-at 1) (count-at 2) (slice-at 2) (slice-at 3) (slice-at 4)
         (numerators-handed prime graph 4096 4096 512 512 512 128 171 (omega arith) (omega arith) both-accepted .inside)
 
     denominator-fronts : Fronts Denominators (n .denominators) hs′ vs′ ts′
     denominator-fronts =
-        fronts Denominators (interactionsOf graph) both-sound 3 (n .denominators) hs′ vs′ ts′ (omega (arith, eight)) (count-at 3) (count-at 4) (count-at 5) (slice-at 5) (slice-at 6) (slice-at 7)
+        fronts Denominators (expandsInteractions graph) both-sound 3 (n .denominators) hs′ vs′ ts′ (omega (arith, eight)) (count-at 3) (count-at 4) (count-at 5) (slice-at 5) (slice-at 6) (slice-at 7)
         (denominators-handed prime graph 4096 4096 512 512 512 128 171 (omega arith) (omega arith) both-accepted .inside)
 
-    numerators-back : familyLines Numerators (handedBack 2 (interactionsOf graph) 0) (handedBack 2 (interactionsOf graph) 1) (handedBack 2 (interactionsOf graph) 2)
+    numerators-back : familyLines Numerators (handedBack 2 (expandsInteractions graph) 0) (handedBack 2 (expandsInteractions graph) 1) (handedBack 2 (expandsInteractions graph) 2)
         ≡ frontLines Numerators (n .numerators) hs vs ts
     numerators-back =
-        lines-back Numerators (interactionsOf graph) both-sound 0 (n .numerators) hs vs ts (omega (arith, eight))
+        lines-back Numerators (expandsInteractions graph) both-sound 0 (n .numerators) hs vs ts (omega (arith, eight))
         (count-at 0) (count-at 1) (count-at 2) (slice-at 2) (slice-at 3) (slice-at 4)
 
-    denominators-back : familyLines Denominators (handedBack 2 (interactionsOf graph) 3) (handedBack 2 (interactionsOf graph) 4) (handedBack 2 (interactionsOf graph) 5)
+    denominators-back : familyLines Denominators (handedBack 2 (expandsInteractions graph) 3) (handedBack 2 (expandsInteractions graph) 4) (handedBack 2 (expandsInteractions graph) 5)
         ≡ frontLines Denominators (n .denominators) hs′ vs′ ts′
     denominators-back =
-        lines-back Denominators (interactionsOf graph) both-sound 3 (n .denominators) hs′ vs′ ts′ (omega (arith, eight))
+        lines-back Denominators (expandsInteractions graph) both-sound 3 (n .denominators) hs′ vs′ ts′ (omega (arith, eight))
         (count-at 3) (count-at 4) (count-at 5) (slice-at 5) (slice-at 6) (slice-at 7)
 
-    interaction-joins : bothLines n hs vs ts hs′ vs′ ts′ ≡ afterConstraints graph
+    interaction-joins : bothLines n hs vs ts hs′ vs′ ts′ ≡ interactionStep prime graph
     interaction-joins =
         (λ i. sym numerators-back i ++ (sym denominators-back i ++ line (endText ∷ [])))
-        ∙ interaction-prints (interactionsOf graph)
-        ∙ step-on interText (interactionsOf graph) _ both-accepted
+        ∙ interaction-prints (expandsInteractions graph)
+        ∙ step-on interText (expandsInteractions graph) _ both-accepted
 
     pub interactions-written : Fronts Numerators (n .numerators) hs vs ts × Fronts Denominators (n .denominators) hs′ vs′ ts′
-        × (bothLines n hs vs ts hs′ vs′ ts′ ≡ afterConstraints graph)
+        × (bothLines n hs vs ts hs′ vs′ ts′ ≡ interactionStep prime graph)
     interactions-written = (numerator-fronts, denominator-fronts, interaction-joins)

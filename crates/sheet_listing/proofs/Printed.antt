@@ -10,7 +10,7 @@ use Rattle.semantics.specs.Arithmetic.{prime}
 use Rattle.semantics.specs.Sheet.{Sheet, encode, headWords, recordWords, interactionWords}
 use Rattle.semantics.specs.Graph.{graphOf}
 use Rattle.semantics.specs.Call.{Outcome, handedBack, readerCall}
-use Rattle.semantics.specs.Sheetlist.{decimal, line, refusedText, readText, dagText, step, mostTaken, graphLines, sheetLines, sheetlist}
+use Rattle.semantics.specs.Sheetlist.{decimal, line, refusedText, readText, dagText, step, mostTaken, graphLines, sheetLines, sheetlist, constraintStep}
 use Rattle.semantics.proofs.Basics.{cond-true}
 use Rattle.answers.specs.declared.Refusal.{Refusal}
 use Rattle.answers.specs.declared.Written.{Written}
@@ -20,7 +20,7 @@ use Rattle.answers.specs.declared.Counted.{Counted}
 use Rattle.answers.specs.declared.Counted.the-variants as counted
 use Rattle.dag.specs.Calls.{builtOutcome}
 use Rattle.demands.proofs.Demands.{build-demand}
-use Rattle.listing.proofs.Steps.{builds, rotates, step-on, dagLine, afterGraph, graph-prints, sheet-prints}
+use Rattle.listing.proofs.Steps.{builds, rotates, step-on, dagLine, graph-prints, sheet-prints}
 use Rattle.sheet_listing.specs.Refusals.{ofWritten, ofCounted}
 use Rattle.sheet_listing.proofs.Sounds.{Sound, reader-sound, builder-sound, rotation-real, refused-line, output-refused}
 
@@ -34,10 +34,10 @@ module _ (graph : List ℕ) (r : Counted) (e : countedOutcome r ≡ rotates grap
       (rotation-real prime graph (ap (λ (y : Outcome). y .reply .numbers) (sym o)))
       ∙ graph-prints graph
 
-  pub graph-joins : (n : ℕ) → r ≡ counted.Number n → dagLine graph n ++ afterGraph graph ≡ graphLines prime graph
+  pub graph-joins : (n : ℕ) → r ≡ counted.Number n → dagLine graph n ++ constraintStep prime graph ≡ graphLines prime graph
   graph-joins n q =
       let o : countedOutcome (counted.Number n) ≡ rotates graph = ap countedOutcome (sym q) ∙ e in
-      ap (λ (y : Outcome). dagLine graph (getD (y .reply .numbers) 0 0) ++ afterGraph graph) o
+      ap (λ (y : Outcome). dagLine graph (getD (y .reply .numbers) 0 0) ++ constraintStep prime graph) o
       ∙ step-on dagText (rotates graph) _ (ap (λ (y : Outcome). y .reply .number) (sym o))
       ∙ graph-prints graph
 

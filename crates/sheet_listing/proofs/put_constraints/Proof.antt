@@ -3,12 +3,13 @@ use mathlib.Core.Path.{_≡_}
 use mathlib.Core.List.{List, [], _∷_, _++_}
 use Prim.Native.Nat.{ℕ}
 use borrow.Author.Needs.{needs}
-use Rattle.semantics.specs.Sheetlist.{decimal, line, refusedText, consText}
+use Rattle.semantics.specs.Arithmetic.{prime}
+use Rattle.semantics.specs.Sheetlist.{decimal, line, refusedText, consText, constraintStep, interactionStep}
 use Rattle.grouping.specs.declared.Lengths.{Lengths}
 use Rattle.listing.specs.declared.headers.Family.the-variants.{Constraints}
 use Rattle.listing.proofs.Writing.{room-is, room-front, room-next, puts-is, puts-next}
 use Rattle.sheet_listing.specs.Fronts.{frontLines, Fronts}
-use Rattle.sheet_listing.proofs.Expanded.{afterConstraints, constraintText, constraints-refused, constraints-written}
+use Rattle.sheet_listing.proofs.Expanded.{constraints-refused, constraints-written}
 use Rattle.sheet_listing.proofs.put_constraints.Statement.{statement}
 use Rattle.sheet_listing.proofs.put_constraints.Tie as tie
 
@@ -55,7 +56,7 @@ abbrev lengths : tie.After-terms3 → Lengths
 lengths c = known c .lists .given .0 .0
 
 refused : (c : tie.After-put-refused-arg2) → let u = c .before .before .of-constraints .result in
-    line (refusedText ∷ consText ∷ decimal (u .number) ∷ decimal (u .place) ∷ []) ≡ constraintText (graph (no c))
+    line (refusedText ∷ consText ∷ decimal (u .number) ∷ decimal (u .place) ∷ []) ≡ constraintStep prime (graph (no c))
 refused c =
     let b = no c in
     let v = call b .expand-constraints in
@@ -67,7 +68,7 @@ abbrev lines : tie.After-terms3 → List ℕ
 lines c = frontLines Constraints (lengths c) (headers (yes c)) (variables (yes c)) (terms (yes c))
 
 written : (c : tie.After-terms3) → let b = yes c in
-    Fronts Constraints (lengths c) (headers b) (variables b) (terms b) × (lines c ++ afterConstraints (graph b) ≡ constraintText (graph b))
+    Fronts Constraints (lengths c) (headers b) (variables b) (terms b) × (lines c ++ interactionStep prime (graph b) ≡ constraintStep prime (graph b))
 written c =
     let b = yes c in
     let v = call b .expand-constraints in
@@ -128,13 +129,13 @@ slice-aggregate-put-lists-3 c = search needs
 put-lists-requires : tie.Need-put-lists-requires
 put-lists-requires c κs =
     let s = start (yes c) in
-    (written c .0, room-front (s .args .out .now) (s .args .at) (lines c) (afterConstraints (graph (yes c))) (written c .1) (s .pre))
+    (written c .0, room-front (s .args .out .now) (s .args .at) (lines c) (interactionStep prime (graph (yes c))) (written c .1) (s .pre))
 
 put-interactions-requires : tie.Need-put-interactions-requires
 put-interactions-requires c κs =
     let l = with-headers c in
     let k = l .before in
-    room-next (l .put-lists .ensures) (afterConstraints (graph (yes k))) (written k .1) (start (yes k) .pre)
+    room-next (l .put-lists .ensures) (interactionStep prime (graph (yes k))) (written k .1) (start (yes k) .pre)
 
 same-length-2 : tie.Need-same-length-2
 same-length-2 c = search needs
@@ -144,7 +145,7 @@ returns-2 c =
     let end = c .before .before in
     let l = with-headers (end .before) in
     let k = l .before in
-    puts-next (l .put-lists .ensures) (afterConstraints (graph (yes k))) (written k .1) (start (yes k) .pre) (end .put-interactions .ensures)
+    puts-next (l .put-lists .ensures) (interactionStep prime (graph (yes k))) (written k .1) (start (yes k) .pre) (end .put-interactions .ensures)
 
 pub put-constraints-spec : {M : Type 1} → statement M
 put-constraints-spec =

@@ -4,9 +4,9 @@ use mathlib.Core.List.{List, [], _∷_, _++_}
 use Prim.Native.Nat.{ℕ}
 use borrow.Author.Needs.{needs}
 use Rattle.semantics.specs.Arithmetic.{prime}
-use Rattle.semantics.specs.Sheetlist.{decimal, line, refusedText, dagText, graphLines}
+use Rattle.semantics.specs.Sheetlist.{decimal, line, refusedText, dagText, graphLines, constraintStep}
 use Rattle.listing.proofs.Writing.{room-is, room-front, room-next, puts-is, puts-next}
-use Rattle.listing.proofs.Steps.{dagLine, afterGraph}
+use Rattle.listing.proofs.Steps.{dagLine}
 use Rattle.sheet_listing.proofs.Printed.{rotation-refused, graph-joins}
 use Rattle.sheet_listing.proofs.put_graph.Statement.{statement}
 use Rattle.sheet_listing.proofs.put_graph.Tie as tie
@@ -41,7 +41,7 @@ refused c =
     let x = told c .enum-told .given in
     rotation-refused (graph (no c)) (v .result) (v .ensures) (x .0 .0) (u .result) (x .1) (u .ensures)
 
-joined : (c : tie.After-shared-slice-known3) → dagLine (graph (yes c)) (rotation c) ++ afterGraph (graph (yes c)) ≡ graphLines prime (graph (yes c))
+joined : (c : tie.After-shared-slice-known3) → dagLine (graph (yes c)) (rotation c) ++ constraintStep prime (graph (yes c)) ≡ graphLines prime (graph (yes c))
 joined c =
     let v = yes c .max-rotation in
     graph-joins (graph (yes c)) (v .result) (v .ensures) (rotation c) (known c .rotated .given .1)
@@ -83,13 +83,13 @@ shared-slice-read-put-dag-line-2 c = search needs
 put-dag-line-requires : tie.Need-put-dag-line-requires
 put-dag-line-requires c κs =
     let s = start (yes c) in
-    room-front (s .args .out .now) (s .args .at) (dagLine (graph (yes c)) (rotation c)) (afterGraph (graph (yes c))) (joined c) (s .pre .1)
+    room-front (s .args .out .now) (s .args .at) (dagLine (graph (yes c)) (rotation c)) (constraintStep prime (graph (yes c))) (joined c) (s .pre .1)
 
 put-constraints-requires : tie.Need-put-constraints-requires
 put-constraints-requires c κs =
     let l = with-line c in
     let k = l .before in
-    room-next (l .put-dag-line .ensures) (afterGraph (graph (yes k))) (joined k) (start (yes k) .pre .1)
+    room-next (l .put-dag-line .ensures) (constraintStep prime (graph (yes k))) (joined k) (start (yes k) .pre .1)
 
 same-length-2 : tie.Need-same-length-2
 same-length-2 c = search needs
@@ -99,7 +99,7 @@ returns-2 c =
     let end = c .before .before in
     let l = with-line (end .before) in
     let k = l .before in
-    puts-next (l .put-dag-line .ensures) (afterGraph (graph (yes k))) (joined k) (start (yes k) .pre .1) (end .put-constraints .ensures)
+    puts-next (l .put-dag-line .ensures) (constraintStep prime (graph (yes k))) (joined k) (start (yes k) .pre .1) (end .put-constraints .ensures)
 
 pub put-graph-spec : {M : Type 1} → statement M
 put-graph-spec =

@@ -3,12 +3,13 @@ use mathlib.Core.Path.{_≡_}
 use mathlib.Core.List.{List, [], _∷_}
 use Prim.Native.Nat.{ℕ}
 use borrow.Author.Needs.{needs}
-use Rattle.semantics.specs.Sheetlist.{decimal, line, refusedText, interText}
+use Rattle.semantics.specs.Arithmetic.{prime}
+use Rattle.semantics.specs.Sheetlist.{decimal, line, refusedText, interText, interactionStep}
 use Rattle.interaction_lists.specs.declared.InteractionLengths.{InteractionLengths}
 use Rattle.listing.specs.declared.headers.Family.the-variants.{Numerators, Denominators}
 use Rattle.listing.proofs.Writing.{room-is, puts-is}
-use Rattle.sheet_listing.specs.Fronts.{Fronts}
-use Rattle.sheet_listing.proofs.Expanded.{afterConstraints, bothLines, interactions-refused, interactions-written}
+use Rattle.sheet_listing.specs.Fronts.{Fronts, bothLines}
+use Rattle.sheet_listing.proofs.Expanded.{interactions-refused, interactions-written}
 use Rattle.sheet_listing.proofs.put_interactions.Statement.{statement}
 use Rattle.sheet_listing.proofs.put_interactions.Tie as tie
 
@@ -67,7 +68,7 @@ abbrev lengths : tie.After-denom-terms3 → InteractionLengths
 lengths c = known (lent c) .lists .given .0 .0
 
 refused : (c : tie.After-put-refused-arg2) → let u = c .before .before .of-interactions .result in
-    line (refusedText ∷ interText ∷ decimal (u .number) ∷ decimal (u .place) ∷ []) ≡ afterConstraints (graph (no c))
+    line (refusedText ∷ interText ∷ decimal (u .number) ∷ decimal (u .place) ∷ []) ≡ interactionStep prime (graph (no c))
 refused c =
     let b = no c in
     let v = call b .expand-interactions in
@@ -79,7 +80,7 @@ refused c =
 written : (c : tie.After-denom-terms3) → let b = yes c in
     Fronts Numerators (lengths c .numerators) (headers b) (variables b) (terms b)
     × Fronts Denominators (lengths c .denominators) (denom-headers b) (denom-variables b) (denom-terms b)
-    × (bothLines (lengths c) (headers b) (variables b) (terms b) (denom-headers b) (denom-variables b) (denom-terms b) ≡ afterConstraints (graph b))
+    × (bothLines (lengths c) (headers b) (variables b) (terms b) (denom-headers b) (denom-variables b) (denom-terms b) ≡ interactionStep prime (graph b))
 written c =
     let b = yes c in
     let v = call b .expand-interactions in
