@@ -14,7 +14,7 @@ use Rattle.semantics.specs.Expand.{expandAll}
 use Rattle.semantics.specs.Monomial.{listAt}
 use Rattle.semantics.specs.Group.{Root, Item, Group, constraintRoots, countRoots, fieldRoots, constraintTerm, interactionTerm, groups, headers, variables, terms, layout}
 use Rattle.semantics.specs.Call.{Outcome, Result, Accepted, outcome, needs, onSheet, firstShort, fitted, family, handedBack, expansionOf, expansion}
-use Rattle.semantics.specs.Call.{constraintOutputs, constraintCall, interactionOutputs, maxFieldsLen, interactionCall}
+use Rattle.semantics.specs.Call.{constraintOutputs, constraintCall, interactionOutputs, interactionNumbers, interactionCall}
 use Rattle.semantics.proofs.Basics.{by-test}
 use Rattle.semantics.proofs.Demands.{Expanded, expanded}
 use Rattle.semantics.proofs.Grouping.{constraint-wide, interaction-wide}
@@ -116,9 +116,6 @@ module _ (p : ℕ) (ws : List ℕ) (work pool : ℕ) where
     abbrev all-roots : Sheet → List Root
     all-roots s = countRoots s ++ fieldRoots s
 
-    abbrev also : Sheet → List ℕ
-    also s = length (s .interactions) ∷ maxFieldsLen s ∷ []
-
     six : (s : Sheet) → length (interactionOutputs p s) ≡ 6
     unfolding interactionOutputs family layout
     six s = refl
@@ -128,11 +125,11 @@ module _ (p : ℕ) (ws : List ℕ) (work pool : ℕ) where
 
     told : Expanded p ws pool all-roots (interactionOutputs p) call
     unfolding interactionCall
-    told = known p ws work pool lent all-roots (interactionOutputs p) also enough a
+    told = known p ws work pool lent all-roots (interactionOutputs p) interactionNumbers enough a
 
     told-fits : (j : ℕ) → j < 6 → length (getD (interactionOutputs p (told .sheet)) j []) ≤ getD lent j 0
     unfolding interactionCall told
-    told-fits j l = output-fits p ws work pool lent all-roots (interactionOutputs p) also enough a j (omega (arith, six (told .sheet)))
+    told-fits j l = output-fits p ws work pool lent all-roots (interactionOutputs p) interactionNumbers enough a j (omega (arith, six (told .sheet)))
 
     pub numerators-handed : Handed Numerators (handedBack 2 call 0) (handedBack 2 call 1) (handedBack 2 call 2) h v t
     unfolding interactionOutputs family layout

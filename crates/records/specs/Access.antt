@@ -81,7 +81,7 @@ abbrev pub AllRootsInside : (ws : List ℕ) (at n : ℕ) → Type 0
 AllRootsInside ws at zero = Unit {0}
 AllRootsInside ws at (suc n) = RootsInside ws at × AllRootsInside ws (at + (4 + messageLength ws at)) n
 
--- The same of interactions that are read: their counts and their fields.
+-- The records that interactions name, once they are read: the counts, and the fields.
 abbrev pub countsOf : List semantics.Interaction → List ℕ
 countsOf xs = flatMap (λ (x : semantics.Interaction). x .count ∷ []) xs
 

@@ -16,7 +16,7 @@ use Rattle.semantics.specs.Monomial.{Monomial, listAt}
 use Rattle.semantics.specs.Expand.{expandAll}
 use Rattle.semantics.specs.Group.{Root, labelled, constraintRoots, countRoots, fieldRoots, Item, constraintTerm, interactionTerm, listed, layout}
 use Rattle.semantics.specs.Call.{Outcome, Result, Accepted, handedBack, needs, result, onSheet, builderCall, fitted, family, expansionOf, expansion, constraintOutputs}
-use Rattle.semantics.specs.Call.{constraintCall, interactionOutputs, maxFieldsLen, interactionCall}
+use Rattle.semantics.specs.Call.{constraintCall, interactionOutputs, interactionNumbers, interactionCall}
 use Rattle.semantics.specs.Refusals.{ofSheet, ofExpansion}
 use Rattle.semantics.specs.Demand.{Assignment, productOf, sumOf, ofConstraint, ofCount, ofField, second, first, Ascending, NonZero, noInteraction}
 use Rattle.semantics.specs.Demand.{constraintAt, interactionAt, fieldAt, listsFrom, GraphRule, ConstraintRule, InteractionRule, GraphConstraintRule, GraphInteractionRule, Demand}
@@ -203,7 +203,7 @@ module _ (p : ℕ) (big : 1 < p) where
   interaction-rule ws work pool h v t h′ v′ t′ a =
       let o : Outcome = interactionCall p ws (work ∷ pool ∷ h ∷ v ∷ t ∷ h′ ∷ v′ ∷ t′ ∷ []) in
       let e = expanded p ws work pool (h ∷ v ∷ t ∷ h′ ∷ v′ ∷ t′ ∷ []) (λ s. countRoots s ++ fieldRoots s) (interactionOutputs p)
-      (λ s. length (s .interactions) ∷ maxFieldsLen s ∷ []) (λ s. omega arith) a in
+      interactionNumbers (λ s. omega arith) a in
       let s : Sheet = e .sheet in
       let w = check-inside p ws s (e .checked) in
       let list : ℕ → List Monomial = listAt p (s .records) in

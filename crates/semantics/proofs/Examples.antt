@@ -20,7 +20,8 @@ use Rattle.semantics.specs.Expand.{longer, workFault, listSize, recordFa
 use Rattle.semantics.specs.Group.{labelled, constraintRoots, countRoots, fieldRoots, itemsOf, items, key, later, push, split, groups, constraintTerm}
 use Rattle.semantics.specs.Group.{interactionTerm, headers, variables, terms, layout, listedAt, listed}
 use Rattle.semantics.specs.Call.{Outcome, acceptedWith, refusedWith, zeros, padded, paddedAll, outcome, handedBack, needs, result, packCall, readerCall}
-use Rattle.semantics.specs.Call.{onSheet, writerCall, builderCall, maxRotationCall, firstShort, fitted, family, expansionOf, expansion, constraintOutputs}
+use Rattle.semantics.specs.Call.{onSheet, writerCall, checkCall, builderCall, maxRotationCall, numConstraintsCall}
+use Rattle.semantics.specs.Call.{conversionCall, firstShort, fitted, family, expansionOf, expansion, constraintOutputs}
 use Rattle.semantics.specs.Call.{constraintCall, interactionOutputs, maxFieldsLen, interactionCall}
 use Rattle.semantics.specs.Sheetlist.{digits, decimal, hexDigit, hexDigits, integer, signed, line, tLine, uLine, wLine, headerLines, step}
 use Rattle.semantics.specs.Sheetlist.{interactionLines, constraintLines, graphLines, sheetLines, sheetlist}
@@ -187,13 +188,21 @@ seventeen = manyVars 0 17 ++ (recordOf 6 0 1 1 0 ∷ sumsFrom 17 2 15)
 oneField : (count field : ℕ) → List Record → Sheet
 oneField count field rs = record { records = rs; constraints = []; interactions = record { bus = 7; weight = 1; count = count; message = field ∷ [] } ∷ [] }
 
--- Two interactions with the count `node`, whose messages are none and twice `node`.
+-- Two interactions with the count `node`, whose messages are none and three times `node`.
 twoMessages : (node : ℕ) → List Record → Sheet
 twoMessages node rs = record {
   records = rs;
   constraints = [];
   interactions =
-      record { bus = 7; weight = 1; count = node; message = node ∷ node ∷ [] } ∷ record { bus = 7; weight = 1; count = node; message = [] } ∷ [];
+      record { bus = 7; weight = 1; count = node; message = node ∷ node ∷ node ∷ [] } ∷ record { bus = 7; weight = 1; count = node; message = [] } ∷ [];
+}
+
+-- Three records, two constraints, one interaction.
+small : Sheet
+small = record {
+  records = v ∷ w ∷ recordOf 6 0 1 1 0 ∷ [];
+  constraints = 2 ∷ 0 ∷ [];
+  interactions = record { bus = 7; weight = 1; count = 0; message = 1 ∷ [] } ∷ [];
 }
 
 fault : Record → ℕ
@@ -209,7 +218,12 @@ further :
     × (builderCall prime (encode (oneField 0 1 (v ∷ w ∷ []))) (2 ∷ 19 ∷ []) ≡ graph 2 (encode (oneField 1 0 (w ∷ v ∷ []))) 0)
     -- the largest offset is of any variable, and the largest message of any interaction
     × (maxRotationCall prime (words (recordOf 1 1 0 3 0 ∷ recordOf 1 0 0 5 0 ∷ recordOf 6 0 1 7 0 ∷ []) []) ≡ answers (5 ∷ []))
-    × (interactionCall prime (encode (twoMessages 0 (v ∷ []))) (4096 ∷ 60 ∷ 8 ∷ 8 ∷ 8 ∷ 8 ∷ 8 ∷ 8 ∷ []) .reply ≡ acceptedWith (4 ∷ 1 ∷ 6 ∷ 4 ∷ 1 ∷ 6 ∷ []) (2 ∷ 2 ∷ []))
+    × (interactionCall prime (encode (twoMessages 0 (v ∷ []))) (4096 ∷ 60 ∷ 8 ∷ 8 ∷ 8 ∷ 8 ∷ 8 ∷ 9 ∷ []) .reply ≡ acceptedWith (4 ∷ 1 ∷ 6 ∷ 4 ∷ 1 ∷ 9 ∷ []) (2 ∷ 3 ∷ []))
+    -- E, C, I, L and where the interactions start; C; the L words without the spare one, and how many are needed
+    × (checkCall prime (encode small ++ (0 ∷ [])) ≡ answers (3 ∷ 2 ∷ 1 ∷ 26 ∷ 21 ∷ []))
+    × (numConstraintsCall prime (encode small) ≡ answers (2 ∷ []))
+    × (conversionCall prime (encode small ++ (0 ∷ [])) (28 ∷ []) ≡ record { reply = acceptedWith (26 ∷ []) []; slices = (encode small ++ (0 ∷ 0 ∷ [])) ∷ [] })
+    × (conversionCall prime (encode small) (2 ∷ []) ≡ record { reply = refusedWith 15 26; slices = (0 ∷ 0 ∷ []) ∷ [] })
     -- a list that just goes into the pool, and one that does not; the first slice that is too short
     × (constraintCall prime (words (v ∷ []) (0 ∷ [])) (4096 ∷ 5 ∷ 4 ∷ 1 ∷ 2 ∷ []) .reply ≡ acceptedWith (4 ∷ 1 ∷ 2 ∷ []) [])
     × (constraintCall prime (words (v ∷ []) (0 ∷ [])) (4096 ∷ 4 ∷ 4 ∷ 1 ∷ 2 ∷ []) .reply ≡ refusedWith 16 0)
@@ -217,5 +231,6 @@ further :
     -- 256 working monomials pass, 272 give 12 although only 152 are left of them when they are combined
     × (fault (recordOf 9 31 31 2 0) ≡ 0)
     × (fault (recordOf 9 31 32 2 0) ≡ 12)
-unfolding sheetOf builds words graph expands expanded oneField twoMessages answers listing fault seventeen manyVars sumsFrom
-further = (refl, refl, refl, refl, refl, refl, refl, refl, refl, refl)
+unfolding sheetOf builds words graph expands expanded oneField twoMessages small answers listing fault seventeen manyVars sumsFrom
+    checkCall numConstraintsCall conversionCall
+further = (refl, refl, refl, refl, refl, refl, refl, refl, refl, refl, refl, refl, refl, refl)

@@ -14,7 +14,7 @@ use Rattle.semantics.specs.Walk.{Mem, Below, order}
 use Rattle.semantics.specs.Monomial.{Asc, Monomial, sort, listAt}
 use Rattle.semantics.specs.Expand.{expandAll}
 use Rattle.semantics.specs.Group.{Root, constraintRoots, countRoots, fieldRoots, Item, itemsOf, items, later, Group, push, split, groups, headers, layout}
-use Rattle.semantics.specs.Call.{Outcome, handedBack, family, constraintOutputs, constraintCall, interactionOutputs, maxFieldsLen, interactionCall}
+use Rattle.semantics.specs.Call.{Outcome, handedBack, family, constraintOutputs, constraintCall, interactionOutputs, interactionNumbers, interactionCall}
 use Rattle.semantics.specs.Refusals.{SmallHeaders, headersOf, HeaderSizes}
 use Rattle.semantics.specs.Lists.{All}
 use Rattle.semantics.proofs.Combining.{Above}
@@ -197,7 +197,7 @@ header-sizes p = record {
       (constraints-few p s w) (e .words 0);
   interactions = λ ws work pool h v t h′ v′ t′ a.
       let e = expanded p ws work pool (h ∷ v ∷ t ∷ h′ ∷ v′ ∷ t′ ∷ []) (λ s. countRoots s ++ fieldRoots s) (interactionOutputs p)
-      (λ s. length (s .interactions) ∷ maxFieldsLen s ∷ []) (λ s. omega arith) a in
+      interactionNumbers (λ s. omega arith) a in
       let s : Sheet = e .sheet in
       let w = check-inside p ws s (e .checked) in
       let few = roots-few p s w (nodes (countRoots s ++ fieldRoots s)) (interactions-named p s w) pool (e .used) (e .walked) in

@@ -133,7 +133,7 @@ builderCall p ws lent =
     (onSheet p ws (λ s. needs 14 (length (s .records)) (getD lent 0 0) (needs 15 (lengthOf s) (getD lent 1 0)
     (result (encode (graphOf p s) ∷ []) []))))
 
--- "`num_constraints` is C of the sheet given .. Both hand back the number with 0."
+-- "`max_rotation` is the largest offset .. `num_constraints` is C of the sheet given .. Both hand back the number with 0."
 unfoldable pub maxRotationCall : (p : ℕ) (ws : List ℕ) → Outcome
 maxRotationCall p ws = outcome [] [] (onSheet p ws (λ s. result [] (maxRotation s ∷ [])))
 
@@ -194,10 +194,11 @@ constraintCall p ws lent = expansion p ws lent (constraintsOf p lent)
 unfoldable pub interactionOutputs : (p : ℕ) → Sheet → List (List ℕ)
 interactionOutputs p s = family p s interactionTerm (countRoots s) ++ family p s interactionTerm (fieldRoots s)
 
--- `num_interactions` and `max_fields_len`, the largest message length, 0 if there is none.
+-- `max_fields_len` is the largest message length, 0 if there is none.
 unfoldable pub maxFieldsLen : Sheet → ℕ
 maxFieldsLen s = foldr (λ (x : Interaction) (n : ℕ). max (length (x .message)) n) 0 (s .interactions)
 
+-- "the interaction call adds `num_interactions` and `max_fields_len`"
 abbrev pub interactionNumbers : Sheet → List ℕ
 interactionNumbers s = length (s .interactions) ∷ maxFieldsLen s ∷ []
 

@@ -1,4 +1,4 @@
--- The numbers that each call can send, of those that 01 lists; the places of three; and how large a header is.
+-- The numbers that each call can send, of those that 01 lists; the places of packing, unpacking and the block check; and how large a header is.
 use mathlib.Core.Path.{_≡_}
 use mathlib.Core.Bool.{true}
 use mathlib.Core.List.{List, [], _∷_, _++_}
@@ -38,7 +38,7 @@ pub record Refusals (p : ℕ) : Type 0 where
   pub constraints : (ws : List ℕ) (work pool h v t : ℕ) → Sends (ofSheet ++ ofExpansion) (constraintCall p ws (work ∷ pool ∷ h ∷ v ∷ t ∷ []))
   pub interactions : (ws : List ℕ) (work pool h v t h′ v′ t′ : ℕ) → Sends (ofSheet ++ ofExpansion) (interactionCall p ws (work ∷ pool ∷ h ∷ v ∷ t ∷ h′ ∷ v′ ∷ t′ ∷ []))
 
--- The places of the calls that take no sheet: "(place: that word, 0 to 4), then 8 to 11, place 0"; "or 5, place 0"; "gives 1, place 0".
+-- The places of packing, a word's or 0; of unpacking, "or 5, place 0"; and of the block check alone, "gives 1, place 0".
 pub record LowPlaces : Type 0 where
   pub pack : (r : Record) → packCall r .reply .place ≤ 4
   pub unpack : (n : ℕ) → unpackCall n .reply .place ≡ 0
