@@ -168,9 +168,11 @@ typedef struct {
 /*
  * Whether a block ends with its check word.
  *
- * A block is 512 bytes: 127 words, least byte first, then the check word, the sum modulo 2^32 of the 127 words and the block's
- * number. Blocks are counted from 1; any number is taken, 0 too. Refused by 1 where bytes_len is not 512. A block that is not
- * good is no refusal: number is 0 and good is 0. Ask for number 0 and good 1 before a block is trusted.
+ * A block is 512 bytes: 127 words, least byte first, then the check word: the sum modulo 2^32 of each of the 127 words times
+ * its weight (1 for the first, 3 for the second, up to 253 for the last) and the block's number. One altered word is always
+ * seen, and two neighbours among the 127 that are exchanged, unless they are equal or differ by 2^31. Blocks are counted from 1;
+ * any number is taken, 0 too. Refused by 1 where bytes_len is not 512. A block that is not good is no refusal: number is 0 and
+ * good is 0. Ask for number 0 and good 1 before a block is trusted.
  */
 SuhkelvaBlock suhkelva_block_check(const uint8_t *bytes, size_t bytes_len, uint32_t number);
 

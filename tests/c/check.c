@@ -144,17 +144,34 @@ static void put_word(uint8_t *at, uint32_t word)
     at[3] = (uint8_t)(word >> 24);
 }
 
-/* A good block with this number, whose words pass 2^32 in their sum. */
-static void make_block(uint8_t *block, uint32_t number)
+/* The check word of 127 words, each with its weight, and a number; all sums modulo 2^32. */
+static uint32_t check_word(const uint32_t *words, uint32_t number)
 {
     uint32_t sum = number;
     uint32_t n;
     for (n = 0; n < 127; n++) {
-        uint32_t word = 0x9e3779b9u * (n + 1);
-        put_word(block + 4 * n, word);
-        sum += word;
+        sum += (2 * n + 1) * words[n];
     }
-    put_word(block + 508, sum);
+    return sum;
+}
+
+/* A block of 127 words and a check word. */
+static void put_block(uint8_t *block, const uint32_t *words, uint32_t check_word)
+{
+    size_t n;
+    for (n = 0; n < 127; n++) {
+        put_word(block + 4 * n, words[n]);
+    }
+    put_word(block + 508, check_word);
+}
+
+/* 127 words that pass 2^32 in their sum, no two of them equal or 2^31 apart. */
+static void make_words(uint32_t *words)
+{
+    uint32_t n;
+    for (n = 0; n < 127; n++) {
+        words[n] = 0x9e3779b9u * (n + 1);
+    }
 }
 
 static int says(SuhkelvaBlock r, uint32_t number, uint32_t good)
@@ -167,15 +184,19 @@ static void check_blocks(void)
     static const uint32_t numbers[] = {0, 1, 2, 710, 0x7fffffffu, 0x80000000u, 0xffffffffu};
     uint8_t bytes[515]; /* room to stand at any alignment */
     uint8_t *block = bytes + 1;
+    uint32_t words[127];
     size_t k;
     size_t at;
+    size_t n;
     memset(bytes, 0, sizeof bytes);
     /* 127 zeros: the check word is the number */
     check(says(suhkelva_block_check(block, 512, 0), 0, 1), "zeros under number 0");
     check(says(suhkelva_block_check(block, 512, 1), 0, 0), "zeros under number 1");
     for (k = 0; k < sizeof numbers / sizeof numbers[0]; k++) {
         uint32_t number = numbers[k];
-        make_block(block, number);
+        uint32_t sum = number;
+        make_words(words);
+        put_block(block, words, check_word(words, number));
         check(says(suhkelva_block_check(block, 512, number), 0, 1), "a good block");
         check(says(suhkelva_block_check(block, 512, number + 1), 0, 0), "a good block under the next number");
         check(says(suhkelva_block_check(block, 511, number), 1, 0), "511 bytes");
@@ -186,6 +207,34 @@ static void check_blocks(void)
             check(says(suhkelva_block_check(block, 512, number), 0, 0), "a block with one bit changed");
             block[at] ^= 0x10;
         }
+        for (n = 0; n < 127; n++) {
+            /* the highest bit alone: an even weight would not see it */
+            block[4 * n + 3] ^= 0x80;
+            check(says(suhkelva_block_check(block, 512, number), 0, 0), "a word changed by 2^31");
+            block[4 * n + 3] ^= 0x80;
+            sum += words[n];
+        }
+        put_block(block, words, sum);
+        check(says(suhkelva_block_check(block, 512, number), 0, 0), "the sum without weights");
+        for (n = 0; n < 126; n++) {
+            uint32_t left = words[n];
+            uint32_t right = words[n + 1];
+            put_block(block, words, check_word(words, number));
+            put_word(block + 4 * n, right);
+            put_word(block + 4 * n + 4, left);
+            check(says(suhkelva_block_check(block, 512, number), 0, 0), "two neighbours exchanged");
+            words[n + 1] = left ^ 0x80000000u;
+            put_block(block, words, check_word(words, number));
+            put_word(block + 4 * n, words[n + 1]);
+            put_word(block + 4 * n + 4, left);
+            check(says(suhkelva_block_check(block, 512, number), 0, 1), "two neighbours 2^31 apart exchanged");
+            words[n + 1] = right;
+        }
+        /* all words but the first zero: both sums are the same */
+        memset(words, 0, sizeof words);
+        words[0] = number ^ 0x55u;
+        put_block(block, words, number + words[0]);
+        check(says(suhkelva_block_check(block, 512, number), 0, 1), "a block under both sums");
     }
 }
 
@@ -537,16 +586,40 @@ static void check_most_blocks(void)
     size_t k;
     int zero = 1;
     memset(blocks, 0, sizeof blocks);
+    /* block n from 0 holds n, 5 and, as its last word, n: n, 15 and 253 n with their weights, and the number n + 1 */
     for (n = 0; n < 711; n++) {
         put_word(blocks + 512 * n, n);
-        put_word(blocks + 512 * n + 508, 2 * n + 1);
+        put_word(blocks + 512 * n + 4, 5);
+        put_word(blocks + 512 * n + 504, n);
+        put_word(blocks + 512 * n + 508, 255 * n + 16);
     }
     memset(words, 0xff, sizeof words);
     check(wrote(suhkelva_read_blocks(blocks, 710 * 512, words, 711 * 127), 710 * 127), "710 blocks");
     for (k = 0; k < 711 * 127; k++) {
-        zero = zero && words[k] == (k % 127 == 0 && k < 710 * 127 ? k / 127 : 0);
+        uint32_t word = k % 127 == 0 || k % 127 == 126 ? (uint32_t)(k / 127) : k % 127 == 1 ? 5 : 0;
+        zero = zero && words[k] == (k < 710 * 127 ? word : 0);
     }
     check(zero, "the words of 710 blocks, then zeros");
+    /* the first two words exchanged: 2, but in block 5, where they are equal; 2^31 apart, and they are read */
+    for (n = 0; n < 710; n++) {
+        put_word(blocks + 512 * n, 5);
+        put_word(blocks + 512 * n + 4, n);
+        if (n == 5) {
+            check(wrote(suhkelva_read_blocks(blocks, 710 * 512, words, 710 * 127), 710 * 127), "two equal words exchanged");
+        } else {
+            check(wrote_nothing(suhkelva_read_blocks(blocks, 710 * 512, words, 710 * 127), 2, n), "two words exchanged");
+        }
+        put_word(blocks + 512 * n, 0x80000000u);
+        put_word(blocks + 512 * n + 4, 0);
+        put_word(blocks + 512 * n + 508, 0x80000000u + 254 * n + 1);
+        check(wrote(suhkelva_read_blocks(blocks, 710 * 512, words, 710 * 127), 710 * 127), "two words 2^31 apart");
+        put_word(blocks + 512 * n, 0);
+        put_word(blocks + 512 * n + 4, 0x80000000u);
+        check(wrote(suhkelva_read_blocks(blocks, 710 * 512, words, 710 * 127), 710 * 127), "two words 2^31 apart exchanged");
+        put_word(blocks + 512 * n, n);
+        put_word(blocks + 512 * n + 4, 5);
+        put_word(blocks + 512 * n + 508, 255 * n + 16);
+    }
     memset(words, 0xff, sizeof words);
     check(wrote_nothing(suhkelva_read_blocks(blocks, 711 * 512, words, 711 * 127), 1, 0), "711 blocks");
     zero = 1;

@@ -1,6 +1,6 @@
 // Words and their four bytes, least first, and the check of a block that stands in a longer slice.
 ghost use mathlib.Core.Path.{_≡_};
-ghost use Prim.Native.Nat.{_+_, _≤_};
+ghost use Prim.Native.Nat.{_+_, _*_, _≤_};
 ghost use lib.ListN.{length, drop};
 ghost use Rattle.slices.specs.Lent.{old};
 ghost use Rattle.semantics.specs.Block.{wordAt, wordBytes, wordsOf, checkWord, blockGood};
@@ -33,17 +33,47 @@ pub fn word_bytes(w: u32) -> [u8; 4]
     ]
 }
 
-// The check word of the 127 words from `at` on and the block's number.
+// Every fourth word: the sum of those so far, and the sum of all these sums, in which a word counts once for each row from its own on.
+struct Column {
+    sum: u64,
+    sums: u64,
+}
+
+fn with_word(column: Column, word: u32) -> Column
+    requires { ⌜ (column .sum ≤ 4294967295 * 31) × (column .sums ≤ 4294967295 * 961) ⌝ }
+    ensures { λ r. ⌜ (r .sum ≡ column .sum + word) × (r .sums ≡ column .sums + r .sum) ⌝ }
+{
+    let sum = column.sum + word as u64;
+    Column {
+        sum: sum,
+        sums: column.sums + sum,
+    }
+}
+
+// The check word of the 127 words from `at` on and the block's number. The words stand in four columns, 31 rows and three words more. Word i has the weight
+// 2 * i + 1, 8 less than the word below it; so a column's sum is taken with the weight of its place in the last row, less 8 times the sum of its sums.
 pub fn check_word(bytes: &[u8], at: usize, number: u32) -> u32
     requires { ⌜ at + 508 ≤ length (now bytes) ⌝ }
     ensures { λ r. ⌜ r ≡ checkWord number (wordsOf 127 (drop at (old bytes))) ⌝ }
 {
-    let mut sum = number as u64;
-    let mut n: usize = 0;
-    while n < 127 {
-        sum += word_at(bytes, at + 4 * n) as u64;
-        n += 1;
+    let mut a = Column { sum: 0, sums: 0 };
+    let mut b = Column { sum: 0, sums: 0 };
+    let mut c = Column { sum: 0, sums: 0 };
+    let mut d = Column { sum: 0, sums: 0 };
+    let mut row: usize = 0;
+    while row < 31 {
+        let first = at + 16 * row;
+        a = with_word(a, word_at(bytes, first));
+        b = with_word(b, word_at(bytes, first + 4));
+        c = with_word(c, word_at(bytes, first + 8));
+        d = with_word(d, word_at(bytes, first + 12));
+        row += 1;
     }
+    let sums = a.sums + b.sums + c.sums + d.sums;
+    let x = a.sum + word_at(bytes, at + 496) as u64;
+    let y = b.sum + word_at(bytes, at + 500) as u64;
+    let z = c.sum + word_at(bytes, at + 504) as u64;
+    let sum = number as u64 + 249 * x + 251 * y + 253 * z + 255 * d.sum - 8 * sums;
     (sum % 4294967296) as u32
 }
 

@@ -1,6 +1,6 @@
 -- Blocks that were written read back as the words written, with zeros behind them.
 use mathlib.Core.Path.{_≡_, refl, sym, _∙_, ap, subst}
-use mathlib.Core.Bool.{true, false, cond}
+use mathlib.Core.Bool.{true, false}
 use mathlib.Core.List.{List, [], _∷_, _++_, flatMap, append-assoc}
 use Prim.Native.Nat.{ℕ, zero, suc, _+_, _*_, _-_, _/_, _%_, _≤_, _<_}
 use native.Mathlib.Omega.{arith}
@@ -9,10 +9,10 @@ use lib.ListN.{length, drop, replicate, length-append}
 use lib.Seq.{drop-at, take-nil, take-all, drop-nil}
 use borrow.Author.Tests.{eq-eqb, ne-eqb, le-ltb}
 use Rattle.slices.proofs.Lists.{flat-length}
-use Rattle.semantics.specs.Answer.{Answer, good, refused, andThen}
+use Rattle.semantics.specs.Answer.{Answer, good, andThen}
 use Rattle.semantics.specs.Sheet.{Sheet, Inside, encode, lengthOf}
 use Rattle.semantics.specs.Check.{check}
-use Rattle.semantics.specs.Call.{Result, Accepted, handedBack, needs, result, readerCall, onSheet, writerCall}
+use Rattle.semantics.specs.Call.{Result, Accepted, outcome, handedBack, needs, result, readerCall, onSheet, writerCall}
 use Rattle.semantics.specs.Block.{wordBytes, wordAt, wordsOf, checkWord, blockGood, badLength, readBlocks, blockBytes, firstWords, writeBlocks, blocksFor}
 use Rattle.semantics.proofs.Basics.{cond-true, cond-false}
 use Rattle.semantics.proofs.Places.{place-head}
@@ -151,28 +151,27 @@ length-good n l h = rw (ne-eqb (512 * n) 0 (λ e. omega arith), eq-eqb (512 * n 
 abbrev oneOutput : List ℕ → Result
 oneOutput ws = record { outputs = ws ∷ []; numbers = [] }
 
+-- The reader, where the length and the room are right: its answer is that of the blocks.
+pub reader-is : (bytes : List ℕ) (out : ℕ) → badLength (length bytes) ≡ false → 127 * (length bytes / 512) ≤ out
+    → readerCall bytes (out ∷ []) ≡ outcome [] (out ∷ []) (andThen (readBlocks (length bytes / 512) 0 bytes) (λ ws. result (ws ∷ []) []))
+unfolding readerCall
+reader-is bytes out b r =
+    ap (outcome [] (out ∷ [])) (cond-false (badLength (length bytes)) _ _ b ∙ needs-met 15 (127 * (length bytes / 512)) out _ r)
+
 -- What the reader hands back for blocks that read as some words.
 pub reader-reads : (n : ℕ) (bytes ws : List ℕ) (out : ℕ) → length bytes ≡ 512 * n → 1 ≤ n → n ≤ 710 → 127 * n ≤ out
     → readBlocks n 0 bytes ≡ good ws
     → Accepted (readerCall bytes (out ∷ [])) × (handedBack 0 (readerCall bytes (out ∷ [])) 0 ≡ ws)
-unfolding readerCall andThen result
+unfolding andThen result
 reader-reads n bytes ws out e l h r g =
+    rw (reader-is bytes out (ap badLength e ∙ length-good n l h) (omega arith))
     (accepted [] (out ∷ []) _ (oneOutput ws) answer, handed-back [] (out ∷ []) _ (oneOutput ws) answer 0 (omega arith))
   where
     count : length bytes / 512 ≡ n
     count = omega arith
 
-    then : Answer (List ℕ) → Answer Result
-    then a = andThen a (λ ws. result (ws ∷ []) [])
-
-    read : Answer Result
-    read = then (readBlocks (length bytes / 512) 0 bytes)
-
-    answer : cond (badLength (length bytes)) (refused 1 0) (needs 15 (127 * (length bytes / 512)) out read) ≡ good (oneOutput ws)
-    answer =
-        cond-false (badLength (length bytes)) _ _ (ap badLength e ∙ length-good n l h)
-        ∙ needs-met 15 (127 * (length bytes / 512)) out read (omega arith)
-        ∙ ap then (ap (λ (m : ℕ). readBlocks m 0 bytes) count ∙ g)
+    answer : andThen (readBlocks (length bytes / 512) 0 bytes) (λ ws. result (ws ∷ []) []) ≡ good (oneOutput ws)
+    answer = ap (λ (a : Answer (List ℕ)). andThen a (λ ws. result (ws ∷ []) [])) (ap (λ (m : ℕ). readBlocks m 0 bytes) count ∙ g)
 
 -- What the writer hands back for a sheet.
 pub writer-writes : (p : ℕ) (ws : List ℕ) (s : Sheet) (out : ℕ) → check p ws ≡ good s → 512 * blocksFor (lengthOf s) ≤ out

@@ -8,7 +8,7 @@ use Rattle.semantics.specs.Answer.{andThen}
 use Rattle.semantics.specs.Arithmetic.{prime, addM, subM, mulM, negM, signedOf}
 use Rattle.semantics.specs.Sheet.{Record, Sheet, recordOf, recordWords, interactionWords, headWords, encode, lengthOf, place, table, row, fits, recordTests, refers, interactionTests, headTests}
 use Rattle.semantics.specs.Check.{scanWords, scanPart, scanParts, scanSpare, scanSheet, readRecord, readRecords, readInteraction, readInteractions, readSheet, judged, check}
-use Rattle.semantics.specs.Block.{wordBytes, wordAt, wordsOf, total, checkWord, blockGood, badLength, readBlocks, blockBytes, firstWords, writeBlocks, blocksFor}
+use Rattle.semantics.specs.Block.{wordBytes, wordAt, wordsOf, weighted, checkWord, blockGood, badLength, readBlocks, blockBytes, firstWords, writeBlocks, blocksFor}
 use Rattle.semantics.specs.Packing.{packed, packFault, leafTests, packRecord, pack}
 use Rattle.semantics.specs.Value.{leafOf, nodeOf, recordAt, fill}
 use Rattle.semantics.specs.Walk.{children, childrenAt, member, foldLeft, visit, order}
@@ -141,7 +141,7 @@ listingSheet = record {
 
 -- What `sheetlist` prints for it, from the block that the writer makes.
 listing : List ℕ
-unfolding listingSheet expands handedBack writerCall writeBlocks blockBytes firstWords blocksFor wordBytes wordAt wordsOf total checkWord
+unfolding listingSheet expands handedBack writerCall writeBlocks blockBytes firstWords blocksFor wordBytes wordAt wordsOf weighted checkWord
     sheetlist readerCall badLength readBlocks blockGood sheetLines graphLines constraintLines interactionLines step headerLines tLine uLine wLine line
     signed integer signedOf decimal digits hexDigits hexDigit maxRotationCall maxRotation rotation interactionCall interactionOutputs maxFieldsLen
     countRoots fieldRoots interactionTerm listed listedAt rows

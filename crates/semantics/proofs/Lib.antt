@@ -25,8 +25,10 @@ pub mod Access
 pub mod Blocks
 pub mod Acceptance
 pub mod Refusals
+pub mod BlockCheck
 pub mod LowPlaces
 pub mod Demands
 pub mod HeaderSizes
+pub mod BlockExamples
 pub mod Listings
 pub mod Examples

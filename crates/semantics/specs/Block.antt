@@ -18,13 +18,14 @@ unfoldable pub wordsOf : ℕ → List ℕ → List ℕ
 wordsOf zero bs = []
 wordsOf (suc n) bs = wordAt bs ∷ wordsOf n (drop 4 bs)
 
-unfoldable pub total : List ℕ → ℕ
-total [] = 0
-total (w ∷ ws) = w + total ws
+-- "each of the 127 words times an odd weight (1 for the first, 3 for the second, up to 253)": the sum from word i on, counted from 0.
+unfoldable pub weighted : (i : ℕ) → List ℕ → ℕ
+weighted i [] = 0
+weighted i (w ∷ ws) = (2 * i + 1) * w + weighted (suc i) ws
 
--- "the sum modulo 2^32 of the 127 words and the block's number counted from 1"
+-- "the sum modulo 2^32 of each of the 127 words times an odd weight .., plus the block's number from 1" (02, R-8)
 unfoldable pub checkWord : (number : ℕ) → List ℕ → ℕ
-checkWord number ws = (total ws + number) % 4294967296
+checkWord number ws = (weighted 0 ws + number) % 4294967296
 
 -- A block ends with the check word of its words and its number.
 unfoldable pub blockGood : (number : ℕ) → List ℕ → Bool

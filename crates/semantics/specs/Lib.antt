@@ -15,3 +15,4 @@ pub mod Call
 pub mod Sheetlist
 pub mod Demand
 pub mod Refusals
+pub mod BlockCheck

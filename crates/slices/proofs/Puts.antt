@@ -1,12 +1,12 @@
 -- Elements put one behind the other.
 use mathlib.Core.Path.{_≡_, refl, sym, ap, _∙_}
 use mathlib.Core.List.{List, [], _∷_, _++_, append-assoc}
-use Prim.Native.Nat.{ℕ, suc, _+_, _≤_, _<_}
+use Prim.Native.Nat.{ℕ, suc, _+_, _-_, _≤_, _<_}
 use native.Mathlib.Nat.{add-zero, add-suc}
 use native.Mathlib.Numerals.{add-one}
 use native.Mathlib.Omega.{arith}
-use lib.ListN.{length, set, take, drop, length-append, length-take, length-drop, take-append-drop}
-use lib.Seq.{set-split, take-at, drop-at, drop-drop, sets, sets-eq}
+use lib.ListN.{length, getD, set, take, drop, length-append, length-take, length-drop, take-append-drop, List·getD-append}
+use lib.Seq.{set-split, take-at, drop-at, drop-drop, sets, sets-eq, length-take-le, getD-take, getD-drop, getD-append-add}
 use Rattle.slices.specs.Putting.{put}
 
 pub put-none : (out : List ℕ) (at : ℕ) → put out at [] ≡ out
@@ -55,6 +55,23 @@ pub put-front : (out : List ℕ) (at : ℕ) (xs : List ℕ) → at + length xs �
 put-front out at xs h =
     ap (take (at + length xs)) (sym (append-assoc (take at out) xs (drop (at + length xs) out)))
     ∙ take-at (take at out ++ xs) (drop (at + length xs) out) (at + length xs) (simp (length-append, length-take) (omega arith))
+
+-- The elements in front of what is put, and behind it.
+module _ (out : List ℕ) (at : ℕ) (xs : List ℕ) (h : at + length xs ≤ length out) where
+  pub getD-before : (k : ℕ) → k < at → getD (put out at xs) k 0 ≡ getD out k 0
+  getD-before k l =
+      List·getD-append (take at out) (xs ++ drop (at + length xs) out) 0 k (omega (arith, length-take-le at out (omega arith)))
+      ∙ getD-take at out k 0 l
+
+  pub getD-after : (k : ℕ) → at + length xs ≤ k → getD (put out at xs) k 0 ≡ getD out k 0
+  getD-after k l =
+      let P : List ℕ = take at out ++ xs in
+      let Q : List ℕ = drop (at + length xs) out in
+      let e : length P ≡ at + length xs = simp (length-append, length-take) (omega arith) in
+      let m : length P + (k - length P) ≡ k = omega arith in
+      ap (λ (u : List ℕ). getD u k 0) (sym (append-assoc (take at out) xs Q))
+      ∙ ap (λ (n : ℕ). getD (P ++ Q) n 0) (sym m) ∙ getD-append-add P Q (k - length P) 0 ∙ getD-drop (at + length xs) out (k - length P) 0
+      ∙ ap (λ (n : ℕ). getD out n 0) (omega arith)
 
 -- Stores as code makes them: at a place and one, two, .. behind it. On a list that is written out `stores` computes to them.
 module _ {A : Type 0} where

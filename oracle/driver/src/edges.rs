@@ -298,6 +298,41 @@ pub fn edges() -> Vec<Edge> {
         Input::Bytes(changed),
         Due::Refused(2, 709),
     );
+    let words = any_words(710);
+    let first = 709 * BLOCK_WORDS;
+    let swapped = |words: &[u32], at: usize| {
+        let mut bytes = write_blocks(words);
+        let place = BLOCK_BYTES * 709 + 4 * (at - first);
+        bytes[place..place + 8].rotate_left(4);
+        Input::Bytes(bytes)
+    };
+    let neighbours = [first, first + 60, first + BLOCK_WORDS - 2];
+    for at in neighbours {
+        say(
+            "neighbours in the last of 710 blocks exchanged: 2, place 709",
+            swapped(&words, at),
+            Due::Refused(2, 709),
+        );
+    }
+    for at in neighbours {
+        let mut apart = words.clone();
+        apart[at + 1] = apart[at] ^ (1 << 31);
+        say(
+            "neighbours 2^31 apart in the last of 710 blocks exchanged",
+            swapped(&apart, at),
+            Due::Accepted,
+        );
+    }
+    let sum = words[first..]
+        .iter()
+        .fold(710u32, |sum, &w| sum.wrapping_add(w));
+    let mut plain_sum = write_blocks(&words);
+    plain_sum[all - 4..].copy_from_slice(&sum.to_le_bytes());
+    say(
+        "the last of 710 blocks under the sum without weights: 2, place 709",
+        Input::Bytes(plain_sum),
+        Due::Refused(2, 709),
+    );
     edges
 }
 

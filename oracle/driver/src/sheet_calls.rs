@@ -336,6 +336,7 @@ pub fn random_inputs(rng: &mut Rng) -> Vec<Input> {
         flipped,
         resized(rng, &blocks),
         moved(rng, &blocks),
+        exchanged(rng, &blocks),
     ];
     let words = [good, changed, changed_late, cut, longer, not_zero];
     let words = words.into_iter().map(Input::Words);
@@ -391,6 +392,14 @@ fn resized(rng: &mut Rng, blocks: &[u8]) -> Vec<u8> {
     let mut resized = blocks.to_vec();
     resized.resize(length, 0);
     resized
+}
+
+/// The blocks with two neighbouring words exchanged, in one block or where two of them meet; they may be equal.
+fn exchanged(rng: &mut Rng, blocks: &[u8]) -> Vec<u8> {
+    let mut exchanged = blocks.to_vec();
+    let at = 4 * rng.below(blocks.len() / 4 - 1);
+    exchanged[at..at + 8].rotate_left(4);
+    exchanged
 }
 
 /// The blocks in another order, or without the first: their numbers are wrong. A single block has one byte changed instead.

@@ -34,14 +34,29 @@ const UNPACK: [&str; 3] = [
 const GOOD: &str = "block check, against plain and as made: good";
 const CHANGED: &str = "block check, .. : one word changed";
 const RENUMBERED: &str = "block check, .. : under another number";
-const EXCHANGED: &str = "block check, .. : two words exchanged, so good";
+const EXCHANGED: &str = "block check, .. : two neighbours exchanged, so not good";
+const HALF_APART: &str = "block check, .. : two neighbours 2^31 apart exchanged, so good";
+const PLAIN_SUM: &str = "block check, .. : the sum without weights, another, so not good";
+const PLAIN_SUM_SAME: &str = "block check, .. : the sum without weights, the same, so good";
+const ANY_EXCHANGED: &str = "block check, against plain: any two words exchanged";
 const ANY_BYTES: &str = "block check, against plain: any bytes";
 const ANY_LENGTH: &str = "block check, .. : another length, 1";
 
 /// All kinds, in the order of the table. Of the known differences, those that packing shows.
 pub fn kinds() -> Vec<&'static str> {
     let against_rust = [&[PACKING], &KNOWN[..5]].concat();
-    let blocks = [GOOD, CHANGED, RENUMBERED, EXCHANGED, ANY_BYTES, ANY_LENGTH];
+    let blocks = [
+        GOOD,
+        CHANGED,
+        RENUMBERED,
+        EXCHANGED,
+        HALF_APART,
+        PLAIN_SUM,
+        PLAIN_SUM_SAME,
+        ANY_EXCHANGED,
+        ANY_BYTES,
+        ANY_LENGTH,
+    ];
     [&PACK[..], &against_rust, &UNPACK, &blocks].concat()
 }
 
@@ -190,9 +205,15 @@ pub fn random_blocks(rng: &mut Rng) -> Vec<Block> {
     let number = rng.pick(&[0, 1, 2, 709, 710, 711, 1 << 31, u32::MAX - 1, u32::MAX, any]);
     let small = rng.percent(25);
     let word = |rng: &mut Rng| if small { rng.word() % 4 } else { rng.word() };
-    let words: Vec<u32> = (0..BLOCK_WORDS).map(|_| word(rng)).collect();
-    let sum = words.iter().fold(number, |sum, &w| sum.wrapping_add(w));
-    let words = [words, vec![sum]].concat();
+    let data: Vec<u32> = (0..BLOCK_WORDS).map(|_| word(rng)).collect();
+    let with_sum = |words: &[u32], weight: fn(u32) -> u32| -> Vec<u32> {
+        let step = |sum: u32, (i, w): (u32, &u32)| sum.wrapping_add(w.wrapping_mul(weight(i)));
+        let sum = (0..).zip(words).fold(number, step);
+        [words, &[sum]].concat()
+    };
+    let weighted = |words: &[u32]| with_sum(words, |i| 2 * i + 1);
+    let plain_sum = |words: &[u32]| with_sum(words, |_| 1);
+    let words = weighted(&data);
     let block = |kind, words: &[u32], number, good| Block {
         kind,
         bytes: words.iter().flat_map(|w| w.to_le_bytes()).collect(),
@@ -204,14 +225,34 @@ pub fn random_blocks(rng: &mut Rng) -> Vec<Block> {
     let bit = 1 << rng.below(32);
     let other = rng.word().max(1);
     changed[rng.below(BLOCK_WORDS + 1)] ^= rng.pick(&[bit, other]);
-    let mut exchanged = words.clone();
-    exchanged.swap(rng.below(BLOCK_WORDS), rng.below(BLOCK_WORDS));
+    let mut any_exchanged = words.clone();
+    any_exchanged.swap(rng.below(BLOCK_WORDS), rng.below(BLOCK_WORDS));
+    let at = rng.below(BLOCK_WORDS - 1);
+    let neighbours = |apart: u32| -> Vec<u32> {
+        let mut data = data.clone();
+        data[at + 1] = data[at] ^ apart;
+        let mut words = weighted(&data);
+        words.swap(at, at + 1);
+        words
+    };
+    // a word that differs, and not by 2^31
+    let (any, bit) = (rng.word(), 1 << rng.below(31));
+    let other = rng.pick(&[data[at] ^ data[at + 1], any, bit]);
+    let other = if other << 1 == 0 { 1 } else { other };
+    // the second word, twice, makes up for all others
+    let mut same = data.clone();
+    let rest = (2..)
+        .zip(&data[2..])
+        .fold(0u32, |sum, (i, w)| sum.wrapping_add(w.wrapping_mul(i)));
+    same[1] = rest.wrapping_neg() ^ (rng.below(2) as u32) << 31;
     let bit = 1 << rng.below(32);
     let further = rng.pick(&[1, u32::MAX, bit, bit]);
 
     let mut any = block(ANY_BYTES, &words, number, 0);
     any.bytes = (0..BLOCK_BYTES).map(|_| rng.draw() as u8).collect();
     any.due = None;
+    let mut any_exchanged = block(ANY_EXCHANGED, &any_exchanged, number, 0);
+    any_exchanged.due = None;
     let mut cut = block(ANY_LENGTH, &words, number, 0);
     let length = rng.pick(&[0, 1, 508, 511, 513, 516, 1_023, 1_024, 1_025]);
     cut.bytes.resize(length, 0);
@@ -220,7 +261,14 @@ pub fn random_blocks(rng: &mut Rng) -> Vec<Block> {
         block(GOOD, &words, number, 1),
         block(CHANGED, &changed, number, 0),
         block(RENUMBERED, &words, number.wrapping_add(further), 0),
-        block(EXCHANGED, &exchanged, number, 1),
+        block(EXCHANGED, &neighbours(other), number, 0),
+        block(HALF_APART, &neighbours(1 << 31), number, 1),
+        match plain_sum(&data) == words {
+            true => block(PLAIN_SUM_SAME, &words, number, 1),
+            false => block(PLAIN_SUM, &plain_sum(&data), number, 0),
+        },
+        block(PLAIN_SUM_SAME, &plain_sum(&same), number, 1),
+        any_exchanged,
         any,
         cut,
     ]

@@ -1,5 +1,5 @@
-//! "Blocks are 512 bytes: 127 words, least byte first, then one check word, the sum modulo 2^32 of the 127 words and the
-//! block's number counted from 1."
+//! "Blocks are 512 bytes: 127 words, least byte first, then one check word", which is "the sum modulo 2^32 of each of the 127
+//! words times an odd weight (1 for the first, 3 for the second, up to 253), plus the block's number from 1" (02, R-8).
 
 use crate::reply::{refuse, Answer};
 
@@ -14,7 +14,12 @@ fn words_of(bytes: &[u8]) -> Vec<u32> {
 }
 
 fn check_word(words: &[u32], number: u32) -> u32 {
-    words.iter().fold(number, |sum, &w| sum.wrapping_add(w))
+    let weights = (1..=253).step_by(2);
+    let weighted = words
+        .iter()
+        .zip(weights)
+        .map(|(&word, weight)| u64::from(word) * weight);
+    ((weighted.sum::<u64>() + u64::from(number)) % (1 << 32)) as u32
 }
 
 /// Whether a block's check word is right; the number is counted from 1, and "any word is taken".

@@ -270,6 +270,30 @@ fn blocks() {
     assert_eq!(reply(&calls::reader(&bytes[1..], 127)), (1, 0));
     assert_eq!(reply(&calls::reader(&vec![0; 363_520 + 512], 0)), (1, 0));
 
+    // "1 for the first, 3 for the second, up to 253", "plus the block's number from 1"
+    let check = |words: &[u32], number: usize| {
+        let bytes = write_blocks(words);
+        let at = 512 * number - 4;
+        u32::from_le_bytes(bytes[at..at + 4].try_into().unwrap())
+    };
+    let last = |word: u32| [vec![0; 126], vec![word]].concat();
+    assert_eq!(check(&[7], 1), 8);
+    assert_eq!(check(&[0, 7], 1), 22);
+    assert_eq!(check(&last(1), 1), 254);
+    assert_eq!(check(&last(u32::MAX), 1), 0u32.wrapping_sub(252));
+    assert_eq!(check(&[last(1), last(1)].concat(), 2), 255);
+
+    // "Two neighbours .., swapped, are seen unless they are equal or differ by exactly 2^31"
+    let swapped = |words: [u32; 2]| {
+        let mut bytes = write_blocks(&words);
+        bytes[..8].rotate_left(4);
+        reply(&calls::reader(&bytes, 127))
+    };
+    assert_eq!(swapped([1, 2]), (2, 0));
+    assert_eq!(swapped([1, 1 << 30]), (2, 0));
+    assert_eq!(swapped([9, 9]), (0, 0));
+    assert_eq!(swapped([9, 9 + (1 << 31)]), (0, 0));
+
     let mut two = write_blocks(&[5; 254]);
     assert_eq!(reply(&calls::reader(&two, 254)), (0, 0));
     two[512] ^= 1;

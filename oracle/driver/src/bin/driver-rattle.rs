@@ -16,8 +16,8 @@ const USAGE: &str = "usage:
   driver-rattle [SHEETS] [SEED]         every comparison below and plain against the Rust, in one table; 200,000 sheets from seed 1
                                         unless said otherwise, here and below
   driver-rattle single [SHEETS] [SEED]  packing, unpacking and the block check: the edges, and for each seed ten random records,
-                                        ten numbers, and a block in six states
-  driver-rattle calls [SHEETS] [SEED]   the sheet calls, the builder and the expansions: ten inputs of each sheet, good and broken
+                                        ten numbers, and a block in ten states
+  driver-rattle calls [SHEETS] [SEED]   the sheet calls, the builder and the expansions: eleven inputs of each sheet, good and broken
   driver-rattle edges                   the same calls at each bound
   driver-rattle graphs [SHEETS] [SEED]  the builder's graphs against the Rust's
   driver-rattle lists [SHEETS] [SEED]   both expansions of sheets and of their graphs, against the Rust and plain
