@@ -7,7 +7,7 @@ use native.Mathlib.Omega.{arith}
 use lib.ListN.{drop}
 use Rattle.semantics.specs.Block.{weighted, wordsOf}
 use Rattle.block.specs.declared.words.Column.{Column}
-use Rattle.block.proofs.Laws.{rest, rest-all, Weighed, weighed-more, weighed-all, row-words, last-words, summed}
+use Rattle.block.proofs.Laws.{rest, rest-all, Weighed, weighed-more, heavy-most, heavy-less, row-words, last-words, summed}
 use Rattle.block.proofs.words.check_word.Statement.{statement}
 use Rattle.block.proofs.words.check_word.Tie as tie
 
@@ -71,14 +71,11 @@ module _ (c : tie.After-struct-known8 Inv-loop μ-loop) where
   rows : end x .loop .row ≡ 31
   rows = search needs
 
-  all : let b = end x .loop in
-      number + 249 * (b .a .sum + x .word-at5 .result) + 251 * (b .b .sum + y .word-at6 .result) + 253 * (b .c .sum + z .word-at7 .result) + 255 * b .d .sum
-      ≡ number + weighted 0 words + 8 * (b .a .sums + b .b .sums + b .c .sums + b .d .sums)
-  all =
+  end-words : let a = start (end x) .args in
+      249 * x .word-at5 .result + 251 * y .word-at6 .result + 253 * z .word-at7 .result ≡ rest 127 (a .bytes .now) (a .at) 124
+  end-words =
       let a = start (end x) .args in
-      let b = end x .loop in
-      weighed-all number (weighted 0 words) (b .row) (a .bytes .now) (a .at) (b .a) (b .b) (b .c) (b .d) _ _ _ (b .inv .5) rows
-      (last-words (a .bytes .now) (a .at) (x .word-at5 .ensures) (y .word-at6 .ensures) (z .word-at7 .ensures))
+      last-words (a .bytes .now) (a .at) (x .word-at5 .ensures) (y .word-at6 .ensures) (z .word-at7 .ensures)
 
 loop-holds : tie.Need-loop-holds Inv-loop μ-loop
 loop-holds c =
@@ -221,13 +218,20 @@ mul-sum-5 : tie.Need-mul-sum-5 Inv-loop μ-loop
 mul-sum-5 c = search needs
 
 sub-sum : tie.Need-sub-sum Inv-loop μ-loop
-sub-sum c = omega (arith, all c)
+sub-sum c =
+    let a = start (end (x c)) .args in
+    let b = end (x c) .loop in
+    heavy-most (number c) (weighted 0 (words c)) (b .row) (a .bytes .now) (a .at) (b .a) (b .b) (b .c) (b .d) _ _ _ (b .inv .5) (rows c) (end-words c)
 
 cast-result : tie.Need-cast-result Inv-loop μ-loop
 cast-result c = search needs
 
 returns : tie.Need-returns Inv-loop μ-loop
-returns c = summed (number c) _ (words c) (omega (arith, all c))
+returns c =
+    let a = start (end (x c)) .args in
+    let b = end (x c) .loop in
+    summed (number c) _ (words c)
+    (heavy-less (number c) (weighted 0 (words c)) (b .row) (a .bytes .now) (a .at) (b .a) (b .b) (b .c) (b .d) _ _ _ (b .inv .5) (rows c) (end-words c))
 
 pub check-word-spec : {M : Type 1} → statement M
 check-word-spec =
