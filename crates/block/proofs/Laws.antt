@@ -95,25 +95,25 @@ pub weighed-more : (row words left left′ : ℕ) (a b c d a′ b′ c′ d′ :
 weighed-more row words left left′ a b c d a′ b′ c′ d′ w x y z e f g h i l =
     rw (f .1, g .1, h .1, i .1, f .0, g .0, h .0, i .0) (omega arith)
 
--- the columns of 31 rows and the three words behind them: what the sums of sums are taken from, and what is left
+-- the columns of 31 rows and the three words behind them, with the weights of the last row; and what is left when 8 times the sums of sums is taken from that
 module _ (number words row : ℕ) (bs : List ℕ) (at : ℕ) (a b c d : Column) (x y z : ℕ) (e : Weighed row words (rest 127 bs at (4 * row)) a b c d)
     (q : row ≡ 31) (f : 249 * x + 251 * y + 253 * z ≡ rest 127 bs at 124) where
   abbrev sums : ℕ
   sums = a .sums + b .sums + c .sums + d .sums
 
-  abbrev heavy : ℕ
-  heavy = number + 249 * (a .sum + x) + 251 * (b .sum + y) + 253 * (c .sum + z) + 255 * d .sum
+  abbrev lastRow : ℕ
+  lastRow = number + 249 * (a .sum + x) + 251 * (b .sum + y) + 253 * (c .sum + z) + 255 * d .sum
 
-  heavy-is : heavy ≡ number + words + 8 * sums
-  heavy-is =
+  last-row-is : lastRow ≡ number + words + 8 * sums
+  last-row-is =
       let w : Weighed 31 words (rest 127 bs at 124) a b c d = rw q at e in
       omega (arith, w)
 
-  pub heavy-most : 8 * sums ≤ heavy
-  heavy-most = omega (arith, heavy-is)
+  pub sums-fit : 8 * sums ≤ lastRow
+  sums-fit = omega (arith, last-row-is)
 
-  pub heavy-less : heavy - 8 * sums ≡ number + words
-  heavy-less = omega (arith, heavy-is)
+  pub sums-taken : lastRow - 8 * sums ≡ number + words
+  sums-taken = omega (arith, last-row-is)
 
 -- the weighted sum of the words and the number, modulo 2 ^ 32
 pub summed : (number sum : ℕ) (ws : List ℕ) → sum ≡ number + weighted 0 ws → sum % 4294967296 ≡ checkWord number ws

@@ -7,7 +7,7 @@ use native.Mathlib.Omega.{arith}
 use lib.ListN.{drop}
 use Rattle.semantics.specs.Block.{weighted, wordsOf}
 use Rattle.block.specs.declared.words.Column.{Column}
-use Rattle.block.proofs.Laws.{rest, rest-all, Weighed, weighed-more, heavy-most, heavy-less, row-words, last-words, summed}
+use Rattle.block.proofs.Laws.{rest, rest-all, Weighed, weighed-more, sums-fit, sums-taken, row-words, last-words, summed}
 use Rattle.block.proofs.words.check_word.Statement.{statement}
 use Rattle.block.proofs.words.check_word.Tie as tie
 
@@ -221,7 +221,7 @@ sub-sum : tie.Need-sub-sum Inv-loop μ-loop
 sub-sum c =
     let a = start (end (x c)) .args in
     let b = end (x c) .loop in
-    heavy-most (number c) (weighted 0 (words c)) (b .row) (a .bytes .now) (a .at) (b .a) (b .b) (b .c) (b .d) _ _ _ (b .inv .5) (rows c) (end-words c)
+    sums-fit (number c) (weighted 0 (words c)) (b .row) (a .bytes .now) (a .at) (b .a) (b .b) (b .c) (b .d) _ _ _ (b .inv .5) (rows c) (end-words c)
 
 cast-result : tie.Need-cast-result Inv-loop μ-loop
 cast-result c = search needs
@@ -231,7 +231,7 @@ returns c =
     let a = start (end (x c)) .args in
     let b = end (x c) .loop in
     summed (number c) _ (words c)
-    (heavy-less (number c) (weighted 0 (words c)) (b .row) (a .bytes .now) (a .at) (b .a) (b .b) (b .c) (b .d) _ _ _ (b .inv .5) (rows c) (end-words c))
+    (sums-taken (number c) (weighted 0 (words c)) (b .row) (a .bytes .now) (a .at) (b .a) (b .b) (b .c) (b .d) _ _ _ (b .inv .5) (rows c) (end-words c))
 
 pub check-word-spec : {M : Type 1} → statement M
 check-word-spec =
