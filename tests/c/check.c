@@ -156,13 +156,13 @@ static uint32_t check_word(const uint32_t *words, uint32_t number)
 }
 
 /* A block of 127 words and a check word. */
-static void put_block(uint8_t *block, const uint32_t *words, uint32_t check_word)
+static void put_block(uint8_t *block, const uint32_t *words, uint32_t last)
 {
     size_t n;
     for (n = 0; n < 127; n++) {
         put_word(block + 4 * n, words[n]);
     }
-    put_word(block + 508, check_word);
+    put_word(block + 508, last);
 }
 
 /* 127 words that pass 2^32 in their sum, no two of them equal or 2^31 apart. */

@@ -51,7 +51,8 @@ fn with_word(column: Column, word: u32) -> Column
 }
 
 // The check word of the 127 words from `at` on and the block's number. The words stand in four columns, 31 rows and three words more. Word i has the weight
-// 2 * i + 1, 8 less than the word below it; so a column's sum is taken with the weight of its place in the last row, less 8 times the sum of its sums.
+// 2 * i + 1, 8 less than the word below it; so a column's sum is taken with the weight of its place in the row of those three, which are in no sum of sums,
+// less 8 times the sum of its sums.
 pub fn check_word(bytes: &[u8], at: usize, number: u32) -> u32
     requires { ⌜ at + 508 ≤ length (now bytes) ⌝ }
     ensures { λ r. ⌜ r ≡ checkWord number (wordsOf 127 (drop at (old bytes))) ⌝ }

@@ -37,10 +37,11 @@ odd-zero (suc n) i x q e = go (odd-zero n i (x / 2) q (omega (arith, twice n q, 
     go : (r : ℕ) × (x / 2 ≡ 2 ^ n * r) → (r : ℕ) × (x ≡ 2 ^ suc n * r)
     go (r, d) = (r, omega (arith, half, d, twice n r))
 
--- Where a sum grows by an odd weight times what a word grows by, and is the same modulo 2^32, the word is the same.
+-- What a sum grows by, where it is the same modulo 2^32.
 grows : (s t d : ℕ) → t ≡ s + d → s % 4294967296 ≡ t % 4294967296 → d ≡ 2 ^ 32 * (d / 4294967296)
 grows s t d e m = omega arith
 
+-- Where that is an odd weight times what a word grows by, the word is the same.
 same-above : (i x y s t : ℕ) → x ≤ y → t + (2 * i + 1) * x ≡ s + (2 * i + 1) * y → s % 4294967296 ≡ t % 4294967296 → y < 4294967296 → x ≡ y
 same-above i x y s t l e m h = go (odd-zero 32 i d ((2 * i + 1) * d / 4294967296) (grows s t ((2 * i + 1) * d) more m))
   where
@@ -567,7 +568,7 @@ reader-sees = record {
   altered = λ bs out k j w b a h. reader-altered bs out k b a h j w;
   neighbours = λ bs out k i b a h. reader-seen bs out k b a h i;
   neighboursUnseen = λ bs out k i b a h. reader-unseen bs out k b a h i;
-  plain = λ bs out k l r h u s f.
-      bad-refused bs out l r k h (λ i m. plain-good (suc i) (drop (512 * i) bs) (u i (omega arith)) ∙ s i m) (plain-good (suc k) (drop (512 * k) bs) (u k h) ∙ f);
+  plain = λ bs out k l r h g u f. bad-refused bs out l r k h g (plain-good (suc k) (drop (512 * k) bs) u ∙ f);
+  plainAccepted = λ bs out k a h u. sym (plain-good (suc k) (drop (512 * k) bs) u) ∙ accepted-goods bs out a .2 k h;
   plainUnseen = λ bs out l r u. goods-accepted bs out l r (λ i m. plain-good (suc i) (drop (512 * i) bs) (u i m .0) ∙ u i m .1);
 }

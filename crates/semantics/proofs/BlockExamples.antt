@@ -1,25 +1,15 @@
 -- The weights of the check word, and for each statement of what the check sees an example that meets its premises, by computation.
-use mathlib.Core.Path.{_≡_, refl, sym, subst}
-use mathlib.Core.Bool.{Bool, true, false}
+use mathlib.Core.Path.{_≡_, refl, subst}
+use mathlib.Core.Bool.{true, false}
 use mathlib.Core.List.{List, [], _∷_, _++_, flatMap}
 use Prim.Native.Nat.{ℕ, suc, _*_, _/_, _<_}
 use native.Mathlib.Omega.{arith}
-use lib.Dec.{eqb}
 use lib.ListN.{length, drop, replicate}
-use borrow.Author.Tests.{eqb-true, eqb-false}
 use Rattle.semantics.specs.Answer.{refused, andThen}
 use Rattle.semantics.specs.Block.{wordBytes, wordAt, wordsOf, weighted, checkWord, blockGood, blockCheck, badLength, readBlocks, blockBytes, firstWords, writeBlocks}
 use Rattle.semantics.specs.Call.{Accepted, outcome, needs, result, blockCheckCall, readerCall}
 use Rattle.semantics.specs.BlockCheck.{wordIn, withWord, swapped, unseen, plainCheckWord, UnderPlain, sumsAgree, says}
 use Rattle.semantics.proofs.BlockCheck.{written-bytes, check-sees, reader-sees}
-
--- A property of 0 and 1 is one of every number below 2.
-two : (P : ℕ → Type 0) → P 0 → P 1 → (i : ℕ) → i < 2 → P i
-two P p q i h = go (eqb i 0) refl
-  where
-    go : (t : Bool) → eqb i 0 ≡ t → P i
-    go true e = subst P (sym (eqb-true i 0 e)) p
-    go false e = let z : 1 ≡ i = omega (arith, eqb-false i 0 e) in subst P z q
 
 -- Word i alone is 1, behind i zeros.
 one : (i : ℕ) → List ℕ
@@ -31,7 +21,7 @@ weights : (checkWord 0 (one 0) ≡ 1) × (checkWord 0 (one 1) ≡ 3) × (checkWo
 unfolding one firstWords checkWord weighted
 weights = (refl, refl, refl, refl, refl)
 
--- Two blocks of the words 5, 5 + 2^31, 7, 7, 9 and zeros, and one of them; with the plain sums as check words; and one of the word 6 alone, whose sums agree.
+-- A block of the words 5, 5 + 2^31, 7, 7, 9 and zeros, and two such blocks.
 words : List ℕ
 words = 5 ∷ 2147483653 ∷ 7 ∷ 7 ∷ 9 ∷ []
 
@@ -41,63 +31,77 @@ block = writeBlocks 1 0 words
 blocks : List ℕ
 blocks = writeBlocks 2 0 (firstWords 127 words ++ words)
 
-plainBlock : List ℕ
-plainBlock = withWord 127 (plainCheckWord 1 (firstWords 127 words)) block
+-- A block whose last two words are 0 and 1.
+lastBlock : List ℕ
+lastBlock = writeBlocks 1 0 (one 126)
 
+-- A block whose sums agree: the word 6 alone. The first block with the plain sum as its check word; and two blocks under the plain sum, of which the first one's
+-- sums agree.
 agreeing : List ℕ
 agreeing = writeBlocks 1 0 (6 ∷ [])
 
--- The first block's sums agree, the second's do not.
+plainBlock : List ℕ
+plainBlock = withWord 127 (plainCheckWord 1 (firstWords 127 words)) block
+
 plainBlocks : List ℕ
 plainBlocks = agreeing ++ withWord 127 (plainCheckWord 2 (firstWords 127 words)) (drop 512 blocks)
 
--- One word altered: 9 becomes 8. Neighbours 2^31 apart, equal, and neither.
-check-examples : (blockCheckCall block 1 ≡ says true) × (blockCheckCall (withWord 4 8 block) 1 ≡ says false)
-    × (blockCheckCall (swapped 0 block) 1 ≡ says true) × (blockCheckCall (swapped 2 block) 1 ≡ says true)
-    × (blockCheckCall (swapped 1 block) 1 ≡ says false)
+-- The check of each, and of what the statements speak of, computed.
+computed : (blockCheckCall block 1 ≡ says true) × (blockCheckCall (withWord 4 8 block) 1 ≡ says false) × (blockCheckCall (withWord 127 0 block) 1 ≡ says false)
+    × (blockCheckCall (swapped 0 block) 1 ≡ says true) × (blockCheckCall (swapped 2 block) 1 ≡ says true) × (blockCheckCall (swapped 1 block) 1 ≡ says false)
+    × (blockCheckCall lastBlock 1 ≡ says true) × (blockCheckCall (swapped 125 lastBlock) 1 ≡ says false)
     × (blockCheckCall plainBlock 1 ≡ says false) × (blockCheckCall agreeing 1 ≡ says true)
-unfolding words block plainBlock agreeing writeBlocks firstWords blockBytes flatMap wordBytes blockCheckCall blockCheck blockGood wordsOf wordAt checkWord
-    weighted outcome andThen result says wordIn withWord swapped unseen plainCheckWord sumsAgree
+unfolding words one block lastBlock plainBlock agreeing writeBlocks firstWords blockBytes flatMap wordBytes blockCheckCall blockCheck blockGood wordsOf wordAt
+    checkWord weighted outcome andThen result says wordIn withWord swapped plainCheckWord
+computed = (refl, refl, refl, refl, refl, refl, refl, refl, refl, refl)
+
+-- The same by the statements: one word altered, 9 to 8 and the check word; neighbours 2^31 apart, equal, and neither; the plain sum.
+check-examples : (blockCheckCall (withWord 4 8 block) 1 ≡ says false) × (blockCheckCall (withWord 127 0 block) 1 ≡ says false)
+    × (blockCheckCall (swapped 0 block) 1 ≡ says true) × (blockCheckCall (swapped 2 block) 1 ≡ says true) × (blockCheckCall (swapped 1 block) 1 ≡ says false)
+    × (blockCheckCall (swapped 125 lastBlock) 1 ≡ says false)
+    × (blockCheckCall plainBlock 1 ≡ says false) × (blockCheckCall agreeing 1 ≡ says true)
+unfolding words one block lastBlock plainBlock agreeing writeBlocks firstWords blockBytes flatMap wordBytes blockCheckCall blockCheck blockGood wordsOf wordAt
+    checkWord weighted outcome andThen result says wordIn withWord swapped unseen plainCheckWord sumsAgree
 check-examples =
-    let b = written-bytes 1 0 words in (
-      refl,
+    let b = written-bytes 1 0 words in
+    let l = written-bytes 1 0 (one 126) in (
       check-sees .altered block 1 4 8 b refl (omega arith) (omega arith, λ e. omega arith),
+      check-sees .altered block 1 127 0 b refl (omega arith) (omega arith, λ e. omega arith),
       check-sees .neighbours block 1 0 b refl (omega arith),
       check-sees .neighbours block 1 2 b refl (omega arith),
       check-sees .neighbours block 1 1 b refl (omega arith),
+      check-sees .neighbours lastBlock 1 125 l refl (omega arith),
       check-sees .plain plainBlock 1 refl refl,
       check-sees .plain agreeing 1 refl refl,
     )
 
--- The same in the second of two blocks, read into 300 words.
-reader-examples : Accepted (readerCall blocks (300 ∷ []))
-    × (readerCall (withWord 132 8 blocks) (300 ∷ []) ≡ outcome [] (300 ∷ []) (refused 2 1))
-    × Accepted (readerCall (swapped 128 blocks) (300 ∷ []))
+-- In the second of two blocks, read into 300 words: one word altered; neighbours 2^31 apart, equal, and neither.
+reader-examples : (readerCall (withWord 132 8 blocks) (300 ∷ []) ≡ outcome [] (300 ∷ []) (refused 2 1))
+    × Accepted (readerCall (swapped 128 blocks) (300 ∷ [])) × Accepted (readerCall (swapped 130 blocks) (300 ∷ []))
     × (readerCall (swapped 129 blocks) (300 ∷ []) ≡ outcome [] (300 ∷ []) (refused 2 1))
 unfolding words blocks writeBlocks firstWords blockBytes flatMap wordBytes readerCall badLength needs readBlocks blockGood wordsOf wordAt checkWord
     weighted outcome andThen result wordIn withWord swapped unseen
 reader-examples =
     let b = written-bytes 2 0 (firstWords 127 words ++ words) in (
-      refl,
       reader-sees .altered blocks 300 1 4 8 b refl (omega arith) (omega arith) (omega arith, λ e. omega arith),
       reader-sees .neighboursUnseen blocks 300 1 0 b refl (omega arith) (omega arith) refl,
+      reader-sees .neighboursUnseen blocks 300 1 2 b refl (omega arith) (omega arith) refl,
       reader-sees .neighbours blocks 300 1 1 b refl (omega arith) (omega arith) refl,
     )
 
 -- The second block's sums do not agree; the only block's do.
-plain-examples : (readerCall plainBlocks (300 ∷ []) ≡ outcome [] (300 ∷ []) (refused 2 1)) × Accepted (readerCall agreeing (127 ∷ []))
+plain-examples : (readerCall plainBlocks (300 ∷ []) ≡ outcome [] (300 ∷ []) (refused 2 1))
+    × (sumsAgree 1 agreeing ≡ true) × Accepted (readerCall agreeing (127 ∷ []))
 unfolding words blocks agreeing plainBlocks writeBlocks firstWords blockBytes flatMap wordBytes badLength readerCall needs readBlocks blockGood wordsOf
     wordAt checkWord weighted outcome andThen result wordIn withWord plainCheckWord sumsAgree
 plain-examples = (
-  reader-sees .plain plainBlocks 300 1 refl (omega arith) (omega arith) under first refl,
+  reader-sees .plain plainBlocks 300 1 refl (omega arith) (omega arith) first refl refl,
+  reader-sees .plainAccepted agreeing 127 0 refl (omega arith) refl,
   reader-sees .plainUnseen agreeing 127 refl (omega arith) only,
 )
   where
-    under : (i : ℕ) → i < length plainBlocks / 512 → UnderPlain (suc i) (drop (512 * i) plainBlocks)
-    under = two (λ (i : ℕ). UnderPlain (suc i) (drop (512 * i) plainBlocks)) refl refl
-
-    first : (i : ℕ) → i < 1 → sumsAgree (suc i) (drop (512 * i) plainBlocks) ≡ true
-    first i h = let z : 0 ≡ i = omega arith in subst (λ (i : ℕ). sumsAgree (suc i) (drop (512 * i) plainBlocks) ≡ true) z refl
+    first : (i : ℕ) → i < 1 → blockGood (suc i) (drop (512 * i) plainBlocks) ≡ true
+    first i h = let z : 0 ≡ i = omega arith in subst (λ (i : ℕ). blockGood (suc i) (drop (512 * i) plainBlocks) ≡ true) z refl
 
     only : (i : ℕ) → i < length agreeing / 512 → UnderPlain (suc i) (drop (512 * i) agreeing) × (sumsAgree (suc i) (drop (512 * i) agreeing) ≡ true)
     only i h =

@@ -8,7 +8,7 @@ use lib.ListN.{length, drop}
 use Rattle.slices.specs.Putting.{put}
 use Rattle.semantics.specs.Answer.{refused}
 use Rattle.semantics.specs.Lists.{All}
-use Rattle.semantics.specs.Block.{wordBytes, wordAt, wordsOf, checkWord, badLength}
+use Rattle.semantics.specs.Block.{wordBytes, wordAt, wordsOf, checkWord, blockGood, badLength}
 use Rattle.semantics.specs.Call.{Outcome, Accepted, outcome, result, blockCheckCall, readerCall}
 
 abbrev pub Bytes : List ℕ → Type 0
@@ -59,8 +59,9 @@ pub record CheckSees : Type 0 where
   pub plain : (bs : List ℕ) (number : ℕ) → length bs ≡ 512 → UnderPlain number bs → blockCheckCall bs number ≡ says (sumsAgree number bs)
 
 -- What the reader accepted into an output of some length, read again into one of that length: with a word of block k, counted from 0, altered; with two
--- neighbours in it exchanged, seen and unseen. "Blocks under the old sum are refused with 2 unless both sums agree": whole blocks, not too many and with room for
--- their words, all under the plain sum, of which block k is the first whose sums do not agree; and where they agree in all.
+-- neighbours in it exchanged, seen and unseen. "Blocks under the old sum are refused with 2 unless both sums agree": of whole blocks, not too many and with room
+-- for their words, block k is the first that is not good, because it is under the plain sum and its sums do not agree; in a block under the plain sum that was
+-- accepted they agree; and where all blocks are under it and their sums agree, they are accepted.
 pub record ReaderSees : Type 0 where
   pub altered : (bs : List ℕ) (out k j w : ℕ) → Bytes bs → Accepted (readerCall bs (out ∷ [])) → k < length bs / 512 → j < 128 → OtherWord (128 * k + j) w bs
       → readerCall (withWord (128 * k + j) w bs) (out ∷ []) ≡ outcome [] (out ∷ []) (refused 2 k)
@@ -71,9 +72,11 @@ pub record ReaderSees : Type 0 where
       → unseen (wordIn (128 * k + i) bs) (wordIn (suc (128 * k + i)) bs) ≡ true
       → Accepted (readerCall (swapped (128 * k + i) bs) (out ∷ []))
   pub plain : (bs : List ℕ) (out k : ℕ) → badLength (length bs) ≡ false → 127 * (length bs / 512) ≤ out → k < length bs / 512
-      → ((i : ℕ) → i < length bs / 512 → UnderPlain (suc i) (drop (512 * i) bs))
-      → ((i : ℕ) → i < k → sumsAgree (suc i) (drop (512 * i) bs) ≡ true) → sumsAgree (suc k) (drop (512 * k) bs) ≡ false
+      → ((i : ℕ) → i < k → blockGood (suc i) (drop (512 * i) bs) ≡ true)
+      → UnderPlain (suc k) (drop (512 * k) bs) → sumsAgree (suc k) (drop (512 * k) bs) ≡ false
       → readerCall bs (out ∷ []) ≡ outcome [] (out ∷ []) (refused 2 k)
+  pub plainAccepted : (bs : List ℕ) (out k : ℕ) → Accepted (readerCall bs (out ∷ [])) → k < length bs / 512
+      → UnderPlain (suc k) (drop (512 * k) bs) → sumsAgree (suc k) (drop (512 * k) bs) ≡ true
   pub plainUnseen : (bs : List ℕ) (out : ℕ) → badLength (length bs) ≡ false → 127 * (length bs / 512) ≤ out
       → ((i : ℕ) → i < length bs / 512 → UnderPlain (suc i) (drop (512 * i) bs) × (sumsAgree (suc i) (drop (512 * i) bs) ≡ true))
       → Accepted (readerCall bs (out ∷ []))
