@@ -1,7 +1,7 @@
 -- Laws of words, sums and checks. Assumes nothing.
 use mathlib.Core.Path.{_≡_, refl, sym, ap, _∙_}
-use mathlib.Core.Bool.{Bool, true, false, cond}
-use mathlib.Core.List.{List, [], _∷_}
+use mathlib.Core.Bool.{Bool, true, false}
+use mathlib.Core.List.{List}
 use Prim.Native.Nat.{ℕ, suc, _+_, _*_, _-_, _%_, _≤_, _<_}
 use native.Mathlib.Omega.{arith}
 use native.Mathlib.Nat.{add-zero, sub-zero}
@@ -9,10 +9,12 @@ use native.Mathlib.Numerals.{add-one}
 use lib.Dec.{eqb}
 use lib.ListN.{length, getD, drop}
 use lib.Seq.{getD-drop, drop-drop}
-use borrow.Author.Tests.{eq-eqb, ne-eqb}
+use borrow.Author.Tests.{ne-eqb}
 use Rattle.semantics.specs.Answer.{andThen}
 use Rattle.semantics.specs.Block.{wordAt, wordsOf, weighted, checkWord, blockGood, blockCheck}
 use Rattle.semantics.specs.Call.{outcome, paddedAll, result, blockCheckCall}
+use Rattle.semantics.specs.BlockCheck.{says}
+use Rattle.semantics.proofs.BlockCheck.{check-says}
 use Rattle.block.specs.declared.words.Column.{Column}
 use Rattle.block.specs.declared.BlockChecked.{BlockChecked}
 use Rattle.block.specs.declared.BlockChecked.the-variants.{Yes, No, Refused}
@@ -131,10 +133,10 @@ answerOf true = Yes
 answerOf false = No
 
 pub length-right : (number : ℕ) (bs : List ℕ) {t : Bool} → length bs ≡ 512 → t ≡ blockGood number bs → blockOutcome (answerOf t) ≡ blockCheckCall bs number
-unfolding blockCheckCall outcome andThen result paddedAll blockCheck
-length-right number bs {t} h e = rw (eq-eqb (length bs) 512 h, ← e) (go t)
+unfolding says outcome result paddedAll
+length-right number bs {t} h e = go t ∙ sym (check-says bs number h (sym e))
   where
-    go : (t : Bool) → blockOutcome (answerOf t) ≡ outcome [] [] (result [] (cond t 1 0 ∷ []))
+    go : (t : Bool) → blockOutcome (answerOf t) ≡ says t
     go true = refl
     go false = refl
 

@@ -13,8 +13,9 @@ use borrow.Author.Tests.{ltb-false}
 use Rattle.semantics.specs.Answer.{Answer, good, refused, andThen}
 use Rattle.semantics.specs.Block.{wordAt, wordsOf, blockGood, badLength, readBlocks}
 use Rattle.semantics.specs.Call.{Result, Outcome, outcome, result, readerCall}
+use Rattle.semantics.proofs.Blocks.{reader-is}
 use Rattle.semantics.proofs.Basics.{cond-true, cond-false}
-use Rattle.semantics.proofs.Calls.{needs-met, needs-short}
+use Rattle.semantics.proofs.Calls.{needs-short}
 use Rattle.answers.specs.declared.Written.{Written}
 use Rattle.answers.specs.declared.Written.the-variants.{Words, Refused}
 use Rattle.answers.specs.Replies.{restZeroed}
@@ -163,6 +164,4 @@ module _ (bs o : List ℕ) {lent : ℕ} (l : length o ≡ lent) where
 
     pub blocks-read : (r : Written) → 127 * (length bs / 512) ≤ lent → restZeroed r o ≡ wordsOutcome lent (readBlocks (length bs / 512) 0 bs)
         → restZeroed r o ≡ readerCall bs (lent ∷ [])
-    unfolding readerCall
-    blocks-read r h e =
-        e ∙ ap (outcome [] (lent ∷ [])) (sym (needs-met 15 _ lent reads h) ∙ sym (cond-false (badLength (length bs)) _ _ (sym b)))
+    blocks-read r h e = e ∙ sym (reader-is bs lent (sym b) h)

@@ -13,6 +13,7 @@ use Rattle.semantics.specs.Answer.{good}
 use Rattle.semantics.specs.Sheet.{Sheet, encode, lengthOf}
 use Rattle.semantics.specs.Check.{check}
 use Rattle.semantics.specs.Block.{wordBytes, wordsOf, checkWord, firstWords, blockBytes, writeBlocks, blocksFor}
+use Rattle.semantics.proofs.Sorting.{all-append}
 use Rattle.semantics.proofs.Blocks.{Words, words-back, first-length, first-add, written-length}
 use Rattle.sheet.specs.declared.Head.{Head}
 use Rattle.sheet.proofs.Answers.{headOf, words-found}
@@ -25,10 +26,6 @@ word-put w o bs at h e =
     let bytes : List ℕ → List ℕ = λ b. getD b 0 0 ∷ getD b 1 0 ∷ getD b 2 0 ∷ getD b 3 0 ∷ [] in
     ap (take (at + 4)) (stores-put o at (getD bs 0 0) (getD bs 1 0 ∷ getD bs 2 0 ∷ getD bs 3 0 ∷ []) h)
     ∙ put-front o at (bytes bs) h ∙ ap (λ (b : List ℕ). take at o ++ bytes b) e
-
-words-append : (us vs : List ℕ) → Words us → Words vs → Words (us ++ vs)
-words-append [] vs h k = k
-words-append (u ∷ us) vs h k = (h .0, words-append us vs (h .1) k)
 
 first-one : (ws : List ℕ) → firstWords 1 ws ≡ getD ws 0 0 ∷ []
 unfolding firstWords
@@ -77,7 +74,7 @@ module _ {ws o o₀ : List ℕ} {from at i : ℕ} (r : WordsPut ws o o₀ from a
             ∙ append-assoc (take at o₀) (flatMap wordBytes us) (wordBytes w)
             ∙ ap (λ (u : List ℕ). take at o₀ ++ (flatMap wordBytes us ++ u)) (sym (append-nil (wordBytes w)))
             ∙ ap (λ (u : List ℕ). take at o₀ ++ u) (sym (flat-append wordBytes us (w ∷ [])) ∙ ap (flatMap wordBytes) (sym s));
-        words = subst Words (sym s) (words-append us (w ∷ []) (r .words) (b, tt));
+        words = subst Words (sym s) (all-append (λ (w : ℕ). w < 4294967296) us (w ∷ []) (r .words) (b, tt));
       }
 
   -- All are written, and read back they are the same.

@@ -7,6 +7,7 @@ use lib.ListN.{length, getD, take, drop, length-append}
 use lib.Seq.{drop-cons}
 use Rattle.slices.proofs.Lists.{flat-append}
 use Rattle.semantics.specs.Lists.{All}
+use Rattle.semantics.proofs.Lists.{all-front, all-back}
 use Rattle.records.specs.declared.Interaction.{Interaction}
 use Rattle.records.specs.Access.{wordsFrom, eachWords, RootsInside, AllRootsInside}
 use Rattle.records.proofs.Takings.{Taken, taken-words, taken-references}
@@ -16,14 +17,6 @@ use Rattle.group.specs.Grouped.{tallyAll, talliedTotal, tallied, Rows, CountedM
 use Rattle.grouping.specs.Families.{ToTally, interactionIn}
 use Rattle.group.proofs.Tallies.{tallyAll-append, tallyAll-grows, total-all}
 use Rattle.group.proofs.PoolLists.{nonZero-length}
-
-pub all-front : {X : Type 0} (Q : X → Type 0) (xs ys : List X) → All Q (xs ++ ys) → All Q xs
-all-front Q [] ys h = tt
-all-front Q (x ∷ xs) ys h = (h .0, all-front Q xs ys (h .1))
-
-pub all-back : {X : Type 0} (Q : X → Type 0) (xs ys : List X) → All Q (xs ++ ys) → All Q ys
-all-back Q [] ys h = h
-all-back Q (x ∷ xs) ys h = all-back Q xs ys (h .1)
 
 -- The next of the words that a loop goes through, and the end.
 pub part-next : (ws : List ℕ) (at count j : ℕ) → j < count → at + count ≤ length ws

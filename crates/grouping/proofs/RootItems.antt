@@ -7,6 +7,7 @@ use native.Mathlib.Omega.{arith}
 use native.Mathlib.Numerals.{add-one}
 use lib.ListN.{length, getD, drop}
 use Rattle.slices.proofs.Lists.{flat-append}
+use Rattle.semantics.proofs.Lists.{all-front, all-back}
 use Rattle.semantics.specs.Arithmetic.{prime}
 use Rattle.semantics.specs.Answer.{good}
 use Rattle.semantics.specs.Sheet.{Interaction, interactionWords}
@@ -28,7 +29,7 @@ use Rattle.group.proofs.Tallies.{varsOf}
 use Rattle.group.proofs.Placements.{room-front}
 use Rattle.group.proofs.PoolLists.{items-vars}
 use Rattle.grouping.proofs.Finished.{items-label}
-use Rattle.grouping.proofs.NamedLists.{all-front, all-back, part-next, part-first, part-one, part-end, Rest, rest-start, rest-next, rest-more}
+use Rattle.grouping.proofs.NamedLists.{part-next, part-first, part-one, part-end, Rest, rest-start, rest-next, rest-more}
 use Rattle.records.proofs.Takings.{Taken, count-taken, fields-taken, taken-words, taken-references}
 
 module _ (list : ℕ → List Monomial) where

@@ -17,6 +17,7 @@ use Rattle.semantics.specs.Walk.{member}
 use Rattle.semantics.specs.Call.{Result, Outcome, Accepted, outcome, needs, result, blockCheckCall, readerCall}
 use Rattle.semantics.specs.BlockCheck.{Bytes, wordIn, withWord, swapped, unseen, UnderPlain, sumsAgree, says, OtherWord, CheckSees, ReaderSees}
 use Rattle.semantics.proofs.Basics.{cond-true, cond-false}
+use Rattle.semantics.proofs.Lists.{all-drop, all-at}
 use Rattle.semantics.proofs.Calls.{accepted}
 use Rattle.semantics.proofs.Encoding.{refused≢good}
 use Rattle.semantics.proofs.Acceptance.{accepted-result, then-result, needs-result}
@@ -62,11 +63,6 @@ same-word i x y s t e m h k = go (leb x y) refl
     go false b = sym (same-above i y x t s (omega (arith, leb-false x y b)) (sym e) (sym m) h)
 
 -- The words of bytes, one by one.
-byte-small : (bs : List ℕ) (k : ℕ) → Bytes bs → getD bs k 0 < 256
-byte-small [] k h = omega arith
-byte-small (b ∷ bs) zero h = h .0
-byte-small (b ∷ bs) (suc k) h = byte-small bs k (h .1)
-
 word-bytes : (j : ℕ) (bs : List ℕ)
     → wordIn j bs ≡ getD bs (4 * j + 0) 0 + 256 * getD bs (4 * j + 1) 0 + 65536 * getD bs (4 * j + 2) 0 + 16777216 * getD bs (4 * j + 3) 0
 unfolding wordIn wordAt
@@ -74,7 +70,7 @@ word-bytes j bs = rw (getD-drop (4 * j) bs 0 0, getD-drop (4 * j) bs 1 0, getD-d
 
 word-small : (j : ℕ) (bs : List ℕ) → Bytes bs → wordIn j bs < 4294967296
 word-small j bs h =
-    let b : (k : ℕ) → getD bs k 0 < 256 = λ k. byte-small bs k h in
+    let b : (k : ℕ) → getD bs k 0 < 256 = λ k. all-at (λ (b : ℕ). b < 256) bs k 0 h (omega arith) in
     omega (arith, word-bytes j bs, b (4 * j + 0), b (4 * j + 1), b (4 * j + 2), b (4 * j + 3))
 
 words-length : (n : ℕ) (bs : List ℕ) → length (wordsOf n bs) ≡ n
@@ -145,9 +141,6 @@ alike-good number bs bs′ a =
 record Altered (j w : ℕ) (bs bs′ : List ℕ) : Type 0 where
   pub here : wordIn j bs′ ≡ w
   pub others : (i : ℕ) → i < 128 → (i ≡ j → ⊥) → wordIn i bs′ ≡ wordIn i bs
-
-word-altered-in : (j w : ℕ) (bs : List ℕ) → 4 * j + 4 ≤ length bs → w < 4294967296 → Altered j w bs (withWord j w bs)
-word-altered-in j w bs l s = record { here = with-same j w bs l s; others = λ i m n. with-other j w bs l i n }
 
 -- The sum of two lists of words that differ in one word.
 sum-differs : (i j : ℕ) (us vs : List ℕ) → length us ≡ length vs → j < length us → ((k : ℕ) → k < length us → (k ≡ j → ⊥) → getD vs k 0 ≡ getD us k 0)
@@ -263,7 +256,7 @@ module _ (number i : ℕ) (bs mid bs′ : List ℕ) (b : Bytes bs) (g : blockGoo
       ∙ twice-same x y (sumOf127 bs + number) (sumOf127 bs′ + number) sum-swapped (word-small i bs b) (word-small (suc i) bs b)
 
 -- The block check alone, of 512 bytes.
-check-says : (bs : List ℕ) (number : ℕ) {t : Bool} → length bs ≡ 512 → blockGood number bs ≡ t → blockCheckCall bs number ≡ says t
+pub check-says : (bs : List ℕ) (number : ℕ) {t : Bool} → length bs ≡ 512 → blockGood number bs ≡ t → blockCheckCall bs number ≡ says t
 unfolding blockCheckCall blockCheck says andThen
 check-says bs number l g = rw (eq-eqb (length bs) 512 l, g)
 
@@ -419,11 +412,6 @@ module _ (bs bs′ : List ℕ) (out k : ℕ) (e : length bs′ ≡ length bs) (a
       go i m true q = let z : i ≡ k = eqb-true i k q in ap (λ (n : ℕ). blockGood (suc n) (drop (512 * n) bs′)) z ∙ g
       go i m false q = kept i m (eqb-false i k q)
 
-bytes-drop : (n : ℕ) (bs : List ℕ) → Bytes bs → Bytes (drop n bs)
-bytes-drop zero bs h = h
-bytes-drop (suc n) [] h = tt
-bytes-drop (suc n) (b ∷ bs) h = bytes-drop n bs (h .1)
-
 -- What is written are bytes.
 word-are-bytes : (w : ℕ) (bs : List ℕ) → Bytes bs → Bytes (wordBytes w ++ bs)
 unfolding wordBytes
@@ -448,38 +436,31 @@ plain-good : (number : ℕ) (bs : List ℕ) → UnderPlain number bs → blockGo
 unfolding sumsAgree
 plain-good number bs u = good-is number bs ∙ ap (λ (n : ℕ). eqb n (checkWord number (wordsOf 127 bs))) u
 
--- The statements of the block check alone.
+-- The statements of the block check alone: the block is behind no other.
 module _ (bs : List ℕ) (number : ℕ) (b : Bytes bs) (y : blockCheckCall bs number ≡ says true) where
   long : length bs ≡ 512
   long = says-yes bs number y .0
 
+  changed : (j w : ℕ) (us : List ℕ) → length us ≡ 512 → j < 128 → w < 4294967296 → Altered j w us (withWord j w us)
+  changed j w us l h s = block-altered 0 j j w us h (omega arith) (omega arith) s
+
+  changed-length : (j w : ℕ) (us : List ℕ) → length us ≡ 512 → j < 128 → length (withWord j w us) ≡ 512
+  changed-length j w us l h = with-length j w us (omega arith) ∙ l
+
   altered : (j w : ℕ) → j < 128 → OtherWord j w bs → blockCheckCall (withWord j w bs) number ≡ says false
   altered j w h o =
-      let l : 4 * j + 4 ≤ length bs = omega (arith, long) in
-      check-says (withWord j w bs) number (with-length j w bs l ∙ long)
-      (good-altered number j w bs (withWord j w bs) b (says-yes bs number y .1) h o (word-altered-in j w bs l (o .0)))
+      check-says (withWord j w bs) number (changed-length j w bs long h)
+      (good-altered number j w bs (withWord j w bs) b (says-yes bs number y .1) h o (changed j w bs long h (o .0)))
 
   neighbours : (i : ℕ) → i ≤ 125 → blockCheckCall (swapped i bs) number ≡ says (unseen (wordIn i bs) (wordIn (suc i) bs))
   unfolding swapped
   neighbours i h =
-      check-says (swapped i bs) number (with-length (suc i) x mid l′ ∙ with-length i y′ bs l ∙ long)
-      (good-swapped number i bs mid (swapped i bs) b (says-yes bs number y .1) h (word-altered-in i y′ bs l (word-small (suc i) bs b))
-      (word-altered-in (suc i) x mid l′ (word-small i bs b)))
-    where
-      x : ℕ
-      x = wordIn i bs
-
-      y′ : ℕ
-      y′ = wordIn (suc i) bs
-
-      mid : List ℕ
-      mid = withWord i y′ bs
-
-      l : 4 * i + 4 ≤ length bs
-      l = omega (arith, long)
-
-      l′ : 4 * suc i + 4 ≤ length mid
-      l′ = omega (arith, long, with-length i y′ bs l)
+      let mid : List ℕ = withWord i (wordIn (suc i) bs) bs in
+      let m : length mid ≡ 512 = changed-length i (wordIn (suc i) bs) bs long (omega arith) in
+      check-says (swapped i bs) number (changed-length (suc i) (wordIn i bs) mid m (omega arith))
+      (good-swapped number i bs mid (swapped i bs) b (says-yes bs number y .1) h
+      (changed i (wordIn (suc i) bs) bs long (omega arith) (word-small (suc i) bs b))
+      (changed (suc i) (wordIn i bs) mid m (omega arith) (word-small i bs b)))
 
 pub check-sees : CheckSees
 check-sees = record {
@@ -497,7 +478,7 @@ module _ (bs : List ℕ) (out k : ℕ) (b : Bytes bs) (a : Accepted (readerCall 
   good-before = accepted-goods bs out a .2 k h
 
   block-bytes : Bytes (block bs)
-  block-bytes = bytes-drop (512 * k) bs b
+  block-bytes = all-drop (λ (b : ℕ). b < 256) (512 * k) bs b
 
   whole : 512 * k + 512 ≤ length bs
   whole = omega arith

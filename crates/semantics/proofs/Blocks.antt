@@ -10,19 +10,20 @@ use lib.Seq.{drop-at, take-nil, take-all, drop-nil}
 use borrow.Author.Tests.{eq-eqb, ne-eqb, le-ltb}
 use Rattle.slices.proofs.Lists.{flat-length}
 use Rattle.semantics.specs.Answer.{Answer, good, andThen}
+use Rattle.semantics.specs.Lists.{All}
 use Rattle.semantics.specs.Sheet.{Sheet, Inside, encode, lengthOf}
 use Rattle.semantics.specs.Check.{check}
 use Rattle.semantics.specs.Call.{Result, Accepted, outcome, handedBack, needs, result, readerCall, onSheet, writerCall}
 use Rattle.semantics.specs.Block.{wordBytes, wordAt, wordsOf, checkWord, blockGood, badLength, readBlocks, blockBytes, firstWords, writeBlocks, blocksFor}
 use Rattle.semantics.proofs.Basics.{cond-true, cond-false}
+use Rattle.semantics.proofs.Lists.{all-front, all-drop}
 use Rattle.semantics.proofs.Places.{place-head}
 use Rattle.semantics.proofs.Encoding.{check-sound, check-complete, check-inside, sheet-length, length-limit}
 use Rattle.semantics.proofs.Calls.{needs-met, handed-back, accepted}
 
 -- Each is a word of 32 bits.
 abbrev pub Words : List ℕ → Type 0
-Words [] = Unit {0}
-Words (w ∷ ws) = (w < 4294967296) × Words ws
+Words ws = All (λ (w : ℕ). w < 4294967296) ws
 
 digits : (w x y z a b c d : ℕ) → a + 256 * x ≡ w → b + 256 * y ≡ x → c + 256 * z ≡ y → d ≡ z
     → a + 256 * b + 65536 * c + 16777216 * d ≡ w
@@ -76,11 +77,6 @@ words-first zero ws h = rw (first-zero ws) tt
 words-first (suc n) [] h = rw (first-nil n) (omega arith, words-first n [] tt)
 words-first (suc n) (w ∷ ws) h = rw (first-cons n w ws) (h .0, words-first n ws (h .1))
 
-words-drop : (n : ℕ) (ws : List ℕ) → Words ws → Words (drop n ws)
-words-drop zero ws h = h
-words-drop (suc n) [] h = tt
-words-drop (suc n) (w ∷ ws) h = words-drop n ws (h .1)
-
 -- A block that was written: its length, its words, and its check.
 pub block-length : (number : ℕ) (ws : List ℕ) → length (blockBytes number ws) ≡ 4 * length ws + 4
 unfolding blockBytes wordBytes
@@ -123,7 +119,7 @@ read-written (suc n) number ws h =
     let bs : List ℕ = writeBlocks n (suc number) (drop 127 ws) in
     let e : length us ≡ 127 = first-length 127 ws in
     let g : Words us = words-first 127 ws h in
-    let ih = read-written n (suc number) (drop 127 ws) (words-drop 127 ws h) in
+    let ih = read-written n (suc number) (drop 127 ws) (all-drop (λ (w : ℕ). w < 4294967296) 127 ws h) in
     cond-true (blockGood (suc number) (blockBytes (suc number) us ++ bs)) _ _ (block-good (suc number) us bs e g)
     ∙ (λ i. andThen (readBlocks n (suc number) (block-rest (suc number) 127 us e bs i)) (λ ws. good (block-words (suc number) 127 us e bs g i ++ ws)))
     ∙ ap (λ (a : Answer (List ℕ)). andThen a (λ ws. good (us ++ ws))) ih
@@ -134,14 +130,10 @@ pub first-whole : (n : ℕ) (ws : List ℕ) → length ws ≤ n → firstWords n
 unfolding firstWords
 first-whole n ws h = ap (λ (l : List ℕ). l ++ replicate (n - length ws) 0) (take-all n ws h)
 
-words-front : (us vs : List ℕ) → Words (us ++ vs) → Words us
-words-front [] vs h = tt
-words-front (u ∷ us) vs h = (h .0, words-front us vs (h .1))
-
 pub words-encode : (p : ℕ) (ws : List ℕ) (s : Sheet) → check p ws ≡ good s → Words ws → Words (encode s)
 words-encode p ws s h w =
     let c = check-sound p ws s h in
-    words-front (encode s) (replicate (c .1 .0) 0) (subst Words (c .1 .2) w)
+    all-front (λ (w : ℕ). w < 4294967296) (encode s) (replicate (c .1 .0) 0) (subst Words (c .1 .2) w)
 
 -- A whole number of blocks, one or more and at most 710, is a length that the reader takes.
 length-good : (n : ℕ) → 1 ≤ n → n ≤ 710 → badLength (512 * n) ≡ false

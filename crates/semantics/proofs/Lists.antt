@@ -6,7 +6,28 @@ use native.Mathlib.Omega.{arith}
 use native.Mathlib.Nat.{zero-add}
 use lib.ListN.{length, getD, drop}
 use lib.Seq.{drop-cons}
+use Rattle.semantics.specs.Lists.{All}
 use Rattle.semantics.specs.Sheet.{Each}
+
+-- What all elements have: those of a part, and the one at a place.
+module _ {X : Type 0} (P : X → Type 0) where
+  pub all-front : (xs ys : List X) → All P (xs ++ ys) → All P xs
+  all-front [] ys h = tt
+  all-front (x ∷ xs) ys h = (h .0, all-front xs ys (h .1))
+
+  pub all-back : (xs ys : List X) → All P (xs ++ ys) → All P ys
+  all-back [] ys h = h
+  all-back (x ∷ xs) ys h = all-back xs ys (h .1)
+
+  pub all-drop : (n : ℕ) (xs : List X) → All P xs → All P (drop n xs)
+  all-drop zero xs h = h
+  all-drop (suc n) [] h = tt
+  all-drop (suc n) (x ∷ xs) h = all-drop n xs (h .1)
+
+  pub all-at : (xs : List X) (i : ℕ) (d : X) → All P xs → P d → P (getD xs i d)
+  all-at [] i d h k = k
+  all-at (x ∷ xs) zero d h k = h .0
+  all-at (x ∷ xs) (suc i) d h k = all-at xs i d (h .1) k
 
 -- What each element has, the element at a place has.
 pub each-at : {X : Type 0} (P : ℕ → X → Type 0) (n : ℕ) (xs : List X) (i : ℕ) (d : X) → Each P n xs → i < length xs → P (n + i) (getD xs i d)
