@@ -1,9 +1,9 @@
 -- Laws of values below the modulus, of reduced words, and of the signed reading. Assumes nothing.
 use mathlib.Core.Path.{_≡_, refl, sym, subst, _∙_}
-use Prim.Native.Nat.{ℕ, suc, _+_, _*_, _-_, _/_, _%_, _<_, _≤_, _^_}
+use Prim.Native.Nat.{ℕ, suc, _+_, _*_, _-_, _/_, _%_, _<_, _≤_}
 use native.Mathlib.Omega.{arith}
-use native.Mathlib.Nat.{mod-lt, mod-eq-of-lt, lt-of-le-of-lt, mul-le-mul}
-use lib.Dec.{lit<, ltb}
+use native.Mathlib.Nat.{mod-lt, mod-eq-of-lt}
+use lib.Dec.{ltb}
 use lib.IntN.{ℤ, pos, _-ℤ_}
 use mir.Syntax.{w64}
 use mir.Val.{SFits, toZ, ofZ}
@@ -11,11 +11,11 @@ use mir.Facts.{toZ-pos, toZ-ofZ}
 use borrow.Author.Tests.{le-leb, lt-leb}
 use Rattle.semantics.specs.Arithmetic.{prime, addM, subM, mulM, negM, signedOf, SignedRange}
 use Rattle.semantics.proofs.Basics.{by-test}
-use Rattle.semantics.proofs.Arithmetic.{mods, same-mod, under}
+use Rattle.semantics.proofs.Arithmetic.{mods, same-mod}
 use Rattle.semantics.proofs.Signs.{signed-range}
 
 -- a number below p that differs from x by a multiple of p is x's remainder
-remainder : (p r x k l : ℕ) → r < p → r + k * p ≡ x + l * p → r ≡ x % p
+pub remainder : (p r x k l : ℕ) → r < p → r + k * p ≡ x + l * p → r ≡ x % p
 remainder p r x k l h e = sym (mod-eq-of-lt h) ∙ same-mod p r x k l e
 
 module _ (p a : ℕ) (h : a < p) where
@@ -44,15 +44,7 @@ module _ (p a : ℕ) (h : a < p) where
   unfolding negM
   neg-some e = rw (mod-eq-of-lt h) (remainder p (p - a) (p - a) 0 0 (omega arith) refl)
 
--- a product of two words is below 2 ^ 64
-pub product-fits : (a b : ℕ) → a ≤ 4294967295 → b ≤ 4294967295 → a * b < 2 ^ 64
-product-fits a b ha hb = lt-of-le-of-lt (mul-le-mul ha hb) (lit< tt)
-
--- times 1 is the remainder, and remainders may be taken first
-pub mul-one : (p x : ℕ) → mulM p x 1 ≡ x % p
-unfolding mulM
-mul-one p x = under p (omega arith)
-
+-- remainders may be taken first
 pub add-rests : (p a b : ℕ) → addM p (a % p) (b % p) ≡ addM p a b
 unfolding addM
 add-rests p a b = simp mods
@@ -60,6 +52,10 @@ add-rests p a b = simp mods
 pub sub-rests : (p a b : ℕ) → subM p (a % p) (b % p) ≡ subM p a b
 unfolding subM
 sub-rests p a b = simp mods
+
+pub mul-rests : (p a b : ℕ) → mulM p (a % p) (b % p) ≡ mulM p a b
+unfolding mulM
+mul-rests p a b = simp mods
 
 pub neg-rest : (p a : ℕ) → negM p (a % p) ≡ negM p a
 unfolding negM

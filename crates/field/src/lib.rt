@@ -7,15 +7,14 @@ mod modular;
 
 const PRIME: u32 = 2013265921;
 
-// A word as a value; one below the prime is a value already.
+// 2^63 / PRIME, rounded down.
+const RECIPROCAL: u64 = 4581298446;
+
+// A word as a value.
 fn reduced(x: u32) -> u32
     ensures { λ r. ⌜ r ≡ x % prime ⌝ }
 {
-    if x < PRIME {
-        x
-    } else {
-        modular::mul(PRIME, x, 1)
-    }
+    modular::reduced(PRIME, x)
 }
 
 pub fn add(a: u32, b: u32) -> u32
@@ -39,7 +38,7 @@ pub fn neg(a: u32) -> u32
 pub fn mul(a: u32, b: u32) -> u32
     ensures { λ r. ⌜ r ≡ mulM prime a b ⌝ }
 {
-    modular::mul(PRIME, a, b)
+    modular::mul(PRIME, RECIPROCAL, reduced(a), reduced(b))
 }
 
 // A value up to half the prime is itself, and above that less the prime.

@@ -9,18 +9,15 @@ use openvm_stark_backend::air_builders::symbolic::SymbolicConstraintsDag;
 use plain::calls::Family;
 use plain::Sheet;
 
-use crate::measured::{as_fields, multiples, products_of_sums, realistic, EXPANDED};
+use crate::measured::{as_fields, multiples, products_of_sums, realistic, EXPANDED, SHEETS, SIZES};
 use crate::needs::{needs, FAMILIES};
 use crate::rattle::Ready;
 use crate::rng::Rng;
 use crate::rust;
 use crate::sheets::{Sized, SIZED};
 
-const SIZES: [usize; 3] = [50, 500, 4_096];
-
-/// Sheets of each shape and size, how often each is timed at least and at most, how long one timing takes at least, and after how
-/// long in all it is not timed more often.
-const SHEETS: u64 = 5;
+/// How often a sheet is timed at least and at most, how long one timing takes at least, and after how long in all it is not timed
+/// more often.
 const TIMINGS: (usize, usize) = (3, 15);
 const LONG_ENOUGH: Duration = Duration::from_micros(500);
 const IN_ALL: Duration = Duration::from_millis(300);

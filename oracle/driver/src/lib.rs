@@ -1,5 +1,6 @@
 //! Compares implementations of document 01 with the Rust that it refers to, and with each other.
 
+pub mod arithmetic;
 #[cfg(feature = "rattle")]
 pub mod bench;
 pub mod compare;
@@ -7,7 +8,6 @@ pub mod edges;
 pub mod examples;
 pub mod implementation;
 pub mod lists;
-#[cfg(feature = "rattle")]
 pub mod measured;
 pub mod needs;
 pub mod parts;

@@ -10,7 +10,7 @@ use driver::implementation::{Implementation, Plain};
 use driver::runs::{Run, STACK};
 use driver::sheets::SHAPES;
 use driver::table::{print_parts, Table};
-use driver::{parts, rust, sample, variables};
+use driver::{measured, parts, rust, sample, variables};
 use plain::calls::WORK;
 
 const USAGE: &str = "usage:
@@ -18,6 +18,7 @@ const USAGE: &str = "usage:
   driver examples                        the examples of document 01 and of the known differences, likewise
   driver sheetlist                       what sheetlist prints for standard input, by the plain Rust
   driver sample                          sheets of all shapes with the Rust's graphs and lists, and refusals
+  driver measured                        the sheets on which time is measured, and what to lend for them
   driver variables cases                 cases for the program variables, entries and variables around every bound
   driver variables answers               what the Rust answers to them
   driver variables compare PROGRAM [CASES] [SEED]   the program on these and on random cases, against the Rust";
@@ -38,6 +39,7 @@ fn main() -> ExitCode {
         (["examples"], ..) => Box::new(|| all_examples(&Plain)),
         (["sheetlist"], ..) => Box::new(list_input),
         (["sample"], ..) => Box::new(|| print_text(sample::sample())),
+        (["measured"], ..) => Box::new(|| print_text(measured::lines())),
         (["variables", "cases"], ..) => {
             Box::new(|| print_text(variables::input(&variables::edges())))
         }

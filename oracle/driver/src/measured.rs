@@ -1,13 +1,22 @@
-//! Sheets of a given size whose expansions are accepted: for measuring.
+//! The sheets on which time is measured: of a given size, with expansions that are accepted.
 
+use std::fmt::Write;
+
+use plain::calls::{Family, WORK};
 use plain::sheet::{
     ADD, CONSTANT, IS_FIRST_ROW, IS_LAST_ROW, IS_TRANSITION, MAIN, MUL, PREPROCESSED, SUB, VARIABLE,
 };
 use plain::{Interaction, Sheet};
 
+use crate::needs::needs;
 use crate::records::Records;
 use crate::rng::Rng;
-use crate::sheets::{bounded, Sized};
+use crate::sheets::{bounded, Sized, SIZED};
+
+pub const SIZES: [usize; 3] = [50, 500, 4_096];
+
+/// Sheets of each shape and size.
+pub const SHEETS: u64 = 5;
 
 /// Shapes of at most a given number of records.
 pub const EXPANDED: [Sized; 4] = [
@@ -196,4 +205,41 @@ pub fn multiples(count: usize, backward: bool) -> Sheet {
         interactions: vec![],
         records: records.0,
     }
+}
+
+/// The sheets on which the builder and the expansions are timed, a line each: the call, the shape, the size, the lengths to lend
+/// (scratch, then outputs) and the words.
+pub fn lines() -> String {
+    let mut text = String::new();
+    let build = |sheet: &Sheet| vec![sheet.records.len(), sheet.length()];
+    add_lines(&mut text, "build", &SIZED, build);
+    let expand = |family| {
+        move |sheet: &Sheet| {
+            let needs = needs(family, sheet);
+            let outputs = needs.outputs.expect("a sheet that is accepted");
+            [vec![WORK, needs.pool], outputs].concat()
+        }
+    };
+    let constraints = expand(Family::Constraints);
+    add_lines(&mut text, "expand_constraints", &EXPANDED, constraints);
+    let interactions = expand(Family::Interactions);
+    add_lines(&mut text, "expand_interactions", &EXPANDED, interactions);
+    text
+}
+
+fn add_lines(text: &mut String, call: &str, shapes: &[Sized], lent: impl Fn(&Sheet) -> Vec<usize>) {
+    for (name, make) in shapes {
+        for size in SIZES {
+            for seed in 1..=SHEETS {
+                let sheet = make(&mut Rng::new(seed), size);
+                let (lent, words) = (spaced(&lent(&sheet)), spaced(&sheet.encode()));
+                writeln!(text, "{call}\t{name}\t{size}\t{lent}\t{words}").expect("a string");
+            }
+        }
+    }
+}
+
+fn spaced<T: ToString>(numbers: &[T]) -> String {
+    let numbers: Vec<String> = numbers.iter().map(T::to_string).collect();
+    numbers.join(" ")
 }

@@ -4,6 +4,7 @@ use std::fmt::Debug;
 
 use plain::Sheet;
 
+use crate::arithmetic::{self, at_bounds, compare_operations, random_operations};
 use crate::compare::{
     compare_graph, compare_packing, compare_sheet, front, Case, COMPARED, GRAPHS, KNOWN, LEFT_OUT,
 };
@@ -89,6 +90,24 @@ pub fn single(under_test: &dyn Implementation, (seeds, first): Seeds) -> Part {
     Part {
         title: "packing, unpacking and the block check",
         kinds: single::kinds(),
+        table,
+    }
+}
+
+/// Sums, differences, products and negatives of values.
+pub fn operations(under_test: &dyn Implementation, (seeds, first): Seeds) -> Part {
+    let mut table = Table::default();
+    let at_bounds = compare_operations(under_test, &at_bounds());
+    add(&mut table, &"values at bounds", at_bounds);
+    let random = |table: &mut Table, seed| {
+        let operations = random_operations(&mut Rng::new(seed));
+        add(table, &seed, compare_operations(under_test, &operations));
+    };
+    let random = over_seeds(seeds, first, Table::default, random);
+    random.into_iter().for_each(|part| table.join(part));
+    Part {
+        title: "sums, differences, products and negatives of values",
+        kinds: arithmetic::kinds(),
         table,
     }
 }

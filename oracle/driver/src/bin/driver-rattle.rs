@@ -6,7 +6,7 @@ use std::thread;
 
 use driver::compare::LEFT_OUT;
 use driver::implementation::{Implementation, Plain};
-use driver::parts::{against_rust_part, at_edges, calls, expansions, graphs, single};
+use driver::parts::{against_rust_part, at_edges, calls, expansions, graphs, operations, single};
 use driver::rattle::Rattle;
 use driver::runs::STACK;
 use driver::table::{print_parts, Part};
@@ -17,6 +17,8 @@ const USAGE: &str = "usage:
                                         unless said otherwise, here and below
   driver-rattle single [SHEETS] [SEED]  packing, unpacking and the block check: the edges, and for each seed ten random records,
                                         ten numbers, and a block in ten states
+  driver-rattle operations [SHEETS] [SEED]  sums, differences, products and negatives of values, at bounds and random: folded constants
+                                        and coefficients, 48 in each sheet
   driver-rattle calls [SHEETS] [SEED]   the sheet calls, the builder and the expansions: eleven inputs of each sheet, good and broken
   driver-rattle edges                   the same calls at each bound
   driver-rattle graphs [SHEETS] [SEED]  the builder's graphs against the Rust's
@@ -43,6 +45,7 @@ fn main() -> ExitCode {
             print_all(vec![
                 against_rust_part(&Plain, seeds),
                 single(&Rattle, seeds),
+                operations(&Rattle, seeds),
                 calls(&Rattle, seeds),
                 at_edges(&Rattle),
                 graphs(&Rattle, seeds),
@@ -51,6 +54,9 @@ fn main() -> ExitCode {
         }),
         (Some("single"), _) if over_sheets => {
             Box::new(move || print_all(vec![single(&Rattle, seeds)]))
+        }
+        (Some("operations"), _) if over_sheets => {
+            Box::new(move || print_all(vec![operations(&Rattle, seeds)]))
         }
         (Some("calls"), _) if over_sheets => {
             Box::new(move || print_all(vec![calls(&Rattle, seeds)]))

@@ -1,26 +1,33 @@
--- A product of two words has room in 64 bits, and its remainder in 32.
+-- The product and the product with the reciprocal have room in 64 bits; the rest is not below 0 and is below 2p, so one subtraction ends it.
 use borrow.Author.Needs.{needs}
-use mathlib.Core.Path.{refl}
-use Prim.Native.Nat.{_*_}
-use native.Mathlib.Nat.{mod-lt}
 use native.Mathlib.Omega.{arith}
-use Rattle.semantics.specs.Arithmetic.{mulM}
-use Rattle.field.proofs.Laws.{product-fits}
+use Rattle.field.proofs.Products.{product-fits, scaled-fits, quotient-low, rest-low, rest-done, rest-once}
 use Rattle.field.proofs.modular.mul.Statement.{statement}
 use Rattle.field.proofs.modular.mul.Tie as tie
 
-mul-result : tie.Need-mul-result
-mul-result c = record { fits = product-fits (c .args .a) (c .args .b) (search needs) (search needs) }
+mul-product : tie.Need-mul-product
+mul-product c = record { fits = product-fits (c .pre) }
 
-rem-result : tie.Need-rem-result
-rem-result c = search needs
+mul-quotient : tie.Need-mul-quotient
+mul-quotient c = record { fits = scaled-fits (c .pre) }
+
+mul-rest : tie.Need-mul-rest
+mul-rest c = record { fits = omega (arith, quotient-low (c .pre), product-fits (c .pre)) }
+
+sub-rest : tie.Need-sub-rest
+sub-rest c = quotient-low (c .pre)
 
 cast-result : tie.Need-cast-result
-cast-result c = record { fits = omega (arith, mod-lt (c .args .a * c .args .b) {m = c .args .p} (search needs)) }
+cast-result c = search needs
+
+cast-result-2 : tie.Need-cast-result-2
+cast-result-2 c = record { fits = omega (arith, rest-low (c .before .pre)) }
 
 returns : tie.Need-returns
-unfolding mulM
-returns c = refl
+returns c = rest-done (c .before .pre) (c .if1 .taken)
+
+returns-2 : tie.Need-returns-2
+returns-2 c = rest-once (c .before .pre) (c .if1 .left)
 
 pub mul-spec : {M : Type 1} → statement M
-mul-spec = tie.close (tie.spec mul-result rem-result cast-result returns)
+mul-spec = tie.close (tie.spec mul-product mul-quotient mul-rest sub-rest cast-result cast-result-2 returns returns-2)
