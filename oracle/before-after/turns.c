@@ -1,5 +1,5 @@
 /* Times the calls of two libraries in turn on the sheets of standard input; see `run`. A line is a call, a shape, a size, the lengths to lend and the
- * words of a sheet, with tabs between them. Lines of one call, shape and size follow one another; each of these groups becomes a row. */
+ * words of a sheet, with tabs between them. For each it prints the first three and the time of the second library over that of the first. */
 #include "suhkelva.h"
 #include <stdio.h>
 #include <stdlib.h>
@@ -8,7 +8,6 @@
 
 #define MOST_LENT 8
 #define TURNS 31
-#define SHEETS 64
 #define LONG_ENOUGH 500e-6
 
 SuhkelvaWritten before_suhkelva_build(const uint32_t *, size_t, uint32_t *, size_t, uint32_t *, size_t);
@@ -102,32 +101,17 @@ static size_t numbers(char *field, uint32_t **made) {
     return count;
 }
 
-static void row(char *title, double *ratios, int count) {
-    double middle = median(ratios, count);
-    printf("| %s | %.2f (%.2f to %.2f) |\n", title, middle, ratios[0], ratios[count - 1]);
-    fflush(stdout);
-}
-
 int main(void) {
-    char *line = NULL, title[256] = "";
+    char *line = NULL;
     size_t room = 0;
-    double ratios[SHEETS];
-    int count = 0;
-    printf("| call, shape, E | after over before |\n|---|---:|\n");
     while (getline(&line, &room, stdin) > 0) {
-        char *fields[5], *at = line, next[256];
+        char *fields[5], *at = line;
         uint32_t *lengths;
         Sheet x;
         for (int k = 0; k < 5; k++) {
             fields[k] = at;
             at += strcspn(at, "\t\n");
             *at++ = 0;
-        }
-        snprintf(next, sizeof next, "`%s`, %s, %s", fields[0], fields[1], fields[2]);
-        if (strcmp(next, title) != 0) {
-            if (count > 0) row(title, ratios, count);
-            strcpy(title, next);
-            count = 0;
         }
         x.call = fields[0];
         x.count = numbers(fields[3], &lengths);
@@ -136,12 +120,11 @@ int main(void) {
             x.lent_len[k] = lengths[k];
             x.lent[k] = malloc(4 * x.lent_len[k] + 4);
         }
-        ratios[count++] = ratio(&x);
+        printf("%s\t%s\t%s\t%.4f\n", fields[0], fields[1], fields[2], ratio(&x));
         for (size_t k = 0; k < x.count; k++) free(x.lent[k]);
         free(lengths);
         free(x.words);
     }
-    if (count > 0) row(title, ratios, count);
     free(line);
     return 0;
 }

@@ -1113,6 +1113,55 @@ static void check_expansions(void)
     check_expanded_chain();
 }
 
+/* ---- Arithmetic ---- */
+
+/* Values at bounds: of 0 and p, of half of p, and of powers of 2 at which a product or a quotient has one bit more. */
+static const uint32_t values[] = {
+    0, 1, 2, 3, 32767, 32768, 65536, 134217728, (P - 1) / 2, (P + 1) / 2, 1073741823, 1073741824, 1073741825, P - 3, P - 2, P - 1,
+};
+#define VALUES (sizeof values / sizeof values[0])
+
+/* An operation of two constants, or of the first: the constant that it is folded to, and its coefficient as a constraint and as a count. */
+static void check_operation(uint32_t kind, uint32_t a, uint32_t b, uint32_t due)
+{
+    const uint32_t term[] = {0, due};
+    const uint32_t count[] = {due, 0, 0};
+    const uint32_t *node;
+    size_t length;
+    size_t k;
+    written[1] = 0;
+    add_record(5, a, 0, 0, 0);
+    add_record(5, b, 0, 0, 0);
+    length = finish(add_record(kind, 0, kind == 8 ? 0 : 1, 0, 0));
+    fill();
+    check(suhkelva_build(written, length, scratch, 3, out_words, length).number == 0, "an operation is built");
+    node = out_words + 4 + 5 * out_words[4 + 5 * out_words[1]];
+    check(node[0] == 5 && node[1] == due, "the constant of an operation");
+    for (k = 0; k < SLICES; k++) {
+        rooms[k] = LENT;
+    }
+    check(expand_constraints(written, length).number == 0, "an operation as a constraint");
+    check(slice_holds(TERMS, term, due == 0 ? 0 : 2), "the coefficient of a constraint");
+    check(expand_interactions(written, length).number == 0, "an operation as a count");
+    check(slice_holds(TERMS, count, due == 0 ? 0 : 3), "the coefficient of a count");
+}
+
+static void check_arithmetic(void)
+{
+    size_t j;
+    size_t k;
+    for (j = 0; j < VALUES; j++) {
+        uint64_t a = values[j];
+        check_operation(8, values[j], 0, (uint32_t)((P - a) % P));
+        for (k = 0; k < VALUES; k++) {
+            uint64_t b = values[k];
+            check_operation(6, values[j], values[k], (uint32_t)((a + b) % P));
+            check_operation(7, values[j], values[k], (uint32_t)((a + P - b) % P));
+            check_operation(9, values[j], values[k], (uint32_t)(a * b % P));
+        }
+    }
+}
+
 int main(void)
 {
     check(sizeof(SuhkelvaPacked) == 12, "the size of SuhkelvaPacked");
@@ -1131,6 +1180,7 @@ int main(void)
     check_sheet_blocks();
     check_graphs();
     check_expansions();
+    check_arithmetic();
     printf("%u checks passed, %u failed\n", passed, failed);
     return failed == 0 ? 0 : 1;
 }
