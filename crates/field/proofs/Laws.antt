@@ -1,15 +1,16 @@
--- Laws of values below the modulus, of reduced words, and of the signed reading. Assumes nothing.
+-- Laws of words and their remainders, and of the signed reading. Assumes nothing.
 use mathlib.Core.Path.{_≡_, refl, sym, subst, _∙_}
-use Prim.Native.Nat.{ℕ, suc, _+_, _*_, _-_, _/_, _%_, _<_, _≤_}
+use Prim.Native.Nat.{ℕ, suc, _+_, _*_, _-_, _/_, _%_, _<_, _≤_, _^_}
 use native.Mathlib.Omega.{arith}
-use native.Mathlib.Nat.{mod-lt, mod-eq-of-lt}
-use lib.Dec.{ltb}
+use native.Mathlib.Nat.{lt-of-le-of-lt, mod-lt, mod-eq-of-lt, mul-le-mul}
+use lib.Dec.{lit<, ltb}
 use lib.IntN.{ℤ, pos, _-ℤ_}
 use mir.Syntax.{w64}
 use mir.Val.{SFits, toZ, ofZ}
 use mir.Facts.{toZ-pos, toZ-ofZ}
 use borrow.Author.Tests.{le-leb, lt-leb}
 use Rattle.semantics.specs.Arithmetic.{prime, addM, subM, mulM, negM, signedOf, SignedRange}
+use Rattle.field.specs.Modulus.{Modulus}
 use Rattle.semantics.proofs.Basics.{by-test}
 use Rattle.semantics.proofs.Arithmetic.{mods, same-mod}
 use Rattle.semantics.proofs.Signs.{signed-range}
@@ -18,48 +19,59 @@ use Rattle.semantics.proofs.Signs.{signed-range}
 pub remainder : (p r x k l : ℕ) → r < p → r + k * p ≡ x + l * p → r ≡ x % p
 remainder p r x k l h e = sym (mod-eq-of-lt h) ∙ same-mod p r x k l e
 
-module _ (p a : ℕ) (h : a < p) where
-  module _ (b : ℕ) (l : b < p) where
-    pub add-low : a + b < p → a + b ≡ addM p a b
-    unfolding addM
-    add-low s = remainder p (a + b) (a + b) 0 0 s refl
+-- a product of two words is below 2 ^ 64
+pub product-fits : (a b : ℕ) → a ≤ 4294967295 → b ≤ 4294967295 → a * b < 2 ^ 64
+product-fits a b h l = lt-of-le-of-lt (mul-le-mul h l) (lit< tt)
 
-    pub add-high : p ≤ a + b → a + b - p ≡ addM p a b
-    unfolding addM
-    add-high s = remainder p (a + b - p) (a + b) 1 0 (omega arith) (omega arith)
+-- the operations on words a and b, of which r and s are the remainders
+module _ (p a : ℕ) {r : ℕ} (m : Modulus p) (e : r ≡ a % p) where
+  low : r < p
+  low = rw e (mod-lt a (omega arith))
 
-    pub sub-low : b ≤ a → a - b ≡ subM p a b
-    unfolding subM
-    sub-low s = rw (mod-eq-of-lt l) (remainder p (a - b) (a + (p - b)) 1 0 (omega arith) (omega arith))
+  pub below : r ≤ p
+  below = omega (arith, low)
 
-    pub sub-high : a < b → a + (p - b) ≡ subM p a b
-    unfolding subM
-    sub-high s = rw (mod-eq-of-lt l) (remainder p (a + (p - b)) (a + (p - b)) 0 0 (omega arith) refl)
-
-  pub neg-none : a ≡ 0 → 0 ≡ negM p a
+  pub neg-none : r ≡ 0 → 0 ≡ negM p a
   unfolding negM
-  neg-none e = rw (mod-eq-of-lt h) (remainder p 0 (p - a) 1 0 (omega arith) (omega arith))
+  neg-none z = remainder p 0 (p - a % p) 1 0 (omega arith) (omega (arith, e, z))
 
-  pub neg-some : (a ≡ 0 → ⊥) → p - a ≡ negM p a
+  pub neg-some : (r ≡ 0 → ⊥) → p - r ≡ negM p a
   unfolding negM
-  neg-some e = rw (mod-eq-of-lt h) (remainder p (p - a) (p - a) 0 0 (omega arith) refl)
+  neg-some z = rw (← e) (remainder p (p - r) (p - r) 0 0 (omega (arith, low)) refl)
 
--- remainders may be taken first
-pub add-rests : (p a b : ℕ) → addM p (a % p) (b % p) ≡ addM p a b
-unfolding addM
-add-rests p a b = simp mods
+  module _ (b : ℕ) {s : ℕ} (f : s ≡ b % p) where
+    right-low : s < p
+    right-low = rw f (mod-lt b (omega arith))
 
-pub sub-rests : (p a b : ℕ) → subM p (a % p) (b % p) ≡ subM p a b
-unfolding subM
-sub-rests p a b = simp mods
+    add-rests : (r + s) % p ≡ addM p a b
+    unfolding addM
+    add-rests = rw (e, f) (simp mods)
 
-pub mul-rests : (p a b : ℕ) → mulM p (a % p) (b % p) ≡ mulM p a b
-unfolding mulM
-mul-rests p a b = simp mods
+    sub-rests : (r + (p - s)) % p ≡ subM p a b
+    unfolding subM
+    sub-rests = rw (e, f) (simp mods)
 
-pub neg-rest : (p a : ℕ) → negM p (a % p) ≡ negM p a
-unfolding negM
-neg-rest p a = simp mods
+    pub mul-rests : (r * s) % p ≡ mulM p a b
+    unfolding mulM
+    mul-rests = rw (e, f) (simp mods)
+
+    pub product-low : r * s < p * p
+    product-low = omega (arith, mul-le-mul low right-low)
+
+    pub sum-fits : r + s < 2 ^ 32
+    sum-fits = omega (arith, low, right-low)
+
+    pub add-low : r + s < p → r + s ≡ addM p a b
+    add-low h = remainder p (r + s) (r + s) 0 0 h refl ∙ add-rests
+
+    pub add-high : p ≤ r + s → r + s - p ≡ addM p a b
+    add-high h = remainder p (r + s - p) (r + s) 1 0 (omega (arith, low, right-low)) (omega arith) ∙ add-rests
+
+    pub sub-low : s ≤ r → r - s ≡ subM p a b
+    sub-low h = remainder p (r - s) (r + (p - s)) 1 0 (omega (arith, low)) (omega (arith, right-low)) ∙ sub-rests
+
+    pub sub-high : r < s → r + (p - s) ≡ subM p a b
+    sub-high h = remainder p (r + (p - s)) (r + (p - s)) 0 0 (omega (arith, right-low)) refl ∙ sub-rests
 
 -- the signed reading of a word c whose remainder is x, for any modulus suc q of 32 bits
 module _ (q c x : ℕ) (small : q < 4294967295) (is : x ≡ c % suc q) where

@@ -1,6 +1,5 @@
 // Values modulo the prime 2013265921, each kept below it; any word is taken.
 ghost use mathlib.Core.Path.{_≡_};
-ghost use Prim.Native.Nat.{_%_};
 ghost use Rattle.semantics.specs.Arithmetic.{prime, addM, subM, mulM, negM, signedOf, SignedRange};
 
 mod modular;
@@ -10,42 +9,35 @@ const PRIME: u32 = 2013265921;
 // 2^63 / PRIME, rounded down.
 const RECIPROCAL: u64 = 4581298446;
 
-// A word as a value.
-fn reduced(x: u32) -> u32
-    ensures { λ r. ⌜ r ≡ x % prime ⌝ }
-{
-    modular::reduced(PRIME, x)
-}
-
 pub fn add(a: u32, b: u32) -> u32
     ensures { λ r. ⌜ r ≡ addM prime a b ⌝ }
 {
-    modular::add(PRIME, reduced(a), reduced(b))
+    modular::add(PRIME, a, b)
 }
 
 pub fn sub(a: u32, b: u32) -> u32
     ensures { λ r. ⌜ r ≡ subM prime a b ⌝ }
 {
-    modular::sub(PRIME, reduced(a), reduced(b))
+    modular::sub(PRIME, a, b)
 }
 
 pub fn neg(a: u32) -> u32
     ensures { λ r. ⌜ r ≡ negM prime a ⌝ }
 {
-    modular::neg(PRIME, reduced(a))
+    modular::neg(PRIME, a)
 }
 
 pub fn mul(a: u32, b: u32) -> u32
     ensures { λ r. ⌜ r ≡ mulM prime a b ⌝ }
 {
-    modular::mul(PRIME, RECIPROCAL, reduced(a), reduced(b))
+    modular::mul(PRIME, RECIPROCAL, a, b)
 }
 
 // A value up to half the prime is itself, and above that less the prime.
 pub fn signed(a: u32) -> i64
     ensures { λ r. ⌜ (r ≡ signedOf prime a) × SignedRange prime r ⌝ }
 {
-    let value = reduced(a);
+    let value = modular::reduced(PRIME, a);
     if value <= PRIME / 2 {
         value as i64
     } else {

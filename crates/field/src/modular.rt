@@ -1,12 +1,12 @@
-// Arithmetic modulo p without dividing by p: nothing here divides but by a power of 2, and there is no loop.
+// Arithmetic modulo p, of any words. Nothing here divides but by a power of 2, and there is no loop.
 ghost use mathlib.Core.Path.{_≡_};
-ghost use Prim.Native.Nat.{_*_, _%_, _^_, _<_, _≤_};
+ghost use Prim.Native.Nat.{_*_, _%_, _<_};
 ghost use Rattle.semantics.specs.Arithmetic.{addM, subM, mulM, negM};
-ghost use Rattle.field.specs.Reciprocal.{Reciprocal};
+ghost use Rattle.field.specs.Modulus.{Modulus, Reciprocal};
 
 // A word as a value; it is below 3p.
 pub fn reduced(p: u32, x: u32) -> u32
-    requires { ⌜ 2 ^ 32 ≤ 3 * p ⌝ }
+    requires { ⌜ Modulus p ⌝ }
     ensures { λ r. ⌜ r ≡ x % p ⌝ }
 {
     if x < p {
@@ -17,39 +17,57 @@ pub fn reduced(p: u32, x: u32) -> u32
 }
 
 pub fn add(p: u32, a: u32, b: u32) -> u32
-    requires { ⌜ (1 < p) × (p ≤ 2147483648) × (a < p) × (b < p) ⌝ }
+    requires { ⌜ Modulus p ⌝ }
     ensures { λ r. ⌜ r ≡ addM p a b ⌝ }
 {
-    let sum = a + b;
+    let sum = reduced(p, a) + reduced(p, b);
     if sum < p { sum } else { sum - p }
 }
 
 pub fn sub(p: u32, a: u32, b: u32) -> u32
-    requires { ⌜ (1 < p) × (p ≤ 2147483648) × (a < p) × (b < p) ⌝ }
+    requires { ⌜ Modulus p ⌝ }
     ensures { λ r. ⌜ r ≡ subM p a b ⌝ }
 {
-    if b <= a { a - b } else { a + (p - b) }
+    let left = reduced(p, a);
+    let right = reduced(p, b);
+    if right <= left {
+        left - right
+    } else {
+        left + (p - right)
+    }
 }
 
 pub fn neg(p: u32, a: u32) -> u32
-    requires { ⌜ (1 < p) × (p ≤ 2147483648) × (a < p) ⌝ }
+    requires { ⌜ Modulus p ⌝ }
     ensures { λ r. ⌜ r ≡ negM p a ⌝ }
 {
-    if a == 0 { 0 } else { p - a }
+    let value = reduced(p, a);
+    if value == 0 { 0 } else { p - value }
 }
 
-// m is 2^63 / p; product / 2^30 * m / 2^33 is the quotient or one less.
-pub fn mul(p: u32, m: u64, a: u32, b: u32) -> u32
-    requires { ⌜ (a < p) × (b < p) × Reciprocal p m ⌝ }
-    ensures { λ r. ⌜ r ≡ mulM p a b ⌝ }
+// The remainder of x by p. m is 2^63 / p; x / 2^30 * m / 2^33 is the quotient or one less.
+fn remainder(p: u32, m: u64, x: u64) -> u32
+    requires { ⌜ (x < p * p) × Modulus p × Reciprocal p m ⌝ }
+    ensures { λ r. ⌜ r ≡ x % p ⌝ }
 {
     let modulus = p as u64;
-    let product = a as u64 * b as u64;
-    let quotient = product / 1073741824 * m / 8589934592;
-    let rest = product - quotient * modulus;
+    let quotient = x / 1073741824 * m / 8589934592;
+    let rest = x - quotient * modulus;
     if rest < modulus {
         rest as u32
     } else {
         (rest - modulus) as u32
     }
+}
+
+// A product below p is its own remainder.
+pub fn mul(p: u32, m: u64, a: u32, b: u32) -> u32
+    requires { ⌜ Modulus p × Reciprocal p m ⌝ }
+    ensures { λ r. ⌜ r ≡ mulM p a b ⌝ }
+{
+    let product = a as u64 * b as u64;
+    if product < p as u64 {
+        return product as u32;
+    }
+    remainder(p, m, reduced(p, a) as u64 * reduced(p, b) as u64)
 }
