@@ -2,8 +2,8 @@
 use mathlib.Core.Path.{_≡_, refl, sym, subst, _∙_}
 use Prim.Native.Nat.{ℕ, suc, _+_, _*_, _-_, _/_, _%_, _<_, _≤_, _^_}
 use native.Mathlib.Omega.{arith}
-use native.Mathlib.Nat.{lt-of-le-of-lt, mod-lt, mod-eq-of-lt, mul-le-mul}
-use lib.Dec.{lit<, ltb}
+use native.Mathlib.Nat.{mod-lt, mod-eq-of-lt, mul-le-mul}
+use lib.Dec.{ltb}
 use lib.IntN.{ℤ, pos, _-ℤ_}
 use mir.Syntax.{w64}
 use mir.Val.{SFits, toZ, ofZ}
@@ -18,10 +18,6 @@ use Rattle.semantics.proofs.Signs.{signed-range}
 -- a number below p that differs from x by a multiple of p is x's remainder
 pub remainder : (p r x k l : ℕ) → r < p → r + k * p ≡ x + l * p → r ≡ x % p
 remainder p r x k l h e = sym (mod-eq-of-lt h) ∙ same-mod p r x k l e
-
--- a product of two words is below 2 ^ 64
-pub product-fits : (a b : ℕ) → a ≤ 4294967295 → b ≤ 4294967295 → a * b < 2 ^ 64
-product-fits a b h l = lt-of-le-of-lt (mul-le-mul h l) (lit< tt)
 
 -- the operations on words a and b, of which r and s are the remainders
 module _ (p a : ℕ) {r : ℕ} (m : Modulus p) (e : r ≡ a % p) where
@@ -57,6 +53,9 @@ module _ (p a : ℕ) {r : ℕ} (m : Modulus p) (e : r ≡ a % p) where
 
     pub product-low : r * s < p * p
     product-low = omega (arith, mul-le-mul low right-low)
+
+    pub product-fits : r * s < 2 ^ 64
+    product-fits = omega (arith, product-low, mul-le-mul (m .half) (m .half))
 
     pub sum-fits : r + s < 2 ^ 32
     sum-fits = omega (arith, low, right-low)

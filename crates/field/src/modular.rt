@@ -60,14 +60,10 @@ fn remainder(p: u32, m: u64, x: u64) -> u32
     }
 }
 
-// A product below p is its own remainder.
 pub fn mul(p: u32, m: u64, a: u32, b: u32) -> u32
     requires { ⌜ Modulus p × Reciprocal p m ⌝ }
     ensures { λ r. ⌜ r ≡ mulM p a b ⌝ }
 {
-    let product = a as u64 * b as u64;
-    if product < p as u64 {
-        return product as u32;
-    }
-    remainder(p, m, reduced(p, a) as u64 * reduced(p, b) as u64)
+    let product = reduced(p, a) as u64 * reduced(p, b) as u64;
+    remainder(p, m, product)
 }
