@@ -1,5 +1,5 @@
 //! Sums, differences, products and negatives of values: as constants that the builder folds, and as coefficients of both expansions.
-//! What is due is the remainder, by a division of 128 bits; the graphs and the lists are also compared with the Rust's.
+//! What is due is the remainder, by a division of 128 bits; the graphs and the lists are also compared with the Rust's and plain's.
 
 use std::collections::HashMap;
 
@@ -9,11 +9,12 @@ use plain::sheet::{ADD, CONSTANT, MUL, NEG, SUB};
 use plain::{Interaction, Outcome, Sheet};
 
 use crate::compare::{compare_graph, decoded, Case};
-use crate::implementation::Implementation;
+use crate::implementation::{Implementation, Plain};
 use crate::lists::compare_lists;
 use crate::needs::needs;
 use crate::records::Records;
 use crate::rng::Rng;
+use crate::sheet_calls::case;
 
 /// A record's kind and its children's values; a negation has only the first.
 #[derive(Clone, Copy, Debug)]
@@ -32,7 +33,7 @@ const ROWS: [(u32, [&str; 2]); 4] = [
     (NEG, ["-a, values at bounds", "-a, random values"]),
 ];
 const UNIT: &str = "a * b that is 1 or p - 1";
-const OF_RUST: &str = "the graphs and the lists of these sheets, as the Rust's";
+const WHOLE: &str = "their graphs and lists, as the Rust's and plain's";
 
 /// The values at bounds: of 0 and p, of half of p, and of powers of 2 at which a product or a quotient has one bit more.
 const BOUNDS: [u32; 16] = [
@@ -63,7 +64,7 @@ const MESSAGE: usize = 63;
 /// All kinds, in the order of the table.
 pub fn kinds() -> Vec<&'static str> {
     let rows = ROWS.iter().flat_map(|(_, rows)| *rows);
-    rows.chain([UNIT, OF_RUST]).collect()
+    rows.chain([UNIT, WHOLE]).collect()
 }
 
 /// The values at bounds with each other.
@@ -184,7 +185,7 @@ pub fn compare_operations(under_test: &dyn Implementation, operations: &[Operati
             listed(&fields, vec![interaction, field]),
         ];
         let due = operation.due();
-        let case = |ours: Option<u32>| Case {
+        let found = |ours: Option<u32>| Case {
             kind: operation.row,
             difference: (ours != Some(due)).then(|| {
                 let (name, Operation { a, b, .. }) = (under_test.name(), operation);
@@ -192,14 +193,16 @@ pub fn compare_operations(under_test: &dyn Implementation, operations: &[Operati
             }),
             size: 1,
         };
-        cases.extend(ours.map(case));
+        cases.extend(ours.map(found));
     }
+    let of_plain = Plain.builder(&words, sheet.records.len(), sheet.length());
     let graph = compare_graph(under_test, &sheet, 0);
     let lists = compare_lists(under_test, &sheet, 0);
-    let mut differences = graph.into_iter().chain(lists);
+    let all = [case(WHOLE, &built, &of_plain)].into_iter();
+    let mut all = all.chain(graph).chain(lists);
     cases.push(Case {
-        kind: OF_RUST,
-        difference: differences.find_map(|case| case.difference),
+        kind: WHOLE,
+        difference: all.find_map(|case| case.difference),
         size: sheet.records.len(),
     });
     cases
