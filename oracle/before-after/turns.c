@@ -26,23 +26,35 @@ typedef struct {
     size_t count;
 } Sheet;
 
-/* A call of one of the libraries, which must be accepted. */
-static void call(const Sheet *x, int before) {
-    uint32_t number;
+#define REPLY 10
+
+/* A call of one of the libraries, which must be accepted; the fields of its reply. */
+static void call(const Sheet *x, int before, uint64_t reply[REPLY]) {
+    memset(reply, 0, REPLY * sizeof *reply);
 #define LENT(k) x->lent[k], x->lent_len[k]
 #define THREE(k) LENT(k), LENT(k + 1), LENT(k + 2)
-#define EITHER(name, ...) (before ? before_suhkelva_##name : suhkelva_##name)(x->words, x->words_len, __VA_ARGS__).number
+#define EITHER(name, ...) (before ? before_suhkelva_##name : suhkelva_##name)(x->words, x->words_len, __VA_ARGS__)
     if (strcmp(x->call, "build") == 0) {
-        number = EITHER(build, LENT(0), LENT(1));
+        SuhkelvaWritten r = EITHER(build, LENT(0), LENT(1));
+        reply[0] = r.number, reply[1] = r.place, reply[2] = r.count;
     } else if (strcmp(x->call, "expand_constraints") == 0) {
-        number = EITHER(expand_constraints, LENT(0), LENT(1), THREE(2));
+        SuhkelvaLists r = EITHER(expand_constraints, LENT(0), LENT(1), THREE(2));
+        reply[0] = r.number, reply[1] = r.place, reply[2] = r.headers, reply[3] = r.variables, reply[4] = r.terms;
     } else {
-        number = EITHER(expand_interactions, LENT(0), LENT(1), THREE(2), THREE(5));
+        SuhkelvaInteractionLists r = EITHER(expand_interactions, LENT(0), LENT(1), THREE(2), THREE(5));
+        reply[0] = r.number, reply[1] = r.place, reply[2] = r.headers, reply[3] = r.variables, reply[4] = r.terms;
+        reply[5] = r.denom_headers, reply[6] = r.denom_variables, reply[7] = r.denom_terms;
+        reply[8] = r.num_interactions, reply[9] = r.max_fields_len;
     }
-    if (number != 0) {
-        fprintf(stderr, "%s: refused by %u\n", x->call, (unsigned)number);
+    if (reply[0] != 0) {
+        fprintf(stderr, "%s: refused by %u\n", x->call, (unsigned)reply[0]);
         exit(1);
     }
+}
+
+/* What was lent, filled before a call. */
+static void fill(const Sheet *x, int byte) {
+    for (size_t k = 0; k < x->count; k++) memset(x->lent[k], byte, 4 * x->lent_len[k]);
 }
 
 static double now(void) {
@@ -52,8 +64,9 @@ static double now(void) {
 }
 
 static double timed(const Sheet *x, int before, int runs) {
+    uint64_t reply[REPLY];
     double start = now();
-    for (int k = 0; k < runs; k++) call(x, before);
+    for (int k = 0; k < runs; k++) call(x, before, reply);
     return (now() - start) / runs;
 }
 
@@ -67,17 +80,24 @@ static double median(double *values, int count) {
     return values[count / 2];
 }
 
-/* The median time of the second library over that of the first. What they write is compared word for word. */
+/* The median time of the second library over that of the first. The replies, and every word that was lent, are compared first. */
 static double ratio(const Sheet *x) {
     double times[2][TURNS];
     uint32_t *first[MOST_LENT];
+    uint64_t replies[2][REPLY];
     int runs = 1;
-    call(x, 1);
+    fill(x, 0x55);
+    call(x, 1, replies[1]);
     for (size_t k = 0; k < x->count; k++) {
         first[k] = malloc(4 * x->lent_len[k] + 4);
         memcpy(first[k], x->lent[k], 4 * x->lent_len[k]);
     }
-    call(x, 0);
+    fill(x, 0xaa);
+    call(x, 0, replies[0]);
+    if (memcmp(replies[0], replies[1], sizeof replies[0]) != 0) {
+        fprintf(stderr, "%s: the replies differ\n", x->call);
+        exit(1);
+    }
     for (size_t k = 0; k < x->count; k++) {
         if (memcmp(first[k], x->lent[k], 4 * x->lent_len[k]) != 0) {
             fprintf(stderr, "%s: slice %u differs\n", x->call, (unsigned)k);

@@ -1115,7 +1115,7 @@ static void check_expansions(void)
 
 /* ---- Arithmetic ---- */
 
-/* Values at bounds: of 0 and p, of half of p, and of powers of 2 at which a product or a quotient has one bit more. */
+/* Values at bounds: around 0, p, half of p, 2^15 and 2^30; 2^16, and 2^27, of which p - 1 is a multiple. */
 static const uint32_t values[] = {
     0, 1, 2, 3, 32767, 32768, 65536, 134217728, (P - 1) / 2, (P + 1) / 2, 1073741823, 1073741824, 1073741825, P - 3, P - 2, P - 1,
 };
@@ -1127,6 +1127,8 @@ static void check_operation(uint32_t kind, uint32_t a, uint32_t b, uint32_t due)
     const uint32_t term[] = {0, due};
     const uint32_t count[] = {due, 0, 0};
     const uint32_t *node;
+    SuhkelvaLists r;
+    SuhkelvaInteractionLists n;
     size_t length;
     size_t k;
     written[1] = 0;
@@ -1140,10 +1142,12 @@ static void check_operation(uint32_t kind, uint32_t a, uint32_t b, uint32_t due)
     for (k = 0; k < SLICES; k++) {
         rooms[k] = LENT;
     }
-    check(expand_constraints(written, length).number == 0, "an operation as a constraint");
-    check(slice_holds(TERMS, term, due == 0 ? 0 : 2), "the coefficient of a constraint");
-    check(expand_interactions(written, length).number == 0, "an operation as a count");
-    check(slice_holds(TERMS, count, due == 0 ? 0 : 3), "the coefficient of a count");
+    r = expand_constraints(written, length);
+    check(r.number == 0 && r.headers == (due == 0 ? 0 : 4) && r.terms == (due == 0 ? 0 : 2), "an operation as a constraint");
+    check(slice_holds(TERMS, term, r.terms), "the coefficient of a constraint");
+    n = expand_interactions(written, length);
+    check(n.number == 0 && n.headers == (due == 0 ? 0 : 4) && n.terms == (due == 0 ? 0 : 3), "an operation as a count");
+    check(slice_holds(TERMS, count, n.terms), "the coefficient of a count");
 }
 
 static void check_arithmetic(void)

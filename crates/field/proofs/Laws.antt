@@ -19,26 +19,21 @@ use Rattle.semantics.proofs.Signs.{signed-range}
 pub remainder : (p r x k l : ℕ) → r < p → r + k * p ≡ x + l * p → r ≡ x % p
 remainder p r x k l h e = sym (mod-eq-of-lt h) ∙ same-mod p r x k l e
 
+-- the remainder of a word is a value
+pub low : (p a : ℕ) {r : ℕ} → Modulus p → r ≡ a % p → r < p
+low p a m e = rw e (mod-lt a (omega arith))
+
 -- the operations on words a and b, of which r and s are the remainders
 module _ (p a : ℕ) {r : ℕ} (m : Modulus p) (e : r ≡ a % p) where
-  low : r < p
-  low = rw e (mod-lt a (omega arith))
-
-  pub below : r ≤ p
-  below = omega (arith, low)
-
   pub neg-none : r ≡ 0 → 0 ≡ negM p a
   unfolding negM
   neg-none z = remainder p 0 (p - a % p) 1 0 (omega arith) (omega (arith, e, z))
 
   pub neg-some : (r ≡ 0 → ⊥) → p - r ≡ negM p a
   unfolding negM
-  neg-some z = rw (← e) (remainder p (p - r) (p - r) 0 0 (omega (arith, low)) refl)
+  neg-some z = rw (← e) (remainder p (p - r) (p - r) 0 0 (omega (arith, low p a m e)) refl)
 
   module _ (b : ℕ) {s : ℕ} (f : s ≡ b % p) where
-    right-low : s < p
-    right-low = rw f (mod-lt b (omega arith))
-
     add-rests : (r + s) % p ≡ addM p a b
     unfolding addM
     add-rests = rw (e, f) (simp mods)
@@ -52,25 +47,25 @@ module _ (p a : ℕ) {r : ℕ} (m : Modulus p) (e : r ≡ a % p) where
     mul-rests = rw (e, f) (simp mods)
 
     pub product-low : r * s < p * p
-    product-low = omega (arith, mul-le-mul low right-low)
+    product-low = omega (arith, mul-le-mul (low p a m e) (low p b m f))
 
     pub product-fits : r * s < 2 ^ 64
     product-fits = omega (arith, product-low, mul-le-mul (m .half) (m .half))
 
     pub sum-fits : r + s < 2 ^ 32
-    sum-fits = omega (arith, low, right-low)
+    sum-fits = omega (arith, low p a m e, low p b m f)
 
     pub add-low : r + s < p → r + s ≡ addM p a b
     add-low h = remainder p (r + s) (r + s) 0 0 h refl ∙ add-rests
 
     pub add-high : p ≤ r + s → r + s - p ≡ addM p a b
-    add-high h = remainder p (r + s - p) (r + s) 1 0 (omega (arith, low, right-low)) (omega arith) ∙ add-rests
+    add-high h = remainder p (r + s - p) (r + s) 1 0 (omega (arith, low p a m e, low p b m f)) (omega arith) ∙ add-rests
 
     pub sub-low : s ≤ r → r - s ≡ subM p a b
-    sub-low h = remainder p (r - s) (r + (p - s)) 1 0 (omega (arith, low)) (omega (arith, right-low)) ∙ sub-rests
+    sub-low h = remainder p (r - s) (r + (p - s)) 1 0 (omega (arith, low p a m e)) (omega (arith, low p b m f)) ∙ sub-rests
 
     pub sub-high : r < s → r + (p - s) ≡ subM p a b
-    sub-high h = remainder p (r + (p - s)) (r + (p - s)) 0 0 (omega (arith, right-low)) refl ∙ sub-rests
+    sub-high h = remainder p (r + (p - s)) (r + (p - s)) 0 0 (omega (arith, low p b m f)) refl ∙ sub-rests
 
 -- the signed reading of a word c whose remainder is x, for any modulus suc q of 32 bits
 module _ (q c x : ℕ) (small : q < 4294967295) (is : x ≡ c % suc q) where

@@ -4,7 +4,7 @@ ghost use Prim.Native.Nat.{_*_, _%_, _<_};
 ghost use Rattle.semantics.specs.Arithmetic.{addM, subM, mulM, negM};
 ghost use Rattle.field.specs.Modulus.{Modulus, Reciprocal};
 
-// A word as a value; it is below 3p.
+// A word as a value; a word is below 3p.
 pub fn reduced(p: u32, x: u32) -> u32
     requires { ⌜ Modulus p ⌝ }
     ensures { λ r. ⌜ r ≡ x % p ⌝ }

@@ -1,6 +1,7 @@
 -- The word is brought below p first. Zero is its own negative.
 use borrow.Author.Needs.{needs}
-use Rattle.field.proofs.Laws.{below, neg-none, neg-some}
+use native.Mathlib.Omega.{arith}
+use Rattle.field.proofs.Laws.{low, neg-none, neg-some}
 use Rattle.field.proofs.modular.neg.Statement.{statement}
 use Rattle.field.proofs.modular.neg.Tie as tie
 
@@ -10,7 +11,7 @@ reduced-requires c κs = search needs
 sub-result : tie.Need-sub-result
 sub-result c =
     let start = c .before .before in
-    below (start .args .p) (start .args .a) (start .pre) (c .before .reduced .ensures)
+    omega (arith, low (start .args .p) (start .args .a) (start .pre) (c .before .reduced .ensures))
 
 returns : tie.Need-returns
 returns c =

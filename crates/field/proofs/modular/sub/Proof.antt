@@ -1,6 +1,7 @@
 -- Both words are brought below p first. The difference of two values is taken where it stands, or with p added to it.
 use borrow.Author.Needs.{needs}
-use Rattle.field.proofs.Laws.{below, sub-low, sub-high}
+use native.Mathlib.Omega.{arith}
+use Rattle.field.proofs.Laws.{low, sub-low, sub-high}
 use Rattle.field.proofs.modular.sub.Statement.{statement}
 use Rattle.field.proofs.modular.sub.Tie as tie
 
@@ -14,7 +15,7 @@ sub-result : tie.Need-sub-result
 sub-result c =
     let done = c .before in
     let start = done .before .before in
-    below (start .args .p) (start .args .b) (start .pre) (done .reduced2 .ensures)
+    omega (arith, low (start .args .p) (start .args .b) (start .pre) (done .reduced2 .ensures))
 
 add-result : tie.Need-add-result
 add-result c = search needs
