@@ -9,7 +9,7 @@ use mir.Syntax.{w64}
 use mir.Val.{SFits, toZ, ofZ}
 use mir.Facts.{toZ-pos, toZ-ofZ}
 use borrow.Author.Tests.{le-leb, lt-leb}
-use Rattle.semantics.specs.Arithmetic.{prime, addM, subM, mulM, negM, signedOf, SignedRange}
+use Rattle.semantics.specs.Arithmetic.{addM, subM, mulM, negM, signedOf, SignedRange}
 use Rattle.field.specs.Modulus.{Modulus}
 use Rattle.semantics.proofs.Basics.{by-test}
 use Rattle.semantics.proofs.Arithmetic.{mods, same-mod}
@@ -67,24 +67,36 @@ module _ (p a : ℕ) {r : ℕ} (m : Modulus p) (e : r ≡ a % p) where
     pub sub-high : r < s → r + (p - s) ≡ subM p a b
     sub-high h = remainder p (r + (p - s)) (r + (p - s)) 0 0 (omega (arith, low p b m f)) refl ∙ sub-rests
 
--- the signed reading of a word c whose remainder is x, for any modulus suc q of 32 bits
-module _ (q c x : ℕ) (small : q < 4294967295) (is : x ≡ c % suc q) where
+-- a value less its modulus has room in 64 signed bits
+difference-fits : (q x : ℕ) → x ≤ q → q < 2 ^ 31 → SFits w64 (pos x -ℤ pos (suc q))
+difference-fits q x l s =
+    by-test (SFits w64) (ltb x (suc q)) (λ t. record { sfits = omega arith }) (λ t. record { sfits = omega arith })
+
+-- the signed reading of a word c, of which x is the remainder
+module _ (p c : ℕ) {x : ℕ} (m : Modulus p) (e : x ≡ c % p) where
   as-is : toZ w64 x ≡ pos x
-  as-is = toZ-pos w64 (omega (arith, mod-lt c {m = suc q} (omega arith)))
+  as-is = toZ-pos w64 (omega (arith, low p c m e))
 
-  pub less-fits : SFits w64 (toZ w64 x -ℤ pos (suc q))
+  modulus-as-is : toZ w64 p ≡ pos p
+  modulus-as-is = toZ-pos w64 (omega arith)
+
+  pub less-fits : SFits w64 (toZ w64 x -ℤ toZ w64 p)
   less-fits =
-      let l = mod-lt c {m = suc q} (omega arith) in
-      rw as-is (by-test (SFits w64) (ltb x (suc q)) (λ e. record { sfits = omega arith }) (λ e. record { sfits = omega arith }))
+      let l = low p c m e in
+      let s : suc (p - 1) ≡ p = omega arith in
+      rw (as-is, modulus-as-is) (subst (λ (n : ℕ). SFits w64 (pos x -ℤ pos n)) s (difference-fits (p - 1) x (omega arith) (omega arith)))
 
-  pub signed-low : x ≤ q / 2 → toZ w64 x ≡ signedOf (suc q) c
+  -- it is inside its range
+  ranged : {z : ℤ} → z ≡ signedOf p c → (z ≡ signedOf p c) × SignedRange p z
+  ranged z = (z, subst (SignedRange p) (sym z) (signed-range (p / 2) p (omega arith) c))
+
+  pub signed-low : x ≤ p / 2 → (toZ w64 x ≡ signedOf p c) × SignedRange p (toZ w64 x)
   unfolding signedOf
-  signed-low l = rw (as-is, ← is, le-leb x ((suc q - 1) / 2) (omega arith))
+  signed-low l = ranged (rw (as-is, ← e, le-leb x ((p - 1) / 2) (omega arith)))
 
-  pub signed-high : q / 2 < x → toZ w64 (ofZ w64 (toZ w64 x -ℤ pos (suc q))) ≡ signedOf (suc q) c
+  abbrev less : ℤ
+  less = toZ w64 (ofZ w64 (toZ w64 x -ℤ toZ w64 p))
+
+  pub signed-high : p / 2 < x → (less ≡ signedOf p c) × SignedRange p less
   unfolding signedOf
-  signed-high l = toZ-ofZ less-fits ∙ rw (as-is, ← is, lt-leb x ((suc q - 1) / 2) (omega arith))
-
--- it is inside its range
-pub ranged : (c : ℕ) {z : ℤ} → z ≡ signedOf prime c → (z ≡ signedOf prime c) × SignedRange prime z
-ranged c e = (e, subst (SignedRange prime) (sym e) (signed-range 1006632960 prime refl c))
+  signed-high l = ranged (toZ-ofZ less-fits ∙ rw (as-is, modulus-as-is, ← e, lt-leb x ((p - 1) / 2) (omega arith)))

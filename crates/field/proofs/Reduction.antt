@@ -1,7 +1,7 @@
 -- What is left of x by p, without a division by p. With u = x / 2^30 and q = u * m / 2^33 the rest x - q * p is below 2 * p: m * p is at
 -- most 2^63, so q * p is at most x; 2^63 is below (m + 1) * p, so the rest is below p + u * p / 2^33 + 2^30; and u is at most
 -- p * p / 2^30, so by `cube` that is at most 2 * p.
-use mathlib.Core.Path.{_≡_, ap}
+use mathlib.Core.Path.{_≡_, refl, ap}
 use Prim.Native.Nat.{ℕ, _+_, _*_, _-_, _/_, _%_, _≤_, _<_, _^_}
 use native.Mathlib.Omega.{arith}
 use native.Mathlib.Nat.{mul-le-mul, mul-le-mul-left, mul-le-mul-right, lt-of-mul-lt-mul-right}
@@ -52,6 +52,6 @@ module _ {p m x : ℕ} (pre : (x < p * p) × Modulus p × Reciprocal p m) where
 pub both-primes : BothPrimes
 both-primes =
     record {
-      babyBear = (record { third = lit≤ tt; half = lit≤ tt }, record { low = lit≤ tt; high = lit< tt });
-      koalaBear = (record { third = lit≤ tt; half = lit≤ tt }, record { low = lit≤ tt; high = lit< tt });
+      babyBear = (record { third = lit≤ tt; half = lit≤ tt; odd = refl }, record { low = lit≤ tt; high = lit< tt });
+      koalaBear = (record { third = lit≤ tt; half = lit≤ tt; odd = refl }, record { low = lit≤ tt; high = lit< tt });
     }

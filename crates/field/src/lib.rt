@@ -33,14 +33,8 @@ pub fn mul(a: u32, b: u32) -> u32
     modular::mul(PRIME, RECIPROCAL, a, b)
 }
 
-// A value up to half the prime is itself, and above that less the prime.
 pub fn signed(a: u32) -> i64
     ensures { λ r. ⌜ (r ≡ signedOf prime a) × SignedRange prime r ⌝ }
 {
-    let value = modular::reduced(PRIME, a);
-    if value <= PRIME / 2 {
-        value as i64
-    } else {
-        value as i64 - PRIME as i64
-    }
+    modular::signed(PRIME, a)
 }

@@ -1,7 +1,7 @@
 // Arithmetic modulo p, of any words. Nothing here divides but by a power of 2, and there is no loop.
 ghost use mathlib.Core.Path.{_≡_};
 ghost use Prim.Native.Nat.{_*_, _%_, _<_};
-ghost use Rattle.semantics.specs.Arithmetic.{addM, subM, mulM, negM};
+ghost use Rattle.semantics.specs.Arithmetic.{addM, subM, mulM, negM, signedOf, SignedRange};
 ghost use Rattle.field.specs.Modulus.{Modulus, Reciprocal};
 
 // A word as a value; a word is below 3p.
@@ -41,8 +41,8 @@ pub fn neg(p: u32, a: u32) -> u32
     requires { ⌜ Modulus p ⌝ }
     ensures { λ r. ⌜ r ≡ negM p a ⌝ }
 {
-    let value = reduced(p, a);
-    if value == 0 { 0 } else { p - value }
+    let less = reduced(p, a);
+    if less == 0 { 0 } else { p - less }
 }
 
 // The remainder of x by p. m is 2^63 / p; x / 2^30 * m / 2^33 is the quotient or one less.
@@ -66,4 +66,17 @@ pub fn mul(p: u32, m: u64, a: u32, b: u32) -> u32
 {
     let product = reduced(p, a) as u64 * reduced(p, b) as u64;
     remainder(p, m, product)
+}
+
+// A value up to half of p is itself, and above that less p.
+pub fn signed(p: u32, a: u32) -> i64
+    requires { ⌜ Modulus p ⌝ }
+    ensures { λ r. ⌜ (r ≡ signedOf p a) × SignedRange p r ⌝ }
+{
+    let value = reduced(p, a);
+    if value <= p / 2 {
+        value as i64
+    } else {
+        value as i64 - p as i64
+    }
 }
