@@ -24,12 +24,12 @@ sub-result c =
 returns : tie.Need-returns
 returns c =
     let start = c .before .before in
-    signed-low (start .args .p) (start .args .a) (start .pre) (c .before .reduced .ensures) (c .if1 .taken)
+    signed-low (start .args .p) (start .args .a) (start .pre) (c .before .reduced .ensures) (search needs)
 
 returns-2 : tie.Need-returns-2
 returns-2 c =
     let start = c .before .before in
-    signed-high (start .args .p) (start .args .a) (start .pre) (c .before .reduced .ensures) (c .if1 .left)
+    signed-high (start .args .p) (start .args .a) (start .pre) (c .before .reduced .ensures) (search needs)
 
 pub signed-spec : {M : Type 1} → statement M
 signed-spec = tie.close (tie.spec reduced-requires cast-result cast-result-2 cast-result-3 sub-result returns returns-2)
