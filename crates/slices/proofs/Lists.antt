@@ -17,17 +17,13 @@ flat_append {Y = Y} f (u ∷ us) vs = ap (λ (l : List Y). f u ++ l) (flat_appen
 module _ {X Y : Type 0} (f : X → List Y) (w : ℕ) where
   pub flat_length : ((x : X) → length (f x) ≡ w) → (xs : List X) → length (flat_map f xs) ≡ w * length xs
   unfolding flat_map
-  flat_length h xs = elim xs [
-    | [] ↦ sym (mul-zero w)
-    | x ∷ (xs → ih) ↦ length-append (f x) (flat_map f xs) ∙ omega (arith, h x, mul-suc w (length xs))
-  ]
+  flat_length h [] = sym (mul-zero w)
+  flat_length h (x ∷ xs) = length-append (f x) (flat_map f xs) ∙ omega (arith, h x, mul-suc w (length xs), flat_length h xs)
 
   pub flat_most : ((x : X) → length (f x) ≤ w) → (xs : List X) → length (flat_map f xs) ≤ w * length xs
   unfolding flat_map
-  flat_most h xs = elim xs [
-    | [] ↦ omega arith
-    | x ∷ (xs → ih) ↦ omega (arith, length-append (f x) (flat_map f xs), h x, mul-suc w (length xs))
-  ]
+  flat_most h [] = omega arith
+  flat_most h (x ∷ xs) = omega (arith, length-append (f x) (flat_map f xs), h x, mul-suc w (length xs), flat_most h xs)
 
 pub map_set : {X Y : Type 0} (f : X → Y) (l : List X) (i : ℕ) (x : X) → map f (set l i x) ≡ set (map f l) i (f x)
 map_set f [] i x = refl
