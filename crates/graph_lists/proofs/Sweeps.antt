@@ -4,7 +4,7 @@ use mathlib.Core.Bool.{Bool, true, false, cond}
 use mathlib.Core.List.{List, ◌++◌, append_assoc, append-nil}
 use Prim.Native.Nat.{ℕ, zero, suc, ◌+◌, ◌-◌, ◌≤◌, ◌<◌}
 use native.Mathlib.Omega.{arith}
-use native.Mathlib.Nat.{zero_add}
+use native.Mathlib.Nat.{zero-add}
 use native.Mathlib.Numerals.{add-one}
 use lib.Dec.{eqb, ltb, leb}
 use lib.ListN.{length, get_or, set, drop, replicate, length-append, length-replicate, replicate-append-replicate}
@@ -109,7 +109,7 @@ module _ {s₀ out₀ : List ℕ} {at nodes : ℕ} {s out : List ℕ} {next node
     swept_room =
         let e = ap length (among_more 0 node s₀) ∙ length-append (flagged_among 0 node s₀) (one_if (leb 65536 (marks_of s₀ (0 + node))) (0 + node)) in
         let z : length (one_if (leb 65536 (marks_of s₀ (0 + node))) (0 + node)) ≡ length (one_if (leb 65536 (marks_of s₀ node)) node) =
-        ap (λ (j : ℕ). length (one_if (leb 65536 (marks_of s₀ j)) j)) (zero_add node) in
+        ap (λ (j : ℕ). length (one_if (leb 65536 (marks_of s₀ j)) j)) (zero-add node) in
         omega (arith, among_le s₀ (suc node) nodes 0 (omega arith))
 
     -- The entry at `node` is as it was.
@@ -137,7 +137,7 @@ module _ {s₀ out₀ : List ℕ} {at nodes : ℕ} {s out : List ℕ} {next node
         let w : b ≡ leb 65536 (marks_of s₀ node) = e ∙ ap (leb 65536) swept_word in
         let old : List ℕ = flagged_among 0 node s₀ in
         let new : old ++ one_if b node ≡ flagged_among 0 (node + 1) s₀ =
-        ap (λ (c : Bool). old ++ one_if c node) w ∙ ap (λ (j : ℕ). old ++ one_if (leb 65536 (marks_of s₀ j)) j) (sym (zero_add node))
+        ap (λ (c : Bool). old ++ one_if c node) w ∙ ap (λ (j : ℕ). old ++ one_if (leb 65536 (marks_of s₀ j)) j) (sym (zero-add node))
         ∙ sym (among_more 0 node s₀) ∙ ap (λ (j : ℕ). flagged_among 0 j s₀) (sym (add-one node)) in
         let r : at + length old + length (one_if b node) ≤ length out₀ =
         subst (λ (c : Bool). at + length old + length (one_if c node) ≤ length out₀) (sym w) swept_room in

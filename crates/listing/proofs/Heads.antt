@@ -71,10 +71,8 @@ header_of family vs ts row = header_text family (listed_at (width_of family) vs 
 
 flat_map_lem : {X Y : Type 0} (f : Y → List ℕ) (g : X → Y) (xs : List X) → flat_map (λ (x : X). f (g x)) xs ≡ flat_map f (map g xs)
 unfolding flat_map
-flat_map_lem f g xs = elim xs [
-  | [] ↦ refl
-  | x ∷ (xs → ih) ↦ ap (λ (l : List ℕ). f (g x) ++ l) ih
-]
+flat_map_lem f g [] = refl
+flat_map_lem f g (x ∷ xs) = let ih = flat_map_lem f g xs in ap (λ (l : List ℕ). f (g x) ++ l) ih
 
 pub headers_rows : (family : Family) (hs vs ts : List ℕ) → row_lines 4 (header_of family vs ts) hs 0 (length hs / 4) ≡ family_lines family hs vs ts
 unfolding header_lines listed

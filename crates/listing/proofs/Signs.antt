@@ -4,7 +4,7 @@ use mathlib.Core.Bool.{true, false}
 use mathlib.Core.List.{List, ◌∷◌}
 use Prim.Native.Nat.{ℕ, suc, ◌≤◌}
 use native.Mathlib.Omega.{arith}
-use native.Mathlib.Nat.{zero_add}
+use native.Mathlib.Nat.{zero-add}
 use lib.Dec.{T, leb→le}
 use lib.IntN.{ℤ, pos, negsuc, nat_abs, ◌-ℤ◌}
 use mir.Syntax.{w64}
@@ -53,7 +53,7 @@ minus : (z : ℤ) → nat_abs z ≤ 4294967295 → le_z (pos 0) z ≡ false → 
 unfolding integer
 minus (pos n) h t w = not-both (le-leb 0 n (omega arith)) t
 minus (negsuc n) h t w =
-    let e : turned (negsuc n) ≡ pos (suc n) = to_z_pos w64 (omega arith) ∙ ap pos (zero_add (suc n)) in
+    let e : turned (negsuc n) ≡ pos (suc n) = to_z_pos w64 (omega arith) ∙ ap pos (zero-add (suc n)) in
     record {
       turns = record { sfits = omega arith };
       nonneg = rw e tt;

@@ -43,10 +43,10 @@ Alike p xs ys = (v : List ℕ) → val p (only_at v) xs ≡ val p (only_at v) ys
 
 module _ (p : ℕ) (big : 1 < p) where
   above_zero : (v : List ℕ) (xs : List Monomial) → Above v xs → val p (only_at v) xs ≡ 0
-  above_zero v xs = elim xs [
-    | [] ↦ λ h. unfold val in refl
-    | x ∷ (t → ih) ↦ λ h. simp (val_cons, val_one, at_below v x.vars h.0, mul_m_zero, ih h.1) (zero_add_m p big 0 (omega arith))
-  ]
+  above_zero v [] = λ h. unfold val in refl
+  above_zero v (x ∷ t) =
+      let ih = above_zero v t in
+      λ h. simp (val_cons, val_one, at_below v x.vars h.0, mul_m_zero, ih h.1) (zero_add_m p big 0 (omega arith))
 
   head_coef : (x : Monomial) (xs : List Monomial) → x.coef < p → Above x.vars xs → val p (only_at x.vars) (x ∷ xs) ≡ x.coef
   head_coef x xs h k = simp (val_cons, val_one, at_same, mul_m_one, above_zero x.vars xs k, add_m_zero)
@@ -113,10 +113,8 @@ sum_append [] ns acc = refl
 sum_append (m ∷ ms) ns acc = sum_append ms ns (insert_monomial prime m acc)
 
 val_sum : (w : List ℕ → ℕ) (ms acc : List Monomial) → val prime w (insert_all ms acc) ≡ add_m prime (val prime w ms) (val prime w acc)
-val_sum w ms = elim ms [
-  | [] ↦ λ acc. unfold val in (rw sum_nil (sym (zero_add_m prime prime_big (val prime w acc) (val_lt prime prime_big w acc))))
-  | m ∷ (t → ih) ↦ λ acc. rw sum_cons (ih (insert_monomial prime m acc) ∙ simp (val_insert prime prime_big w, val_cons, sums))
-]
+val_sum w [] = λ acc. unfold val in (rw sum_nil (sym (zero_add_m prime prime_big (val prime w acc) (val_lt prime prime_big w acc))))
+val_sum w (m ∷ t) = let ih = val_sum w t in λ acc. rw sum_cons (ih (insert_monomial prime m acc) ∙ simp (val_insert prime prime_big w, val_cons, sums))
 
 canon_sum : (ms acc : List Monomial) → All (Small prime) ms → Canon prime acc → Canon prime (insert_all ms acc)
 unfolding insert_all

@@ -44,10 +44,10 @@ unfolding monomial_words
 one_length m = omega arith
 
 pub words_length : (ms : List Monomial) → length (list_words ms) ≡ list_size ms
-words_length ms = elim ms [
-  | [] ↦ unfold list_size in (rw words_nil)
-  | m ∷ (t → ih) ↦ rw (words_cons, size_cons) (omega (arith, length-append (monomial_words m) (list_words t), one_length m, ih))
-]
+words_length [] = unfold list_size in (rw words_nil)
+words_length (m ∷ t) =
+    let ih = words_length t in
+    rw (words_cons, size_cons) (omega (arith, length-append (monomial_words m) (list_words t), one_length m, ih))
 
 -- A monomial is read back, and what stands behind it is left.
 pub read_front : (m : Monomial) (rest : List ℕ) → read_monomial (monomial_words m ++ rest) ≡ m
@@ -67,15 +67,14 @@ unfolding read_list
 list_suc n ws = refl
 
 pub read_words : (ms : List Monomial) (rest : List ℕ) → read_list (length ms) (list_words ms ++ rest) ≡ ms
-read_words ms rest = elim ms [
-  | [] ↦ list_zero (list_words [] ++ rest)
-  | m ∷ (t → ih) ↦
-      let e : list_words (m ∷ t) ++ rest ≡ monomial_words m ++ (list_words t ++ rest) = rw words_cons (append_assoc (monomial_words m) (list_words t) rest) in
-      let d : drop (2 + get_or (monomial_words m ++ (list_words t ++ rest)) 0 0) (monomial_words m ++ (list_words t ++ rest)) ≡ list_words t ++ rest =
-      rw (front_count m (list_words t ++ rest)) (drop_at (monomial_words m) (list_words t ++ rest) (2 + length m.vars) (one_length m)) in
-      ap (read_list (suc (length t))) e ∙ list_suc (length t) (monomial_words m ++ (list_words t ++ rest))
-      ∙ rw (read_front m (list_words t ++ rest), d, ih)
-]
+read_words [] rest = list_zero (list_words [] ++ rest)
+read_words (m ∷ t) rest =
+    let ih = read_words t rest in
+    let e : list_words (m ∷ t) ++ rest ≡ monomial_words m ++ (list_words t ++ rest) = rw words_cons (append_assoc (monomial_words m) (list_words t) rest) in
+    let d : drop (2 + get_or (monomial_words m ++ (list_words t ++ rest)) 0 0) (monomial_words m ++ (list_words t ++ rest)) ≡ list_words t ++ rest =
+    rw (front_count m (list_words t ++ rest)) (drop_at (monomial_words m) (list_words t ++ rest) (2 + length m.vars) (one_length m)) in
+    ap (read_list (suc (length t))) e ∙ list_suc (length t) (monomial_words m ++ (list_words t ++ rest))
+    ∙ rw (read_front m (list_words t ++ rest), d, ih)
 
 -- A list whose words stand at `at`.
 module _ (words : List ℕ) (at : ℕ) (ms : List Monomial) (e : take (list_size ms) (drop at words) ≡ list_words ms) where

@@ -4,7 +4,7 @@ use mathlib.Core.Bool.{Bool, true, false, cond}
 use mathlib.Core.List.{List, ◌∷◌}
 use Prim.Native.Nat.{ℕ, zero, suc, ◌+◌, ◌<◌}
 use native.Mathlib.Omega.{arith}
-use native.Mathlib.Nat.{zero_add}
+use native.Mathlib.Nat.{zero-add}
 use lib.Dec.{eqb}
 use lib.ListN.{length, get_or, set, length-set}
 use lib.Seq.{ext_get_or, get_or-set_same, get_or-set_other}
@@ -25,7 +25,7 @@ tabulate_at k (suc n) f zero d h = ap f (omega arith)
 tabulate_at k (suc n) f (suc i) d h = tabulate_at (suc k) n f i d (omega arith) ∙ ap f (omega arith)
 
 pub tabulate_from : (n : ℕ) (f : ℕ → ℕ) (i d : ℕ) → i < n → get_or (tabulate 0 n f) i d ≡ f i
-tabulate_from n f i d h = tabulate_at 0 n f i d h ∙ ap f (zero_add i)
+tabulate_from n f i d h = tabulate_at 0 n f i d h ∙ ap f (zero-add i)
 
 -- Two tables with the same entries are the same.
 pub tabulate_same : (n : ℕ) (f g : ℕ → ℕ) → ((i : ℕ) → i < n → f i ≡ g i) → tabulate 0 n f ≡ tabulate 0 n g

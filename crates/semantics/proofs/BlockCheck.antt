@@ -4,7 +4,7 @@ use mathlib.Core.Bool.{Bool, true, false, cond, ◌||◌}
 use mathlib.Core.List.{List, [], ◌∷◌, ◌++◌, flat_map, append_assoc}
 use Prim.Native.Nat.{ℕ, zero, suc, ◌+◌, ◌*◌, ◌-◌, ◌/◌, ◌%◌, ◌^◌, ◌≤◌, ◌<◌}
 use native.Mathlib.Omega.{arith}
-use native.Mathlib.Nat.{zero_add, add-zero, pow-suc, add-sub_of_le}
+use native.Mathlib.Nat.{zero-add, add-zero, pow-suc, add-sub_of_le}
 use lib.Dec.{eqb, leb, ltb}
 use lib.ListN.{length, get_or, take, drop}
 use lib.Seq.{get_or-drop, drop-drop, drop_at, length-take-le, ext_get_or}
@@ -341,7 +341,7 @@ module _ (bs : List ℕ) (out : ℕ) where
       → Accepted (reader_call bs (out ∷ []))
   unfolding and_then result
   goods_accepted b r g =
-      let a = blocks_good blocks 0 bs (λ k h. ap (λ (m : ℕ). block_good (suc m) (drop (512 * k) bs)) (zero_add k) ∙ g k h) in
+      let a = blocks_good blocks 0 bs (λ k h. ap (λ (m : ℕ). block_good (suc m) (drop (512 * k) bs)) (zero-add k) ∙ g k h) in
       rw (reader_is bs out b r) (accepted [] (out ∷ []) _ (record { outputs = a.0 ∷ []; numbers = [] }) (ap read a.1))
 
   bad_refused : bad_length (length bs) ≡ false → 127 * blocks ≤ out → (k : ℕ) → k < blocks → ((i : ℕ) → i < k → block_good (suc i) (drop (512 * i) bs) ≡ true)
@@ -349,10 +349,10 @@ module _ (bs : List ℕ) (out : ℕ) where
   unfolding and_then
   bad_refused b r k h g f =
       let number : (i : ℕ) → block_good (suc (0 + i)) (drop (512 * i) bs) ≡ block_good (suc i) (drop (512 * i) bs) =
-      λ i. ap (λ (m : ℕ). block_good (suc m) (drop (512 * i) bs)) (zero_add i) in
+      λ i. ap (λ (m : ℕ). block_good (suc m) (drop (512 * i) bs)) (zero-add i) in
       reader_is bs out b r
       ∙ ap (λ (a : Answer (List ℕ)). outcome [] (out ∷ []) (read a))
-      (blocks_bad blocks 0 k bs h (λ i l. number i ∙ g i l) (number k ∙ f) ∙ ap (refused 2) (zero_add k))
+      (blocks_bad blocks 0 k bs h (λ i l. number i ∙ g i l) (number k ∙ f) ∙ ap (refused 2) (zero-add k))
 
   accepted_goods : Accepted (reader_call bs (out ∷ []))
       → (bad_length (length bs) ≡ false) × (127 * blocks ≤ out) × ((k : ℕ) → k < blocks → block_good (suc k) (drop (512 * k) bs) ≡ true)
@@ -371,7 +371,7 @@ module _ (bs : List ℕ) (out : ℕ) where
       go false b e =
           let m = needs_result 15 (127 * blocks) out (read (read_blocks blocks 0 bs)) r.0 e in
           let t = then_result (read_blocks blocks 0 bs) (λ ws. result (ws ∷ []) []) r.0 m.1 in
-          (b, m.0, λ k h. ap (λ (m : ℕ). block_good (suc m) (drop (512 * k) bs)) (sym (zero_add k)) ∙ blocks_read blocks 0 bs t.0 t.1 k h)
+          (b, m.0, λ k h. ap (λ (m : ℕ). block_good (suc m) (drop (512 * k) bs)) (sym (zero-add k)) ∙ blocks_read blocks 0 bs t.0 t.1 k h)
 
 -- Bytes in which one word of the block behind k others, word `at` of them all, is altered: that block has it altered, every other block is as it was.
 module _ (k j at w : ℕ) (bs : List ℕ) (h : j < 128) (l : 512 * k + 512 ≤ length bs) (e : at ≡ 128 * k + j) where

@@ -4,7 +4,7 @@ use mathlib.Core.Bool.{true, false}
 use mathlib.Core.List.{List, [], ◌∷◌, ◌++◌, flat_map, append_assoc}
 use Prim.Native.Nat.{ℕ, zero, suc, ◌+◌, ◌*◌, ◌-◌, ◌/◌, ◌%◌, ◌≤◌, ◌<◌}
 use native.Mathlib.Omega.{arith}
-use native.Mathlib.Nat.{mod-add-div, div-div-eq-div-mul, zero-sub, sub-zero, suc-sub-suc, zero_add, suc-add}
+use native.Mathlib.Nat.{mod-add-div, div-div-eq-div-mul, zero-sub, sub-zero, suc-sub-suc, zero-add, suc-add}
 use lib.ListN.{length, drop, replicate, length-append}
 use lib.Seq.{drop_at, take-nil, take_all, drop-nil}
 use borrow.Author.Tests.{eq-eqb, ne_eqb, le-ltb}
@@ -68,7 +68,7 @@ first_length (suc n) (w ∷ ws) = rw (first_cons n w ws) (ap suc (first_length n
 
 -- So many words and then so many more.
 pub first_add : (m n : ℕ) (ws : List ℕ) → first_words (m + n) ws ≡ first_words m ws ++ first_words n (drop m ws)
-first_add zero n ws = simp (first_zero, zero_add)
+first_add zero n ws = simp (first_zero, zero-add)
 first_add (suc m) n [] = simp (suc-add, first_nil, first_add m n []) (ap (λ (r : List ℕ). 0 ∷ (first_words m [] ++ first_words n r)) (drop-nil m))
 first_add (suc m) n (w ∷ ws) = simp (suc-add, first_cons, first_add m n ws)
 

@@ -41,21 +41,18 @@ module _ (p : ℕ) (big : 1 < p) (w : List ℕ → ℕ) where
   val_plus m n e = simp (val_one, e, add_m_mul_m)
 
   pub val_insert : (m : Monomial) (xs : List Monomial) → val p w (insert_monomial p m xs) ≡ add_m p (one p w m) (val p w xs)
-  val_insert m xs = elim xs [
-    | [] ↦ unfold insert_monomial in (val_keep m [])
-    | x ∷ (t → ih) ↦
-        by_order (λ (l : List Monomial). val p w l ≡ add_m p (one p w m) (val p w (x ∷ t))) p m x t
-        (λ e. val_keep m (x ∷ t))
-        (λ e. simp (val_cons, ih, sums))
-        (λ e. simp (val_keep, val_plus m x e, val_cons, sums))
-  ]
+  val_insert m [] = unfold insert_monomial in (val_keep m [])
+  val_insert m (x ∷ t) =
+      let ih = val_insert m t in
+      by_order (λ (l : List Monomial). val p w l ≡ add_m p (one p w m) (val p w (x ∷ t))) p m x t
+      (λ e. val_keep m (x ∷ t))
+      (λ e. simp (val_cons, ih, sums))
+      (λ e. simp (val_keep, val_plus m x e, val_cons, sums))
 
   pub val_combine : (xs : List Monomial) → val p w (combine p xs) ≡ val p w xs
   unfolding combine
-  val_combine xs = elim xs [
-    | [] ↦ refl
-    | x ∷ (t → ih) ↦ simp (val_insert, val_cons, ih)
-  ]
+  val_combine [] = refl
+  val_combine (x ∷ t) = let ih = val_combine t in simp (val_insert, val_cons, ih)
 
 -- A list has no coefficient 0.
 abbrev pub NoZero : List Monomial → Type 0
@@ -81,32 +78,32 @@ nz_keep m xs k = by-test NoZero (eqb m.coef 0) (λ e. k) (λ e. (eqb-false m.coe
 
 pub above_insert : (p : ℕ) (v : List ℕ) (m : Monomial) (xs : List Monomial) → before_vars v m.vars ≡ true → Above v xs → Above v (insert_monomial p m xs)
 unfolding plus
-above_insert p v m xs h = elim xs [
-  | [] ↦ λ k. unfold insert_monomial in (above_keep v m [] h k)
-  | x ∷ (t → ih) ↦ λ k. by_order (Above v) p m x t
-      (λ e. above_keep v m (x ∷ t) h k)
-      (λ e. (k.0, ih k.1))
-      (λ e. above_keep v (plus p m x) t k.0 k.1)
-]
+above_insert p v m [] h = λ k. unfold insert_monomial in (above_keep v m [] h k)
+above_insert p v m (x ∷ t) h =
+    let ih = above_insert p v m t h in
+    λ k. by_order (Above v) p m x t
+    (λ e. above_keep v m (x ∷ t) h k)
+    (λ e. (k.0, ih k.1))
+    (λ e. above_keep v (plus p m x) t k.0 k.1)
 
 pub asc_insert : (p : ℕ) (m : Monomial) (xs : List Monomial) → Asc xs → Asc (insert_monomial p m xs)
 unfolding plus
-asc_insert p m xs = elim xs [
-  | [] ↦ λ k. unfold insert_monomial in (asc_keep m [] tt tt)
-  | x ∷ (t → ih) ↦ λ k. by_order Asc p m x t
-      (λ e. asc_keep m (x ∷ t) (e, above_trans m.vars x.vars t e k.0) k)
-      (λ e. (above_insert p x.vars m t e k.0, ih k.1))
-      (λ e. asc_keep (plus p m x) t k.0 k.1)
-]
+asc_insert p m [] = λ k. unfold insert_monomial in (asc_keep m [] tt tt)
+asc_insert p m (x ∷ t) =
+    let ih = asc_insert p m t in
+    λ k. by_order Asc p m x t
+    (λ e. asc_keep m (x ∷ t) (e, above_trans m.vars x.vars t e k.0) k)
+    (λ e. (above_insert p x.vars m t e k.0, ih k.1))
+    (λ e. asc_keep (plus p m x) t k.0 k.1)
 
 pub nz_insert : (p : ℕ) (m : Monomial) (xs : List Monomial) → NoZero xs → NoZero (insert_monomial p m xs)
-nz_insert p m xs = elim xs [
-  | [] ↦ λ k. unfold insert_monomial in (nz_keep m [] k)
-  | x ∷ (t → ih) ↦ λ k. by_order NoZero p m x t
-      (λ e. nz_keep m (x ∷ t) k)
-      (λ e. (k.0, ih k.1))
-      (λ e. nz_keep (plus p m x) t k.1)
-]
+nz_insert p m [] = λ k. unfold insert_monomial in (nz_keep m [] k)
+nz_insert p m (x ∷ t) =
+    let ih = nz_insert p m t in
+    λ k. by_order NoZero p m x t
+    (λ e. nz_keep m (x ∷ t) k)
+    (λ e. (k.0, ih k.1))
+    (λ e. nz_keep (plus p m x) t k.1)
 
 pub asc_combine : (p : ℕ) (xs : List Monomial) → Asc (combine p xs)
 unfolding combine
@@ -129,13 +126,13 @@ module _ (p : ℕ) (P : Monomial → Type 0) (both : (m x : Monomial) → P m �
   all_keep m xs h k = by-test (All P) (eqb m.coef 0) (λ e. k) (λ e. (h, k))
 
   pub all_insert : (m : Monomial) (xs : List Monomial) → P m → All P xs → All P (insert_monomial p m xs)
-  all_insert m xs h = elim xs [
-    | [] ↦ λ k. unfold insert_monomial in (all_keep m [] h k)
-    | x ∷ (t → ih) ↦ λ k. by_order (All P) p m x t
-        (λ e. all_keep m (x ∷ t) h k)
-        (λ e. (k.0, ih k.1))
-        (λ e. all_keep (plus p m x) t (both m x h k.0) k.1)
-  ]
+  all_insert m [] h = λ k. unfold insert_monomial in (all_keep m [] h k)
+  all_insert m (x ∷ t) h =
+      let ih = all_insert m t h in
+      λ k. by_order (All P) p m x t
+      (λ e. all_keep m (x ∷ t) h k)
+      (λ e. (k.0, ih k.1))
+      (λ e. all_keep (plus p m x) t (both m x h k.0) k.1)
 
   pub all_combine : (xs : List Monomial) → All P xs → All P (combine p xs)
   unfolding combine

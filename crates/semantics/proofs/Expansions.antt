@@ -4,7 +4,7 @@ use mathlib.Core.Logic.{◌⊎◌, inl, inr}
 use mathlib.Core.Bool.{cond}
 use mathlib.Core.List.{List, [], ◌∷◌}
 use Prim.Native.Nat.{ℕ, ◌<◌}
-use native.Mathlib.Nat.{zero_add}
+use native.Mathlib.Nat.{zero-add}
 use lib.Dec.{eqb}
 use lib.ListN.{length, get_or}
 use borrow.Author.Tests.{eqb-true}
@@ -47,7 +47,7 @@ module _ (p : ℕ) where
       → list_at p rs i ≡ record_list p (record_at rs i) (list_at p rs)
   unfolding list_at lists record_at
   list_at_lem rs w i h =
-      ap (λ (k : ℕ). get_or (fill (record_list p) [] [] rs) k []) (sym (zero_add i))
+      ap (λ (k : ℕ). get_or (fill (record_list p) [] [] rs) k []) (sym (zero-add i))
       ∙ fill_at (record_list p) [] LowRecord list_low 0 [] rs no_record i refl w h
 
 -- A record that is not refused can be packed, if it is a leaf.

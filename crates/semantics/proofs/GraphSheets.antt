@@ -116,10 +116,10 @@ by_once P n x xs f g h =
     (λ e. by-test P (ltb x n) (λ k. g (ltb-true x n k)) (λ k. h (omega (arith, ltb-false n x e, ltb-false x n k))))
 
 insert_length : (n : ℕ) (xs : List ℕ) → length (insert_once n xs) ≤ suc (length xs)
-insert_length n xs = elim xs [
-  | [] ↦ unfold insert_once in (omega arith)
-  | x ∷ (t → ih) ↦ by_once (λ (l : List ℕ). length l ≤ suc (suc (length t))) n x t (λ e. omega arith) (λ e. omega arith) (λ e. omega arith)
-]
+insert_length n [] = unfold insert_once in (omega arith)
+insert_length n (x ∷ t) =
+    let ih = insert_length n t in
+    by_once (λ (l : List ℕ). length l ≤ suc (suc (length t))) n x t (λ e. omega arith) (λ e. omega arith) (λ e. omega arith)
 
 pub sorted_length : (ns : List ℕ) → length (sorted_once ns) ≤ length ns
 unfolding sorted_once
@@ -127,17 +127,17 @@ sorted_length [] = omega arith
 sorted_length (n ∷ ns) = omega (arith, insert_length n (sorted_once ns), sorted_length ns)
 
 insert_new : (n : ℕ) (xs : List ℕ) → Mem n (insert_once n xs)
-insert_new n xs = elim xs [
-  | [] ↦ unfold insert_once in (mem_here n [])
-  | x ∷ (t → ih) ↦ by_once (Mem n) n x t (λ e. mem_here n (x ∷ t)) (λ e. mem_there n x (insert_once n t) ih)
-      (λ e. subst (λ (z : ℕ). Mem z (x ∷ t)) (sym e) (mem_here x t))
-]
+insert_new n [] = unfold insert_once in (mem_here n [])
+insert_new n (x ∷ t) =
+    let ih = insert_new n t in
+    by_once (Mem n) n x t (λ e. mem_here n (x ∷ t)) (λ e. mem_there n x (insert_once n t) ih)
+    (λ e. subst (λ (z : ℕ). Mem z (x ∷ t)) (sym e) (mem_here x t))
 
 insert_old : (y n : ℕ) (xs : List ℕ) → Mem y xs → Mem y (insert_once n xs)
-insert_old y n xs = elim xs [
-  | [] ↦ λ m. not_in y m
-  | x ∷ (t → ih) ↦ λ m. by_once (Mem y) n x t (λ e. mem_there y n (x ∷ t) m) (λ e. keep_mem y x t (insert_once n t) ih m) (λ e. m)
-]
+insert_old y n [] = λ m. not_in y m
+insert_old y n (x ∷ t) =
+    let ih = insert_old y n t in
+    λ m. by_once (Mem y) n x t (λ e. mem_there y n (x ∷ t) m) (λ e. keep_mem y x t (insert_once n t) ih m) (λ e. m)
   where
     keep_mem : (y x : ℕ) (t u : List ℕ) → (Mem y t → Mem y u) → Mem y (x ∷ t) → Mem y (x ∷ u)
     keep_mem y x t u f m = go (mem_cases y x t m)
@@ -156,11 +156,11 @@ sorted_has y (n ∷ ns) m = go (mem_cases y n ns m) (sorted_has y ns)
     go (inr k) ih = insert_old y n (sorted_once ns) (ih k)
 
 insert_below : (b n : ℕ) (xs : List ℕ) → n < b → Below b xs → Below b (insert_once n xs)
-insert_below b n xs h = elim xs [
-  | [] ↦ λ w. unfold insert_once in (cons_below b n [] h w)
-  | x ∷ (t → ih) ↦ λ w. by_once (Below b) n x t (λ e. cons_below b n (x ∷ t) h w)
-      (λ e. cons_below b x (insert_once n t) (w x (mem_here x t)) (ih (λ y m. w y (mem_there y x t m)))) (λ e. w)
-]
+insert_below b n [] h = λ w. unfold insert_once in (cons_below b n [] h w)
+insert_below b n (x ∷ t) h =
+    let ih = insert_below b n t h in
+    λ w. by_once (Below b) n x t (λ e. cons_below b n (x ∷ t) h w)
+    (λ e. cons_below b x (insert_once n t) (w x (mem_here x t)) (ih (λ y m. w y (mem_there y x t m)))) (λ e. w)
 
 pub sorted_below : (b : ℕ) (ns : List ℕ) → Below b ns → Below b (sorted_once ns)
 unfolding sorted_once
@@ -187,16 +187,14 @@ over_less m n [] h k = tt
 over_less m n (x ∷ xs) h k = (omega arith, over_less m n xs h k.1)
 
 insert_over : (m n : ℕ) (xs : List ℕ) → m < n → Over m xs → Over m (insert_once n xs)
-insert_over m n xs h = elim xs [
-  | [] ↦ λ k. unfold insert_once in (h, tt)
-  | x ∷ (t → ih) ↦ λ k. by_once (Over m) n x t (λ e. (h, k)) (λ e. (k.0, ih k.1)) (λ e. k)
-]
+insert_over m n [] h = λ k. unfold insert_once in (h, tt)
+insert_over m n (x ∷ t) h = let ih = insert_over m n t h in λ k. by_once (Over m) n x t (λ e. (h, k)) (λ e. (k.0, ih k.1)) (λ e. k)
 
 insert_ascends : (n : ℕ) (xs : List ℕ) → Ascends xs → Ascends (insert_once n xs)
-insert_ascends n xs = elim xs [
-  | [] ↦ λ k. unfold insert_once in (tt, tt)
-  | x ∷ (t → ih) ↦ λ k. by_once Ascends n x t (λ e. ((e, over_less n x t e k.0), k)) (λ e. (insert_over x n t e k.0, ih k.1)) (λ e. k)
-]
+insert_ascends n [] = λ k. unfold insert_once in (tt, tt)
+insert_ascends n (x ∷ t) =
+    let ih = insert_ascends n t in
+    λ k. by_once Ascends n x t (λ e. ((e, over_less n x t e k.0), k)) (λ e. (insert_over x n t e k.0, ih k.1)) (λ e. k)
 
 pub sorted_ascends : (ns : List ℕ) → Ascends (sorted_once ns)
 unfolding sorted_once

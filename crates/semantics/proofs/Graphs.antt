@@ -5,7 +5,7 @@ use mathlib.Core.Bool.{true}
 use mathlib.Core.List.{List, [], ◌∷◌, ◌++◌}
 use Prim.Native.Nat.{ℕ, suc, ◌≤◌, ◌<◌}
 use native.Mathlib.Omega.{arith}
-use native.Mathlib.Nat.{zero_add}
+use native.Mathlib.Nat.{zero-add}
 use lib.Dec.{eqb, ltb}
 use lib.ListN.{length, get_or, length-append}
 use borrow.Author.Tests.{eqb-true, eqb-false, ltb-true, ltb-false}
@@ -41,11 +41,10 @@ find_le r (x ∷ xs) = let ih = find_le r xs in by-test (λ (k : ℕ). k ≤ suc
 
 find_at : (r : Record) (ns : List Record) → find r ns < length ns → record_at ns (find r ns) ≡ r
 unfolding find record_at
-find_at r ns = elim ns [
-  | [] ↦ λ h. absurd (omega arith)
-  | x ∷ (t → ih) ↦
-      by-test (λ (k : ℕ). k < suc (length t) → get_or (x ∷ t) k no_record ≡ r) (equal_records r x) (λ e h. sym (equal_is r x e)) (λ e h. ih (omega arith))
-]
+find_at r [] = λ h. absurd (omega arith)
+find_at r (x ∷ t) =
+    let ih = find_at r t in
+    by-test (λ (k : ℕ). k < suc (length t) → get_or (x ∷ t) k no_record ≡ r) (equal_records r x) (λ e h. sym (equal_is r x e)) (λ e h. ih (omega arith))
 
 -- What holds of interning, by whether the node is there.
 by_intern : (P : List Record → Type 0) (r : Record) (ns : List Record)
@@ -65,7 +64,7 @@ intern_has r ns = by_intern (λ (l : List Record). find r ns < length l) r ns (�
 intern_good : (p : ℕ) (r : Record) (ns : List Record) → Each (GoodRecord p) 0 ns → GoodRecord p (length ns) r → Each (GoodRecord p) 0 (intern r ns)
 intern_good p r ns w h =
     by_intern (Each (GoodRecord p) 0) r ns (λ e. w)
-    (λ e. each_snoc (GoodRecord p) 0 ns r w (subst (λ (k : ℕ). GoodRecord p k r) (sym (zero_add (length ns))) h))
+    (λ e. each_snoc (GoodRecord p) 0 ns r w (subst (λ (k : ℕ). GoodRecord p k r) (sym (zero-add (length ns))) h))
 
 module _ (p : ℕ) (A : Leaf → ℕ) where
   intern_old : (r : Record) (ns : List Record) (i : ℕ) → i < length ns → value_at p A (intern r ns) i ≡ value_at p A ns i

@@ -34,17 +34,16 @@ shown term g = record { vars = g.vars; terms = map term g.terms }
 pub headers_length : (vo to : ℕ) (gs : List Group) → length (headers vo to gs) ≡ 4 * length gs
 unfolding headers
 headers_length vo to [] = refl
-headers_length vo to (g ∷ gs) = ap (λ (n : ℕ). suc (suc (suc (suc n)))) (headers_length _ _ gs) ∙ omega arith
+headers_length vo to (g ∷ gs) = ap (λ (n : ℕ). suc (suc (suc (suc n)))) (headers_length (vo + length g.vars) (to + length g.terms) gs) ∙ omega arith
 
 module _ (term : Item → List ℕ) (width : ℕ) (wide : (t : Item) → length (term t) ≡ width) where
   rows_terms : (ts : List Item) (rest : List ℕ) → rows width (length ts) (flat_map term ts ++ rest) ≡ map term ts
   unfolding rows flat_map
-  rows_terms ts rest = elim ts [
-    | [] ↦ refl
-    | t ∷ (ts → ih) ↦
-        let rest' : List ℕ = flat_map term ts ++ rest in
-        simp (append_assoc, take_at (term t) rest' width (wide t), drop_at (term t) rest' width (wide t), ih)
-  ]
+  rows_terms [] rest = refl
+  rows_terms (t ∷ ts) rest =
+      let ih = rows_terms ts rest in
+      let rest' : List ℕ = flat_map term ts ++ rest in
+      simp (append_assoc, take_at (term t) rest' width (wide t), drop_at (term t) rest' width (wide t), ih)
 
   -- A group behind the variables and the terms of those before it.
   read_one : (g : Group) (vs ts vmore tmore : List ℕ) (vo to : ℕ) → length vs ≡ vo → length ts ≡ width * to
@@ -196,11 +195,11 @@ Valued p t = (1 ≤ t.coef) × (t.coef < p)
 module _ (P : Monomial → Type 0) (Q : Item → Type 0)
     (made : (r : Root) (m : Monomial) → (m.coef ≡ 0 → ⊥) → P m → Q (record { vars = m.vars; index = r.index; field = r.field; coef = m.coef })) where
   pub items_of_lem : (r : Root) (ms : List Monomial) → All P ms → All Q (items_of r ms)
-  items_of_lem r ms = elim ms [
-    | [] ↦ λ k. unfold items_of in tt
-    | m ∷ (ms → ih) ↦ λ k. unfold items_of in
-        (by-test (All Q) (eqb m.coef 0) (λ e. ih k.1) (λ e. (made r m (eqb-false m.coef 0 e) k.0, ih k.1)))
-  ]
+  unfolding items_of
+  items_of_lem r [] k = tt
+  items_of_lem r (m ∷ ms) k =
+      let ih = items_of_lem r ms in
+      by-test (All Q) (eqb m.coef 0) (λ e. ih k.1) (λ e. (made r m (eqb-false m.coef 0 e) k.0, ih k.1))
 
   pub items_all : (list : ℕ → List Monomial) (roots : List Root) → All (λ (r : Root). All P (list r.node)) roots → All Q (items list roots)
   unfolding items flat_map
@@ -265,10 +264,8 @@ module _ (p : ℕ) (big : 1 < p) (w : List ℕ → ℕ) (hit : ℕ → ℕ → B
   items_lt (t ∷ ts) = add_m_lt p big (mul_m p (share hit t) (w t.vars)) (items_val p w hit ts)
 
   items_append : (ts us : List Item) → items_val p w hit (ts ++ us) ≡ add_m p (items_val p w hit ts) (items_val p w hit us)
-  items_append ts us = elim ts [
-    | [] ↦ unfold items_val in (sym (zero_add_m p big (items_val p w hit us) (items_lt us)))
-    | t ∷ (ts → ih) ↦ simp (items_cons, ih, add_m_assoc)
-  ]
+  items_append [] us = unfold items_val in (sym (zero_add_m p big (items_val p w hit us) (items_lt us)))
+  items_append (t ∷ ts) us = let ih = items_append ts us in simp (items_cons, ih, add_m_assoc)
 
   -- A monomial that is left out is worth nothing.
   of_cons : (r : Root) (m : Monomial) (ms : List Monomial) → items_val p w hit (items_of r (m ∷ ms))
@@ -284,23 +281,18 @@ module _ (p : ℕ) (big : 1 < p) (w : List ℕ → ℕ) (hit : ℕ → ℕ → B
 
   -- The items of one root are worth its list where it is asked for, and nothing elsewhere.
   root_items : (r : Root) (ms : List Monomial) (b : Bool) → hit r.index r.field ≡ b → items_val p w hit (items_of r ms) ≡ cond b (val p w ms) 0
-  root_items r ms true h = elim ms [
-    | [] ↦ unfold items_of items_val val in refl
-    | m ∷ (ms → ih) ↦ simp (of_cons, h, ih, val_cons, val_one)
-  ]
-  root_items r ms false h = elim ms [
-    | [] ↦ unfold items_of items_val in refl
-    | m ∷ (ms → ih) ↦ simp (of_cons, h, ih, zero_mul_m) (zero_add_m p big 0 (omega arith))
-  ]
+  root_items r [] true h = unfold items_of items_val val in refl
+  root_items r (m ∷ ms) true h = let ih = root_items r ms true h in simp (of_cons, h, ih, val_cons, val_one)
+  root_items r [] false h = unfold items_of items_val in refl
+  root_items r (m ∷ ms) false h = let ih = root_items r ms false h in simp (of_cons, h, ih, zero_mul_m) (zero_add_m p big 0 (omega arith))
 
   items_roots : (list : ℕ → List Monomial) (roots : List Root) → items_val p w hit (items list roots) ≡ roots_val p w hit list roots
   unfolding items flat_map
-  items_roots list roots = elim roots [
-    | [] ↦ unfold items_val roots_val in refl
-    | r ∷ (roots → ih) ↦
-        items_append (items_of r (list r.node)) (items list roots)
-        ∙ simp (roots_cons, root_items r (list r.node) (hit r.index r.field) refl, ih)
-  ]
+  items_roots list [] = unfold items_val roots_val in refl
+  items_roots list (r ∷ roots) =
+      let ih = items_roots list roots in
+      items_append (items_of r (list r.node)) (items list roots)
+      ∙ simp (roots_cons, root_items r (list r.node) (hit r.index r.field) refl, ih)
 
   sort_items : (ts : List Item) → items_val p w hit (sort later ts) ≡ items_val p w hit ts
   sort_items = sort_same later (items_val p w hit) (λ t ts us e. simp (items_cons, e)) (λ t u ts. simp (items_cons, sums))
@@ -355,10 +347,8 @@ module _ (p : ℕ) (big : 1 < p) (A : Leaf → ℕ) (hit : ℕ → ℕ → Bool)
 
   split_sum : (ts : List Item) → sum_shown (split ts) ≡ items_val p (product_of p A) hit ts
   unfolding split
-  split_sum ts = elim ts [
-    | [] ↦ unfold sum_of items_val in refl
-    | t ∷ (ts → ih) ↦ simp (push_sum, items_cons, ih)
-  ]
+  split_sum [] = unfold sum_of items_val in refl
+  split_sum (t ∷ ts) = let ih = split_sum ts in simp (push_sum, items_cons, ih)
 
   pub groups_sum : (list : ℕ → List Monomial) (roots : List Root)
       → sum_of p A carries coefficient (map (shown term) (groups list roots)) ≡ roots_val p (product_of p A) hit list roots
@@ -376,10 +366,8 @@ module _ (p : ℕ) (big : 1 < p) (w : List ℕ → ℕ) (hit : ℕ → ℕ → B
 
   roots_append : (rs ss : List Root)
       → roots_val p w hit list (rs ++ ss) ≡ add_m p (roots_val p w hit list rs) (roots_val p w hit list ss)
-  roots_append rs ss = elim rs [
-    | [] ↦ unfold roots_val in (sym (zero_add_m p big (roots_val p w hit list ss) (roots_lt ss)))
-    | r ∷ (rs → ih) ↦ simp (roots_cons, ih, add_m_assoc)
-  ]
+  roots_append [] ss = unfold roots_val in (sym (zero_add_m p big (roots_val p w hit list ss) (roots_lt ss)))
+  roots_append (r ∷ rs) ss = let ih = roots_append rs ss in simp (roots_cons, ih, add_m_assoc)
 
   -- One root: its list where it is asked for, and nothing elsewhere.
   one_root : (r : Root) (b : Bool) → hit r.index r.field ≡ b → roots_val p w hit list (r ∷ []) ≡ cond b (val p w (list r.node)) 0

@@ -3,7 +3,7 @@ use mathlib.Core.Path.{◌≡◌, refl, ◌∙◌, ap, subst}
 use mathlib.Core.List.{List, [], ◌∷◌, ◌++◌, map}
 use Prim.Native.Nat.{ℕ, zero, suc, ◌+◌, ◌≤◌, ◌<◌}
 use native.Mathlib.Omega.{arith}
-use native.Mathlib.Nat.{zero_add}
+use native.Mathlib.Nat.{zero-add}
 use lib.ListN.{length, get_or, drop}
 use lib.Seq.{drop-cons}
 use Rattle.semantics.specs.Lists.{All}
@@ -36,7 +36,7 @@ each_at P n (x ∷ xs) zero d h k = subst (λ (m : ℕ). P m x) (omega arith) h.
 each_at P n (x ∷ xs) (suc i) d h k = subst (λ (m : ℕ). P m (get_or xs i d)) (omega arith) (each_at P (suc n) xs i d h.1 (omega arith))
 
 pub each_zero : {X : Type 0} (P : ℕ → X → Type 0) (xs : List X) (i : ℕ) (d : X) → Each P 0 xs → i < length xs → P i (get_or xs i d)
-each_zero P xs i d h k = rw zero_add at (each_at P 0 xs i d h k)
+each_zero P xs i d h k = rw zero-add at (each_at P 0 xs i d h k)
 
 pub each_snoc : {X : Type 0} (P : ℕ → X → Type 0) (n : ℕ) (xs : List X) (x : X) → Each P n xs → P (n + length xs) x → Each P n (xs ++ (x ∷ []))
 each_snoc P n [] x h k = (subst (λ (m : ℕ). P m x) (omega arith) k, tt)

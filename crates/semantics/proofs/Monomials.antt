@@ -44,16 +44,12 @@ module _ (p : ℕ) (big : 1 < p) (w : List ℕ → ℕ) where
   val_lt (m ∷ ms) = add_m_lt p big (one p w m) (val p w ms)
 
   pub val_append : (xs ys : List Monomial) → val p w (xs ++ ys) ≡ add_m p (val p w xs) (val p w ys)
-  val_append xs ys = elim xs [
-    | [] ↦ unfold val in (sym (zero_add_m p big (val p w ys) (val_lt ys)))
-    | x ∷ (t → ih) ↦ simp (val_cons, ih, sums)
-  ]
+  val_append [] ys = unfold val in (sym (zero_add_m p big (val p w ys) (val_lt ys)))
+  val_append (x ∷ t) ys = let ih = val_append t ys in simp (val_cons, ih, sums)
 
   pub val_neg : (xs : List Monomial) → val p w (map (neg_monomial p) xs) ≡ neg_m p (val p w xs)
-  val_neg xs = elim xs [
-    | [] ↦ unfold val in (sym (neg_m_zero p big))
-    | x ∷ (t → ih) ↦ simp (val_cons, ih, val_neg_one, val_one, ring)
-  ]
+  val_neg [] = unfold val in (sym (neg_m_zero p big))
+  val_neg (x ∷ t) = let ih = val_neg t in simp (val_cons, ih, val_neg_one, val_one, ring)
 
 -- The product of variables does not depend on their order.
 module _ (p : ℕ) (A : Leaf → ℕ) where
@@ -71,25 +67,19 @@ module _ (p : ℕ) (big : 1 < p) (A : Leaf → ℕ) where
   product_sort = sort_same above (product_of p A) (λ v s t e. simp (product_cons, e)) (λ v u t. simp (product_cons, prods))
 
   product_append : (vs ws : List ℕ) → product_of p A (vs ++ ws) ≡ mul_m p (product_of p A vs) (product_of p A ws)
-  product_append vs ws = elim vs [
-    | [] ↦ unfold product_of in (sym (one_mul_m p big (product_of p A ws) (product_lt ws)))
-    | v ∷ (t → ih) ↦ simp (product_cons, ih, prods)
-  ]
+  product_append [] ws = unfold product_of in (sym (one_mul_m p big (product_of p A ws) (product_lt ws)))
+  product_append (v ∷ t) ws = let ih = product_append t ws in simp (product_cons, ih, prods)
 
   product_both : (vs ws : List ℕ) → product_of p A (sort above (vs ++ ws)) ≡ mul_m p (product_of p A vs) (product_of p A ws)
   product_both vs ws = product_sort (vs ++ ws) ∙ product_append vs ws
 
   val_scale : (x : Monomial) (ys : List Monomial)
       → val p (product_of p A) (map (mul_monomial p x) ys) ≡ mul_m p (one p (product_of p A) x) (val p (product_of p A) ys)
-  val_scale x ys = elim ys [
-    | [] ↦ unfold val in (sym (mul_m_zero p (one p (product_of p A) x)))
-    | y ∷ (t → ih) ↦ simp (val_cons, ih, val_mul_one, val_one, product_both, ring)
-  ]
+  val_scale x [] = unfold val in (sym (mul_m_zero p (one p (product_of p A) x)))
+  val_scale x (y ∷ t) = let ih = val_scale x t in simp (val_cons, ih, val_mul_one, val_one, product_both, ring)
 
   pub val_mul : (xs ys : List Monomial)
       → val p (product_of p A) (products p xs ys) ≡ mul_m p (val p (product_of p A) xs) (val p (product_of p A) ys)
   unfolding products
-  val_mul xs ys = elim xs [
-    | [] ↦ unfold val in (sym (zero_mul_m p (val p (product_of p A) ys)))
-    | x ∷ (t → ih) ↦ simp (val_append, val_scale, val_cons, ih, ring)
-  ]
+  val_mul [] ys = unfold val in (sym (zero_mul_m p (val p (product_of p A) ys)))
+  val_mul (x ∷ t) ys = let ih = val_mul t ys in simp (val_append, val_scale, val_cons, ih, ring)

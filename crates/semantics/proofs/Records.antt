@@ -4,7 +4,7 @@ use mathlib.Core.Bool.{Bool, true, false, ◌&&◌}
 use mathlib.Core.List.{List, [], ◌∷◌, ◌++◌, map}
 use Prim.Native.Nat.{ℕ, zero, suc, ◌≤◌, ◌<◌}
 use native.Mathlib.Omega.{arith}
-use native.Mathlib.Nat.{zero_add}
+use native.Mathlib.Nat.{zero-add}
 use lib.Dec.{eqb, ltb, leb}
 use lib.ListN.{length, get_or, get_or-append, get_or-eq_default}
 use lib.Seq.{get_or_at}
@@ -164,12 +164,12 @@ module _ (p : ℕ) (A : Leaf → ℕ) where
       → value_at p A rs i ≡ node_value p A (node_of (record_at rs i)) (value_at p A rs)
   unfolding value_at values record_at record_value
   value_at_lem rs w i h =
-      ap (λ (k : ℕ). get_or (fill (record_value p A) 0 [] rs) k 0) (sym (zero_add i))
+      ap (λ (k : ℕ). get_or (fill (record_value p A) 0 [] rs) k 0) (sym (zero-add i))
       ∙ fill_at (record_value p A) 0 LowRecord record_low 0 [] rs no_record i refl w h
 
   length_values : (rs : List Record) → length (values p A rs) ≡ length rs
   unfolding values
-  length_values rs = fill_length (record_value p A) 0 [] rs ∙ zero_add (length rs)
+  length_values rs = fill_length (record_value p A) 0 [] rs ∙ zero-add (length rs)
 
   -- One more record: the values before it, and its own.
   pub value_old : (rs : List Record) (r : Record) (i : ℕ) → i < length rs → value_at p A (rs ++ (r ∷ [])) i ≡ value_at p A rs i

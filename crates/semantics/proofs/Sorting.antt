@@ -54,10 +54,8 @@ module _ {X : Type 0} (after : X → X → Bool) where
 
   -- What every element has, every element has after sorting.
   insert_all_lem : (P : X → Type 0) (x : X) (ys : List X) → P x → All P ys → All P (insert_sorted after x ys)
-  insert_all_lem P x ys h = elim ys [
-    | [] ↦ λ k. rw insert_nil (h, tt)
-    | y ∷ (t → ih) ↦ λ k. insert_by (All P) x y t (λ e. (k.0, ih k.1)) (λ e. (h, k))
-  ]
+  insert_all_lem P x [] h = λ k. rw insert_nil (h, tt)
+  insert_all_lem P x (y ∷ t) h = let ih = insert_all_lem P x t h in λ k. insert_by (All P) x y t (λ e. (k.0, ih k.1)) (λ e. (h, k))
 
   pub sort_all : (P : X → Type 0) (xs : List X) → All P xs → All P (sort after xs)
   sort_all P [] k = rw sort_nil tt
@@ -67,17 +65,14 @@ module _ {X : Type 0} (after : X → X → Bool) where
   module _ {Y : Type 0} (F : List X → Y) (rest : (x : X) (s t : List X) → F s ≡ F t → F (x ∷ s) ≡ F (x ∷ t))
       (swap : (x y : X) (t : List X) → F (x ∷ y ∷ t) ≡ F (y ∷ x ∷ t)) where
     insert_same : (x : X) (ys : List X) → F (insert_sorted after x ys) ≡ F (x ∷ ys)
-    insert_same x ys = elim ys [
-      | [] ↦ ap F (insert_nil x)
-      | y ∷ (t → ih) ↦
-          insert_by (λ (l : List X). F l ≡ F (x ∷ y ∷ t)) x y t (λ e. rest y (insert_sorted after x t) (x ∷ t) ih ∙ swap y x t) (λ e. refl)
-    ]
+    insert_same x [] = ap F (insert_nil x)
+    insert_same x (y ∷ t) =
+        let ih = insert_same x t in
+        insert_by (λ (l : List X). F l ≡ F (x ∷ y ∷ t)) x y t (λ e. rest y (insert_sorted after x t) (x ∷ t) ih ∙ swap y x t) (λ e. refl)
 
     pub sort_same : (xs : List X) → F (sort after xs) ≡ F xs
-    sort_same xs = elim xs [
-      | [] ↦ ap F sort_nil
-      | x ∷ (t → ih) ↦ ap F (sort_cons x t) ∙ insert_same x (sort after t) ∙ rest x (sort after t) t ih
-    ]
+    sort_same [] = ap F sort_nil
+    sort_same (x ∷ t) = let ih = sort_same t in ap F (sort_cons x t) ∙ insert_same x (sort after t) ∙ rest x (sort after t) t ih
 
   module _ (asym : (x y : X) → after x y ≡ true → after y x ≡ false)
       (trans : (x y z : X) → after x y ≡ true → after y z ≡ true → after x z ≡ true)
@@ -95,12 +90,12 @@ module _ {X : Type 0} (after : X → X → Bool) where
     ahead_trans x y (z ∷ s) h k = (not_after_trans x y z h k.0, ahead_trans x y s h k.1)
 
     sorted_insert : (x : X) (s : List X) → Sorted after s → Sorted after (insert_sorted after x s)
-    sorted_insert x s = elim s [
-      | [] ↦ λ k. rw insert_nil (tt, tt)
-      | y ∷ (t → ih) ↦ λ k. insert_by (Sorted after) x y t
-          (λ e. (insert_all_lem (λ (z : X). after y z ≡ false) x t (asym x y e) k.0, ih k.1))
-          (λ e. ((e, ahead_trans x y t e k.0), k))
-    ]
+    sorted_insert x [] = λ k. rw insert_nil (tt, tt)
+    sorted_insert x (y ∷ t) =
+        let ih = sorted_insert x t in
+        λ k. insert_by (Sorted after) x y t
+        (λ e. (insert_all_lem (λ (z : X). after y z ≡ false) x t (asym x y e) k.0, ih k.1))
+        (λ e. ((e, ahead_trans x y t e k.0), k))
 
     pub sorted_sort : (xs : List X) → Sorted after (sort after xs)
     sorted_sort [] = rw sort_nil tt

@@ -1,7 +1,7 @@
 -- The lists stand in their slices, or 17 tells the first slice that is too short.
 use mathlib.Core.Path.{sym, ap, ◌∙◌}
 use Prim.Native.Nat.{ℕ}
-use native.Mathlib.Nat.{zero_add}
+use native.Mathlib.Nat.{zero-add}
 use borrow.Author.Rules.{rules}
 use Rattle.grouping.specs.declared.Grouped.{Grouped}
 use Rattle.constraint_lists.specs.declared.ConstraintLists.TheVariants.{Refused}
@@ -22,7 +22,7 @@ returns : tie.Need-returns
 returns c =
     let q = c.before.enum_told.given.1 in
     let k : ℕ = c.before.enum_told.given.0.0 in
-    ap Refused (c.too_short.ensures ∙ ap (λ (g : Grouped). short_of g 0) q ∙ ap too_short (zero_add k)) ∙ ap constraints_in (sym q)
+    ap Refused (c.too_short.ensures ∙ ap (λ (g : Grouped). short_of g 0) q ∙ ap too_short (zero-add k)) ∙ ap constraints_in (sym q)
 
 returns-2 : tie.Need-returns-2
 returns-2 c = ap constraints_in (sym c.before.grouped.given.1)
