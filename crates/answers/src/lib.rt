@@ -5,21 +5,21 @@ ghost use Rattle.std.specs.Prelude.{◌≡◌, max, min};
 ghost use Rattle.answers.specs.Replies.{count_of};
 
 // A refusal by its number, with its place.
-#[derive(Drop)]
+#[derive(Clone, Copy)]
 pub struct Refusal {
     pub number: u32,
     pub place: usize,
 }
 
 // How many words a call wrote; the block writer counts bytes.
-#[derive(Drop)]
+#[derive(Clone, Copy)]
 pub enum Written {
     Words(usize),
     Refused(Refusal),
 }
 
 // The number that a call hands back.
-#[derive(Drop)]
+#[derive(Clone, Copy)]
 pub enum Counted {
     Number(usize),
     Refused(Refusal),

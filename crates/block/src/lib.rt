@@ -10,7 +10,7 @@ use answers::Refusal;
 
 pub mod words;
 
-#[derive(Drop)]
+#[derive(Clone, Copy)]
 pub enum BlockChecked {
     Yes,
     No,

@@ -32,7 +32,7 @@ pub fn word_bytes(w: u32) -> [u8; 4]
 }
 
 // Every fourth word: the sum of those so far, and the sum of all these sums, in which a word counts once for each row from its own on.
-#[derive(Drop)]
+#[derive(Clone, Copy)]
 struct Column {
     sum: u64,
     sums: u64,

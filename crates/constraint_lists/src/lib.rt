@@ -14,7 +14,7 @@ use answers::Refusal;
 use expand::Expanded;
 use grouping::{Grouped, Lengths};
 
-#[derive(Drop)]
+#[derive(Clone, Copy)]
 pub enum ConstraintLists {
     Written(Lengths),
     Refused(Refusal),

@@ -15,14 +15,14 @@ use packed_var::{Packed, PackedVar};
 use records::Record;
 
 // How many monomials a list has in the work, or why there is none: 8 to 13.
-#[derive(Drop)]
+#[derive(Clone, Copy)]
 pub enum Made {
     Held(usize),
     Fault(u32),
 }
 
 // Where a list stands in the pool, and how many monomials it has.
-#[derive(Drop)]
+#[derive(Clone, Copy)]
 pub struct PoolList {
     pub at: usize,
     pub count: usize,

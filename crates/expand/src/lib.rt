@@ -19,7 +19,7 @@ use answers::Refusal;
 use monomial::lists;
 
 // How many words of the pool are taken then, or a refusal.
-#[derive(Drop)]
+#[derive(Clone, Copy)]
 pub enum Expanded {
     Used(usize),
     Refused(Refusal),

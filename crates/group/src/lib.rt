@@ -12,14 +12,14 @@ mod search;
 pub mod totals;
 
 // The variables of a monomial are those of a row, or belong in front of one.
-#[derive(Drop)]
+#[derive(Clone, Copy)]
 pub enum Found {
     There(usize),
     Missing(usize),
 }
 
 // How many rows there are, or the slice is too short.
-#[derive(Drop)]
+#[derive(Clone, Copy)]
 pub enum Tallied {
     Headers(usize),
     Full,

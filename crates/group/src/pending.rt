@@ -12,14 +12,14 @@ use slices::shift;
 
 // What becomes of the next monomial: it is counted or waits, with how many wait then and near which row the one after it is looked for;
 // or those that wait come first.
-#[derive(Drop)]
+#[derive(Clone, Copy)]
 pub enum Next {
     Taken(usize, usize),
     Stopped,
 }
 
 // How many monomials a run took, where the next one stands, and how many wait.
-#[derive(Drop)]
+#[derive(Clone, Copy)]
 pub struct Run {
     pub done: usize,
     pub place: usize,

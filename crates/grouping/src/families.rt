@@ -11,7 +11,7 @@ ghost use Rattle.grouping.specs.Families.{ToTally, constraint_root, field_root, 
 use group::{Tallied, place};
 
 // Which records of a sheet are grouped: its constraints, the counts of its interactions, or their fields.
-#[derive(Drop)]
+#[derive(Clone, Copy)]
 pub enum Family {
     Constraints,
     Counts,

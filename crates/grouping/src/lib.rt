@@ -14,7 +14,7 @@ use families::Family;
 use group::{Tallied, place, totals};
 
 // How many words each list takes.
-#[derive(Drop)]
+#[derive(Clone, Copy)]
 pub struct Lengths {
     pub headers: usize,
     pub variables: usize,
@@ -22,7 +22,7 @@ pub struct Lengths {
 }
 
 // The lists are written, or a slice is too short: the first such, counted from 1.
-#[derive(Drop)]
+#[derive(Clone, Copy)]
 pub enum Grouped {
     Written(Lengths),
     Short(usize),

@@ -9,7 +9,7 @@ pub mod words;
 
 // One monomial of a list: where its variables and its terms start, and how many it has of each. The two numbers are words, as in the
 // lists that the calls write.
-#[derive(Drop)]
+#[derive(Clone, Copy)]
 pub struct MonomialHeader {
     pub var_offset: u32,
     pub term_offset: u32,

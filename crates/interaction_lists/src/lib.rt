@@ -18,7 +18,7 @@ use expand::Expanded;
 use grouping::{Grouped, Lengths};
 
 // How many words each list of the interactions takes, and the two numbers.
-#[derive(Drop)]
+#[derive(Clone, Copy)]
 pub struct InteractionLengths {
     pub numerators: Lengths,
     pub denominators: Lengths,
@@ -26,7 +26,7 @@ pub struct InteractionLengths {
     pub max_fields_len: usize,
 }
 
-#[derive(Drop)]
+#[derive(Clone, Copy)]
 pub enum InteractionLists {
     Written(InteractionLengths),
     Refused(Refusal),

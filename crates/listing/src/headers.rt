@@ -12,7 +12,7 @@ use crate::terms::{put_t_line, put_u_line, put_w_line};
 use packed_var::PackedVar;
 
 // The three families of lists.
-#[derive(Drop)]
+#[derive(Clone, Copy)]
 pub enum Family {
     Constraints,
     Numerators,

@@ -15,7 +15,7 @@ mod slots;
 pub mod vars;
 
 // A monomial in hand: fourteen places for variables, of which the first `count` are used.
-#[derive(Drop)]
+#[derive(Clone, Copy)]
 pub struct Monomial {
     pub vars: [PackedVar; 14],
     pub count: usize,

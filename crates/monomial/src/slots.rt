@@ -11,7 +11,7 @@ use crate::{Monomial, list_steps, vars};
 use slices::shift;
 
 // The place of a monomial with the same variables, or the place where one is to be put.
-#[derive(Drop)]
+#[derive(Clone, Copy)]
 pub enum Found {
     At(usize),
     Gap(usize),

@@ -9,7 +9,7 @@ ghost use Rattle.monomial.specs.Orders.{order_of};
 
 use packed_var::PackedVar;
 
-#[derive(Drop)]
+#[derive(Clone, Copy)]
 pub enum Order {
     Before,
     Same,
@@ -57,7 +57,7 @@ pub fn numbers(vars: [PackedVar; 14]) -> [u32; 14]
 }
 
 // The next variable of two lists, and how far it takes the left one.
-#[derive(Drop)]
+#[derive(Clone, Copy)]
 struct Next {
     var: PackedVar,
     left: usize,

@@ -15,7 +15,7 @@ use crate::rules::Child;
 use records::Record;
 
 // Where a node is, and how many nodes there are then.
-#[derive(Drop)]
+#[derive(Clone, Copy)]
 pub struct Interned {
     pub index: usize,
     pub count: usize,

@@ -9,7 +9,7 @@ ghost use Rattle.nodes.specs.Picks.{pick_of, view_of};
 use records::Record;
 
 // What the rules look at in a built child: its number, its kind and its word a.
-#[derive(Drop)]
+#[derive(Clone, Copy)]
 pub struct Child {
     pub number: u32,
     pub kind: u32,
@@ -17,14 +17,14 @@ pub struct Child {
 }
 
 // A node that is there, or one to look for or append.
-#[derive(Drop)]
+#[derive(Clone, Copy)]
 pub enum Pick {
     Present(u32),
     Make(Record),
 }
 
 // What a node has, or not.
-#[derive(Drop)]
+#[derive(Clone, Copy)]
 pub enum Option {
     Some(u32),
     None,

@@ -9,10 +9,10 @@ use answers::Refusal;
 use symbolic_variable::{Entry, SymbolicVariable};
 
 // A number with its own type: bits 0 to 3 type, 4 to 11 part, 12 to 15 offset, 16 to 31 column.
-#[derive(Drop)]
+#[derive(Clone, Copy)]
 pub struct PackedVar(pub u32);
 
-#[derive(Drop)]
+#[derive(Clone, Copy)]
 pub enum Packed {
     Var(PackedVar),
     Refused(Refusal),

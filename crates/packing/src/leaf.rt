@@ -6,7 +6,7 @@ ghost use Rattle.packing.specs.Leaves.{leaf_answer, leaf_checked, wrong_at, said
 use answers::Refusal;
 use symbolic_variable::{Entry, SymbolicVariable};
 
-#[derive(Drop)]
+#[derive(Clone, Copy)]
 pub enum Leaf {
     Variable(SymbolicVariable),
     IsFirstRow,
@@ -14,7 +14,7 @@ pub enum Leaf {
     IsTransition,
 }
 
-#[derive(Drop)]
+#[derive(Clone, Copy)]
 pub enum LeafRead {
     Said(Leaf),
     Refused(Refusal),

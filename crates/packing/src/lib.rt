@@ -15,7 +15,7 @@ use packed_var::{Packed, PackedVar};
 mod leaf;
 
 // A record's five words.
-#[derive(Drop)]
+#[derive(Clone, Copy)]
 pub struct Record {
     pub kind: u32,
     pub a: u32,
@@ -24,7 +24,7 @@ pub struct Record {
     pub d: u32,
 }
 
-#[derive(Drop)]
+#[derive(Clone, Copy)]
 pub enum Unpacked {
     Words(Record),
     Refused(Refusal),

@@ -10,7 +10,7 @@ ghost use Rattle.semantics.specs.Graph.{equal_records};
 ghost use Rattle.records.specs.Access.{IsSheet, five_words, node_in, constraints_at, interactions_at, message_length, interaction_from};
 
 // A record as five words.
-#[derive(Drop)]
+#[derive(Clone, Copy)]
 pub struct Record {
     pub kind: u32,
     pub a: u32,
@@ -144,7 +144,7 @@ pub fn interactions_at(sheet: &[u32]) -> usize
 }
 
 // Where the words of an interaction stand: its count, its message's length, the message's fields, and what follows it.
-#[derive(Drop)]
+#[derive(Clone, Copy)]
 pub struct Interaction {
     pub count: usize,
     pub length: usize,

@@ -13,7 +13,7 @@ use answers::Refusal;
 use scan::Scanned;
 
 // What the check hands on of a sheet: the counts, where the interactions start, and the words without spare ones.
-#[derive(Drop)]
+#[derive(Clone, Copy)]
 pub struct Head {
     pub records: usize,
     pub constraints: usize,
@@ -22,7 +22,7 @@ pub struct Head {
     pub words: usize,
 }
 
-#[derive(Drop)]
+#[derive(Clone, Copy)]
 pub enum Checked {
     Sheet(Head),
     Refused(Refusal),

@@ -25,7 +25,7 @@ const USES: [[u8; 4]; 9] = [
 ];
 
 // The index of the next word to judge, or the refusal.
-#[derive(Drop)]
+#[derive(Clone, Copy)]
 pub enum Scanned {
     Next(usize),
     Stop(Refusal),

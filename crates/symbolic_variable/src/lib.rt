@@ -7,7 +7,7 @@ ghost use Rattle.symbolic_variable.specs.Replies.{offset_outcome, offset_call, s
 
 use answers::Refusal;
 
-#[derive(Drop)]
+#[derive(Clone, Copy)]
 pub enum Entry {
     Preprocessed { offset: usize },
     Main { part_index: usize, offset: usize },
@@ -16,33 +16,33 @@ pub enum Entry {
 }
 
 // An entry's offset, where it has one.
-#[derive(Drop)]
+#[derive(Clone, Copy)]
 pub enum EntryOffset {
     At(usize),
     Nowhere,
 }
 
 // An entry with its offset moved on, or 11 where no usize holds the offset.
-#[derive(Drop)]
+#[derive(Clone, Copy)]
 pub enum Rotated {
     To(Entry),
     Refused(Refusal),
 }
 
 // A variable within the evaluation window.
-#[derive(Drop)]
+#[derive(Clone, Copy)]
 pub struct SymbolicVariable {
     pub entry: Entry,
     pub index: usize,
 }
 
-#[derive(Drop)]
+#[derive(Clone, Copy)]
 pub enum RotatedVariable {
     To(SymbolicVariable),
     Refused(Refusal),
 }
 
-#[derive(Drop)]
+#[derive(Clone, Copy)]
 enum Sum {
     Fits(usize),
     TooLarge,

@@ -1,0 +1,55 @@
+use borrow.Author.Rules.{rules}
+use mathlib.Core.Path.{◌≡◌, refl}
+use Prim.Native.Nat.{ℕ, ◌+◌, ◌*◌}
+use native.Mathlib.Omega.{arith}
+use lib.ListN.{drop}
+use Rattle.semantics.specs.Block.{weighted, words_of}
+use Rattle.block.proofs.Laws.{rest, rest_all, weighed_more, sums_fit, sums_taken, row_words, last_words, summed}
+use Rattle.block.proofs.words.check_word.Goals as goal
+
+pub loop-row-init : goal.loop-row-init
+loop-row-init c =
+    let a = c.args in
+    (search rules, search rules, search rules, search rules, search rules, omega (arith, rest_all 127 a.bytes.now a.at))
+
+pub loop-row-preserved : goal.loop-row-preserved
+loop-row-preserved c =
+    let a = c.args in
+    let b = c.loop-row in
+    let row : ℕ = b.row in
+    let words =
+    row_words a.bytes.now a.at row (a.at + 16 * row) (search rules) refl c.word_at.ensures c.word_at-in-loop-row.ensures
+    c.word_at-in-loop-row-2.ensures c.word_at-in-loop-row-3.ensures in (
+      search rules,
+      search rules,
+      search rules,
+      search rules,
+      search rules,
+      weighed_more row _ _ _ b.a b.b b.c b.d _ _ _ _ _ _ _ _ b.invariant.5 c.with_word-a.ensures c.with_word-b.ensures
+          c.with_word-c.ensures c.with_word-d.ensures words,
+    )
+
+pub overflow_sub-sum : goal.overflow_sub-sum
+overflow_sub-sum c =
+    let end-words : let a = c.args in
+    249 * c.word_at-2.result + 251 * c.word_at-3.result + 253 * c.word_at-4.result ≡ rest 127 a.bytes.now a.at 124 =
+        let a = c.args in
+    last_words a.bytes.now a.at c.word_at-2.ensures c.word_at-3.ensures c.word_at-4.ensures in
+    let rows : c.loop-row.row ≡ 31 =
+        search rules in
+    let a = c.args in
+    let b = c.loop-row in
+    sums_fit c.args.number (weighted 0 ((words_of 127 (drop c.args.at c.args.bytes.now)))) b.row a.bytes.now a.at b.a b.b b.c b.d _ _ _ b.invariant.5 (rows) (end-words)
+
+pub returns : goal.returns
+returns c =
+    let end-words : let a = c.args in
+    249 * c.word_at-2.result + 251 * c.word_at-3.result + 253 * c.word_at-4.result ≡ rest 127 a.bytes.now a.at 124 =
+        let a = c.args in
+    last_words a.bytes.now a.at c.word_at-2.ensures c.word_at-3.ensures c.word_at-4.ensures in
+    let rows : c.loop-row.row ≡ 31 =
+        search rules in
+    let a = c.args in
+    let b = c.loop-row in
+    summed c.args.number _ ((words_of 127 (drop c.args.at c.args.bytes.now)))
+    (sums_taken c.args.number (weighted 0 ((words_of 127 (drop c.args.at c.args.bytes.now)))) b.row a.bytes.now a.at b.a b.b b.c b.d _ _ _ b.invariant.5 (rows) (end-words))
