@@ -1,0 +1,16 @@
+-- Each branch decides one test of the definition.
+use borrow.Author.Tests.{eq-eqb, ne_eqb}
+use Rattle.semantics.specs.Block.{bad_length}
+use Rattle.block_reader.proofs.bad_length.Goals as goal
+
+pub returns-then-n-eq0 : goal.returns-then-n-eq0
+unfolding bad_length
+returns-then-n-eq0 c = simp (eq-eqb _ _ c.if-n-eq0.true)
+
+pub returns-then-n-ne0 : goal.returns-then-n-ne0
+unfolding bad_length
+returns-then-n-ne0 c = simp (ne_eqb _ _ c.if-n-eq0.false, ne_eqb _ _ c.if-n-ne0.true)
+
+pub returns : goal.returns
+unfolding bad_length
+returns c = simp (ne_eqb _ _ c.if-n-eq0.false, eq-eqb _ _ c.if-n-ne0.false)
