@@ -1,9 +1,8 @@
 -- By the cases of the answer: in each the struct is the fields of the reply that the case stands for.
-use mathlib.Core.Path.{◌≡◌, sym, ap}
+use mathlib.Core.Path.{sym, ap}
 use Rattle.block.specs.Checked.{block_reply}
 use Rattle.c_replies.specs.Fields.{block_fields}
 use Rattle.block.specs.declared.BlockChecked.{BlockChecked}
-use Rattle.block.specs.declared.BlockChecked.TheVariants as variants
 use Rattle.c_replies.proofs.block_fields.Goals as goal
 
 pub returns-in-Yes : goal.returns-in-Yes
@@ -16,7 +15,4 @@ returns-in-No c = ap (λ (x : BlockChecked). block_fields (block_reply x)) (sym 
 
 pub returns-in-Refused : goal.returns-in-Refused
 unfolding block_fields
-returns-in-Refused c =
-    let refused : c.args.checked ≡ variants.Refused c.in-Refused.r =
-    c.in-Refused.is in
-    ap (λ (x : BlockChecked). block_fields (block_reply x)) (sym (refused))
+returns-in-Refused c = ap (λ (x : BlockChecked). block_fields (block_reply x)) (sym c.in-Refused.is)

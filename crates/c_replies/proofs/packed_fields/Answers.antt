@@ -1,9 +1,8 @@
 -- By the cases of the answer: in each the struct is the fields of the reply that the case stands for.
-use mathlib.Core.Path.{◌≡◌, sym, ap}
+use mathlib.Core.Path.{sym, ap}
 use Rattle.packed_var.specs.Packed.{packed_reply}
 use Rattle.c_replies.specs.Fields.{packed_fields}
 use Rattle.packed_var.specs.declared.Packed.{Packed}
-use Rattle.packed_var.specs.declared.Packed.TheVariants as variants
 use Rattle.c_replies.proofs.packed_fields.Goals as goal
 
 pub returns-in-Var : goal.returns-in-Var
@@ -12,7 +11,4 @@ returns-in-Var c = ap (λ (x : Packed). packed_fields (packed_reply x)) (sym c.i
 
 pub returns-in-Refused : goal.returns-in-Refused
 unfolding packed_fields
-returns-in-Refused c =
-    let refused : c.args.packed ≡ variants.Refused c.in-Refused.r =
-    c.in-Refused.is in
-    ap (λ (x : Packed). packed_fields (packed_reply x)) (sym (refused))
+returns-in-Refused c = ap (λ (x : Packed). packed_fields (packed_reply x)) (sym c.in-Refused.is)

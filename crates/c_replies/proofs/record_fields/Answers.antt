@@ -1,9 +1,8 @@
 -- By the cases of the answer: in each the struct is the fields of the reply that the case stands for.
-use mathlib.Core.Path.{◌≡◌, sym, ap}
+use mathlib.Core.Path.{sym, ap}
 use Rattle.packing.specs.Leaves.{unpacked_reply}
 use Rattle.c_replies.specs.Fields.{record_fields}
 use Rattle.packing.specs.declared.Unpacked.{Unpacked}
-use Rattle.packing.specs.declared.Unpacked.TheVariants as variants
 use Rattle.c_replies.proofs.record_fields.Goals as goal
 
 pub returns-in-Words : goal.returns-in-Words
@@ -12,7 +11,4 @@ returns-in-Words c = ap (λ (x : Unpacked). record_fields (unpacked_reply x)) (s
 
 pub returns-in-Refused : goal.returns-in-Refused
 unfolding record_fields
-returns-in-Refused c =
-    let refused : c.args.unpacked ≡ variants.Refused c.in-Refused.r =
-    c.in-Refused.is in
-    ap (λ (x : Unpacked). record_fields (unpacked_reply x)) (sym (refused))
+returns-in-Refused c = ap (λ (x : Unpacked). record_fields (unpacked_reply x)) (sym c.in-Refused.is)

@@ -1,15 +1,11 @@
 use mathlib.Core.Path.{ap}
-use Prim.Native.Nat.{ℕ, ◌+◌, ◌≤◌}
-use lib.ListN.{length}
-use Rattle.listing.specs.Families.{width_of}
+use Prim.Native.Nat.{ℕ, ◌+◌}
 use Rattle.listing.proofs.Rows.{rows_all, row_inside, row_room, row_more}
 use Rattle.listing.proofs.headers.put_terms.Goals as goal
 
 pub put_term-after-requires : goal.put_term-after-requires
 put_term-after-requires c =
-    let inside : let a = c.args in
-    c.loop-i.k + width_of a.family ≤ length a.terms.now =
-    row_inside c.loop-i.invariant c.loop-i-test.true c.requires.0 in
+    let inside = row_inside c.loop-i.invariant c.loop-i-test.true c.requires.0 in
     (inside, row_room c.loop-i.invariant c.loop-i-test.true)
 
 pub loop-i-preserved : goal.loop-i-preserved
