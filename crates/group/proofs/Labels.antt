@@ -45,8 +45,9 @@ label_later t u h e = later_asym u t (lex_tail (length t.vars) (length u.vars) _
 -- The items of one root.
 of_all : (P : Item → Type 0) (Q : Monomial → Type 0) (r : Root) → ((m : Monomial) → Q m → P (record { vars = m.vars; index = r.index; field = r.field; coef = m.coef }))
     → (ms : List Monomial) → All Q ms → All P (items_of r ms)
-of_all P Q r f [] = λ k. unfold items_of in tt
-of_all P Q r f (m ∷ ms) = let ih = of_all P Q r f ms in λ k. unfold items_of in (by-test (All P) (eqb m.coef 0) (λ e. ih k.1) (λ e. (f m k.0, ih k.1)))
+unfolding items_of
+of_all P Q r f [] k = tt
+of_all P Q r f (m ∷ ms) k = let ih = of_all P Q r f ms in by-test (All P) (eqb m.coef 0) (λ e. ih k.1) (λ e. (f m k.0, ih k.1))
 
 above_all_lem : (v : List ℕ) (ms : List Monomial) → Above v ms → All (λ (m : Monomial). before_vars v m.vars ≡ true) ms
 above_all_lem v [] k = tt
@@ -57,17 +58,18 @@ any_all [] = tt
 any_all (m ∷ ms) = (tt, any_all ms)
 
 of_steady : (r : Root) (ms : List Monomial) → Asc ms → Steady (items_of r ms)
-of_steady r [] = λ k. unfold items_of in tt
-of_steady r (m ∷ ms) =
+unfolding items_of
+of_steady r [] k = tt
+of_steady r (m ∷ ms) k =
     let ih = of_steady r ms in
-    λ k. unfold items_of in (by-test Steady (eqb m.coef 0) (λ e. ih k.1)
+    by-test Steady (eqb m.coef 0) (λ e. ih k.1)
     (λ e. (
       of_all (λ (u : Item). m.vars ≡ u.vars → later (record { vars = m.vars; index = r.index; field = r.field; coef = m.coef }) u ≡ false)
           (λ (n : Monomial). before_vars m.vars n.vars ≡ true) r
           (λ n h q. not-both (subst (λ (v : List ℕ). before_vars m.vars v ≡ true) (sym q) h) (before_vars_irrefl m.vars))
           ms (above_all_lem m.vars ms k.0),
       ih k.1,
-    )))
+    ))
 
 steady_append : (ts us : List Item) → Steady ts → Steady us → All (λ (t : Item). Front t us) ts → Steady (ts ++ us)
 steady_append [] us a b k = b

@@ -21,6 +21,18 @@ pub record Filling (hs : List MonomialHeader) (v t : ℕ) : Type 0 where
   pub vars_fit : vars + column_total num_vars_of (drop i ys) ≤ 4294967295
   pub terms_fit : terms + column_total num_terms_of (drop i ys) ≤ 4294967295
 
+-- The same of a header's number, the headers and the totals.
+abbrev pub Fills : (hs : List MonomialHeader) (v t i : ℕ) (ys : List MonomialHeader) (vars terms : ℕ) → Type 0
+Fills hs v t i ys vars terms =
+    (i ≤ length hs) × (length ys ≡ length hs)
+    × (take i ys ++ with_offsets vars terms (drop i ys) ≡ with_offsets v t hs)
+    × (vars + column_total num_vars_of (drop i ys) ≤ 4294967295)
+    × (terms + column_total num_terms_of (drop i ys) ≤ 4294967295)
+
+abbrev pub filling : (hs : List MonomialHeader) (v t i : ℕ) (ys : List MonomialHeader) (vars terms : ℕ) → Fills hs v t i ys vars terms → Filling hs v t
+filling hs v t i ys vars terms f =
+    record { i = i; ys = ys; vars = vars; terms = terms; inside = f.0; len = f.1; whole = f.2; vars_fit = f.3; terms_fit = f.4 }
+
 -- The total from header i on is header i's number and the total behind it.
 total_from : (number : MonomialHeader → ℕ) (ys : List MonomialHeader) (i : ℕ) → i < length ys
     → column_total number (drop i ys) ≡ number (get_or ys i no_header) + column_total number (drop (suc i) ys)

@@ -103,7 +103,7 @@ module _ {X : Type 0} (f : ℕ → X) (z : X) where
   module _ (n : Node) where
     neg_through : or_else (if_neg n Some None) ≡ if_neg n f z
     unfolding if_neg
-    neg_through = elim n [
+    neg_through = elim n as (λ k. or_else (if_neg k Some None) ≡ if_neg k f z) [
       | leaf x ↦ refl
       | const k ↦ refl
       | add l r ↦ refl
@@ -120,7 +120,7 @@ module _ {X : Type 0} (f : ℕ → X) (z : X) where
 
     const_through : or_else (if_constants n n (λ a b. Some a) None) ≡ if_constants n n (λ a b. f a) z
     unfolding if_constants
-    const_through = elim n [
+    const_through = elim n as (λ k. or_else (if_constants k k (λ a b. Some a) None) ≡ if_constants k k (λ a b. f a) z) [
       | leaf x ↦ refl
       | const k ↦ refl
       | add l r ↦ refl

@@ -18,15 +18,15 @@ returns-then-r-eq8 c =
 pub returns-then-r : goal.returns-then-r
 returns-then-r c =
     let low : 6 ≤ c.args.r.kind =
-        omega (arith, c.if-r-lt6.false) in
+    omega (arith, c.if-r-lt6.false) in
     let high : c.args.r.kind ≤ 9 =
-        omega (arith, c.if-r-gt9.false) in
+    omega (arith, c.if-r-gt9.false) in
     from_right (five_words c.args.r) (low) (high) c.if-r-eq8.false c.if-r.true _ c.wide-then-r.ensures
 
 pub returns : goal.returns
 returns c =
     let low : 6 ≤ c.args.r.kind =
-        omega (arith, c.if-r-lt6.false) in
+    omega (arith, c.if-r-lt6.false) in
     let high : c.args.r.kind ≤ 9 =
-        omega (arith, c.if-r-gt9.false) in
+    omega (arith, c.if-r-gt9.false) in
     from_left (five_words c.args.r) (low) (high) c.if-r-eq8.false (omega (arith, c.if-r.false)) _ c.wide-2.ensures

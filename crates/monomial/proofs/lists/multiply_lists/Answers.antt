@@ -14,15 +14,15 @@ loop-i-init c =
 pub monomial_in-l-requires : goal.monomial_in-l-requires
 monomial_in-l-requires c =
     let front : Front c.args.pool.now c.loop-i.from (c.args.n - (c.loop-i.i + 1)) =
-        left_front c.args.pool.now c.loop-i.from c.args.n c.loop-i.i (omega arith) c.loop-i.invariant.rest in
+    left_front c.args.pool.now c.loop-i.from c.args.n c.loop-i.i (omega arith) c.loop-i.invariant.rest in
     (omega (arith, (front).room), (front).short)
 
 pub combine_row-total-requires : goal.combine_row-total-requires
 combine_row-total-requires c =
     let front : Front c.args.pool.now c.loop-i.from (c.args.n - (c.loop-i.i + 1)) =
-        left_front c.args.pool.now c.loop-i.from c.args.n c.loop-i.i (omega arith) c.loop-i.invariant.rest in
+    left_front c.args.pool.now c.loop-i.from c.args.n c.loop-i.i (omega arith) c.loop-i.invariant.rest in
     let short : c.monomial_in-l.result.count + longest_in c.args.pool.now c.args.right c.args.m ≤ 14 =
-        let a = c.args in
+    let a = c.args in
     omega (
       arith,
       c.monomial_in-l.ensures.1,
@@ -42,7 +42,7 @@ combine_row-total-requires c =
 pub loop-i-preserved : goal.loop-i-preserved
 loop-i-preserved c =
     let short : c.monomial_in-l.result.count + longest_in c.args.pool.now c.args.right c.args.m ≤ 14 =
-        let a = c.args in
+    let a = c.args in
     omega (
       arith,
       c.monomial_in-l.ensures.1,
@@ -53,7 +53,7 @@ loop-i-preserved c =
     let r = c.monomial_in-l in
     let a = c.args in
     multiplying_more c.args.pool.now a.left a.n a.right a.m a.work.now c.loop-i.work p.new.work c.loop-i.total p.result
-    c.loop-i.from c.loop-i.i c.monomial_in-l.result.count (monomial_of r.result) c.loop-i.invariant (omega arith) r.ensures.1 p.kept.0 r.ensures.0
+    c.loop-i.from c.loop-i.i c.monomial_in-l.result.count (monomial_of r.result) c.loop-i.invariant (omega arith) r.ensures.1 p.auto.work r.ensures.0
     (omega (arith, short, first_short_lem c.monomial_in-l.result.count (nums r.result.vars))) p.ensures.0 p.ensures.1
 
 pub returns : goal.returns

@@ -15,7 +15,7 @@ loop-k-init c =
 pub monomial_in-m-requires : goal.monomial_in-m-requires
 monomial_in-m-requires c =
     let front : Front c.args.pool.now c.loop-k.from (c.args.n - (c.loop-k.k + 1)) =
-        left_front c.args.pool.now c.loop-k.from c.args.n c.loop-k.k (omega arith) c.loop-k.invariant.left in
+    left_front c.args.pool.now c.loop-k.from c.args.n c.loop-k.k (omega arith) c.loop-k.invariant.left in
     (omega (arith, (front).room), (front).short)
 
 pub loop-k-preserved : goal.loop-k-preserved
@@ -25,7 +25,7 @@ loop-k-preserved c =
     let r = c.monomial_in-m in
     let a = c.args in
     negating_more c.args.pool.now a.at a.n a.work.now c.loop-k.work p.new.work c.loop-k.from c.loop-k.k r.result.count
-    (monomial_of x.result) c.loop-k.invariant (omega arith) r.ensures.1 p.kept.0
+    (monomial_of x.result) c.loop-k.invariant (omega arith) r.ensures.1 p.auto.work
     (x.ensures.0 ∙ ap (neg_monomial prime) r.ensures.0) p.ensures
 
 pub returns : goal.returns

@@ -11,9 +11,8 @@ loop-k-init c =
 pub write_row-requires : goal.write_row-requires
 write_row-requires c =
     let room : c.loop-k.at + 2 + c.slot_count-size.result ≤ length c.args.out.now =
-        let b = c.loop-k in
-    written_room c.args.work.now c.args.count c.args.out.now c.requires.1 c.requires.3 b.out b.at b.k c.slot_count-size.result b.invariant (omega arith) c.slot_count-size.ensures in
-    (
+    let b = c.loop-k in
+    written_room c.args.work.now c.args.count c.args.out.now c.requires.1 c.requires.3 b.out b.at b.k c.slot_count-size.result b.invariant (omega arith) c.slot_count-size.ensures in (
       omega (arith, c.slot_count-size.ensures),
       omega (arith, c.slot_count-size.ensures, c.requires.1),
       omega (arith, room, c.loop-k.invariant.length_is),
@@ -24,4 +23,4 @@ loop-k-preserved c =
     let w = c.write_row in
     let b = c.loop-k in
     written_more c.args.work.now c.args.count c.args.out.now c.requires.1 c.requires.3 b.out b.at b.k c.slot_count-size.result b.invariant (omega arith)
-    c.slot_count-size.ensures w.new.out w.kept.1.1.1.0 w.ensures
+    c.slot_count-size.ensures w.new.out w.auto.out w.ensures

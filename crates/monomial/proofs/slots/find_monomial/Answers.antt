@@ -22,7 +22,7 @@ loop-low-init c =
 pub returns-in-Same : goal.returns-in-Same
 returns-in-Same c =
     let inside : ((c.loop-low.low + c.loop-low.high) / 2) < c.args.count =
-        let h = c.loop-low.invariant in let t = c.loop-low-test.true in omega arith in
+    let h = c.loop-low.invariant in let t = c.loop-low-test.true in omega arith in
     let a = c.args in
     let s = c.slot_count in
     let l = held_length a.count a.work.now in (
@@ -35,7 +35,7 @@ returns-in-Same c =
 pub loop-low-preserved-in-After : goal.loop-low-preserved-in-After
 loop-low-preserved-in-After c =
     let inside : ((c.loop-low.low + c.loop-low.high) / 2) < c.args.count =
-        let h = c.loop-low.invariant in let t = c.loop-low-test.true in omega arith in
+    let h = c.loop-low.invariant in let t = c.loop-low-test.true in omega arith in
     let a = c.args in
     let s = c.slot_count in
     let h = c.loop-low.invariant in (
@@ -49,7 +49,7 @@ loop-low-preserved-in-After c =
 pub loop-low-preserved : goal.loop-low-preserved
 loop-low-preserved c =
     let inside : ((c.loop-low.low + c.loop-low.high) / 2) < c.args.count =
-        let h = c.loop-low.invariant in let t = c.loop-low-test.true in omega arith in
+    let h = c.loop-low.invariant in let t = c.loop-low-test.true in omega arith in
     let a = c.args in
     let s = c.slot_count in
     let h = c.loop-low.invariant in (

@@ -5,7 +5,6 @@ use native.Mathlib.Omega.{arith}
 use lib.ListN.{length, take, drop, length-map, take-append-drop}
 use Rattle.semantics.specs.Monomial as semantics
 use Rattle.monomial.specs.Words.{num, nums, monomial_of, held}
-use Rattle.monomial.proofs.Rows.{fourteen}
 use Rattle.monomial.proofs.Inserting.{keep_zero, keep_other, held_put}
 use Rattle.monomial.proofs.slots.insert_at.Goals as goal
 
@@ -20,7 +19,7 @@ returns-then-m-eq0 c =
 pub returns : goal.returns
 returns c =
     let vars_length : length (nums c.args.m.vars) ≡ 14 =
-        let vs = c.args.m.vars in length-map vs num ∙ fourteen vs c.good.1.1.1.0.1.1.0.1.0.1 in
+    let vs = c.args.m.vars in length-map vs num ∙ c.well_formed.1.1.1.0.1.1.0.1.0.1 in
     let a = c.args in
     let l = (held c.args.count c.args.work.now) in (
       held_put a.work.now a.k a.count (omega arith) (omega arith) a.m.count a.m.coef (nums a.m.vars) _ _ (omega arith)

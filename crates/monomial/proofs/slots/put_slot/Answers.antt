@@ -9,7 +9,7 @@ use Rattle.monomial.proofs.slots.put_slot.Goals as goal
 pub loop-i-preserved : goal.loop-i-preserved
 loop-i-preserved c =
     let two-length : length ((set (set c.args.work.now ((16 * c.args.k)) c.args.m.count) ((16 * c.args.k) + 1) c.args.m.coef)) ≡ length c.args.work.now =
-        length-set (set c.args.work.now ((16 * c.args.k)) c.args.m.count) ((16 * c.args.k) + 1) c.args.m.coef ∙ length-set c.args.work.now ((16 * c.args.k)) c.args.m.count in
+    length-set (set c.args.work.now ((16 * c.args.k)) c.args.m.count) ((16 * c.args.k) + 1) c.args.m.coef ∙ length-set c.args.work.now ((16 * c.args.k)) c.args.m.count in
     let b = c.loop-i in
     let vs = c.args.m.vars in
     let h = b.invariant in

@@ -1,11 +1,8 @@
 -- Constants fold; subtracting 0 leaves the left side; a Neg on the right makes a sum; else a new node.
-use mathlib.Core.Path.{◌≡◌, sym, ap, ◌∙◌}
-use mathlib.Core.Bool.{cond, ◌&&◌}
+use mathlib.Core.Path.{sym, ap, ◌∙◌}
 use Prim.Native.Nat.{ℕ}
-use lib.Dec.{eqb}
 use Rattle.semantics.specs.Sheet.{record_of}
-use Rattle.semantics.specs.Graph.{Pick, make, is_const}
-use Rattle.nodes.specs.Picks.{view_of}
+use Rattle.semantics.specs.Graph.{make}
 use Rattle.nodes.proofs.RuleLaws.{sub_is, neg_some, neg_none, chosen, passed}
 use Rattle.nodes.proofs.rules.sub_rule.Goals as goal
 
@@ -16,32 +13,22 @@ returns-then-both_constant c =
 
 pub returns-then-is_const : goal.returns-then-is_const
 returns-then-is_const c =
-    let past-constants : (x y : Pick) {z : Pick} → z ≡ y → z ≡ cond (eqb c.args.l.kind 5 && eqb c.args.r.kind 5) x y =
-        λ x y. passed x y c.both_constant.ensures c.if-both_constant.false in
-    past-constants _ _ (chosen _ _ c.is_const.ensures c.if-is_const.true) ∙ sym (sub_is _ _ _ _ _ _)
+    passed _ _ c.both_constant.ensures c.if-both_constant.false (chosen _ _ c.is_const.ensures c.if-is_const.true) ∙ sym (sub_is _ _ _ _ _ _)
 
 pub returns-in_default : goal.returns-in_default
 returns-in_default c =
-    let past-constants : (x y : Pick) {z : Pick} → z ≡ y → z ≡ cond (eqb c.args.l.kind 5 && eqb c.args.r.kind 5) x y =
-        λ x y. passed x y c.both_constant.ensures c.if-both_constant.false in
-    let past-right-zero : (x y : Pick) {z : Pick} → z ≡ y → z ≡ cond (is_const 0 (view_of c.args.r)) x y =
-        λ x y. passed x y c.is_const.ensures c.if-is_const.false in
     let a = c.args in
     c.make_node-in_default.ensures
-    ∙ past-constants _ _ (past-right-zero _ _
+    ∙ passed _ _ c.both_constant.ensures c.if-both_constant.false (passed _ _ c.is_const.ensures c.if-is_const.false
     (neg_none (λ (y : ℕ). make (record_of 6 a.l.number y a.g 0)) (make (record_of 7 a.l.number a.r.number a.g 0)) _
     c.get_neg_child.ensures c.in_default.is))
     ∙ sym (sub_is _ _ _ _ _ _)
 
 pub returns : goal.returns
 returns c =
-    let past-constants : (x y : Pick) {z : Pick} → z ≡ y → z ≡ cond (eqb c.args.l.kind 5 && eqb c.args.r.kind 5) x y =
-        λ x y. passed x y c.both_constant.ensures c.if-both_constant.false in
-    let past-right-zero : (x y : Pick) {z : Pick} → z ≡ y → z ≡ cond (is_const 0 (view_of c.args.r)) x y =
-        λ x y. passed x y c.is_const.ensures c.if-is_const.false in
     let a = c.args in
     c.make_node-2.ensures
-    ∙ past-constants _ _ (past-right-zero _ _
+    ∙ passed _ _ c.both_constant.ensures c.if-both_constant.false (passed _ _ c.is_const.ensures c.if-is_const.false
     (neg_some (λ (y : ℕ). make (record_of 6 a.l.number y a.g 0)) (make (record_of 7 a.l.number a.r.number a.g 0)) _
     c.get_neg_child.ensures c.in-Some.is))
     ∙ sym (sub_is _ _ _ _ _ _)

@@ -44,7 +44,7 @@ pub returns-then-kind-eq2 : goal.returns-then-kind-eq2
 returns-then-kind-eq2 c =
     let of-kind : (k : ℕ) → k ≡ c.args.kind
     → record_of k 0 0 0 0 ≡ record_of c.args.kind c.args.a c.args.b c.args.c c.args.d =
-        λ k e. λ i.
+    λ k e. λ i.
     record_of (e i) (sym c.if-a-ne0.false i) (sym c.if-b-ne0.false i) (sym c.if-c-ne0.false i) (sym c.if-d-ne0.false i) in
     leaf_said IsFirstRow refl (of-kind 2 (sym c.if-kind-eq2.true))
 
@@ -52,7 +52,7 @@ pub returns-then-kind-eq3 : goal.returns-then-kind-eq3
 returns-then-kind-eq3 c =
     let of-kind : (k : ℕ) → k ≡ c.args.kind
     → record_of k 0 0 0 0 ≡ record_of c.args.kind c.args.a c.args.b c.args.c c.args.d =
-        λ k e. λ i.
+    λ k e. λ i.
     record_of (e i) (sym c.if-a-ne0.false i) (sym c.if-b-ne0.false i) (sym c.if-c-ne0.false i) (sym c.if-d-ne0.false i) in
     leaf_said IsLastRow refl (of-kind 3 (sym c.if-kind-eq3.true))
 
@@ -60,7 +60,7 @@ pub returns : goal.returns
 returns c =
     let of-kind : (k : ℕ) → k ≡ c.args.kind
     → record_of k 0 0 0 0 ≡ record_of c.args.kind c.args.a c.args.b c.args.c c.args.d =
-        λ k e. λ i.
+    λ k e. λ i.
     record_of (e i) (sym c.if-a-ne0.false i) (sym c.if-b-ne0.false i) (sym c.if-c-ne0.false i) (sym c.if-d-ne0.false i) in
     let e : 4 ≡ c.args.kind = search rules in
     leaf_said IsTransition refl (of-kind 4 e)

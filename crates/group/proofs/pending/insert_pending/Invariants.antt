@@ -1,0 +1,10 @@
+-- Those that wait are put in from the last to the first. The loop's invariant, `Inserting`: with the gap left out that is kept for the `j` still to
+-- come, the words are the rows with the others put in among them (`insert_step` keeps it); at the end there is no gap (`insert_done`).
+use Rattle.group.proofs.Inserts.{Inserting}
+use Rattle.group.proofs.pending.insert_pending.Given as goal
+
+abbrev pub invariant-loop-j : goal.invariant-loop-j
+invariant-loop-j l = Inserting l.initial.headers l.n l.pool l.places l.b l.headers l.end l.j
+
+abbrev pub decreases-loop-j : goal.decreases-loop-j
+decreases-loop-j l = l.j

@@ -1,0 +1,33 @@
+use Rattle.header_offsets.proofs.Chunks.{filled_none, vars_room, terms_room, vars_fit, terms_fit, filled_next}
+use Rattle.header_offsets.proofs.words.fill_words.Goals as goal
+
+pub loop-i-init : goal.loop-i-init
+loop-i-init c = filled_none c.args.words.now c.args.n
+
+pub fill_sixteen-filled-requires : goal.fill_sixteen-filled-requires
+fill_sixteen-filled-requires c =
+    let g = c.loop-i.invariant in
+    let k = c.at_most_sixteen-k.ensures in
+    let e = c.take_headers-taken.ensures in
+    (vars_room g k e c.requires.1, terms_room g k e c.requires.2)
+
+pub overflow_add-vars : goal.overflow_add-vars
+overflow_add-vars c =
+    record {
+      fits =
+          vars_fit c.loop-i.invariant c.at_most_sixteen-k.ensures c.take_headers-taken.ensures c.fill_sixteen-filled.ensures
+          c.requires.1;
+    }
+
+pub overflow_add-terms : goal.overflow_add-terms
+overflow_add-terms c =
+    record {
+      fits =
+          terms_fit c.loop-i.invariant c.at_most_sixteen-k.ensures c.take_headers-taken.ensures
+          c.fill_sixteen-filled.ensures c.requires.2;
+    }
+
+pub loop-i-preserved : goal.loop-i-preserved
+loop-i-preserved c =
+    filled_next c.loop-i.invariant c.at_most_sixteen-k.ensures c.take_headers-taken.ensures c.fill_sixteen-filled.ensures
+    c.put_headers.ensures
