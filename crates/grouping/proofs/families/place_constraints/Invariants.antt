@@ -6,7 +6,7 @@ use Rattle.grouping.proofs.families.place_constraints.Given as goal
 
 abbrev pub invariant-loop-j : goal.invariant-loop-j
 invariant-loop-j l =
-    RootsAt (λ l.j r. record { node = r; index = l.j; field = 0 }) false l.sheet l.at l.count l.n l.pool l.initial.headers l.initial.terms l.headers l.terms l.j
+    RootsAt (λ k r. record { node = r; index = k; field = 0 }) false l.sheet l.at l.count l.n l.pool l.initial.headers l.initial.terms l.headers l.terms l.j
 
 abbrev pub decreases-loop-j : goal.decreases-loop-j
 decreases-loop-j l = l.count - l.j
