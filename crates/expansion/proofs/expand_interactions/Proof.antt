@@ -48,7 +48,7 @@ module _ (c : tie.After-expand-sheet-interactions) where
   }
 
   denominators : let a = entry.args in
-      Kept (length a.denom-headers.now) (length a.denom-variables.now) (length a.denom-terms.now)
+      Kept (length a.denom_headers.now) (length a.denom_variables.now) (length a.denom_terms.now)
       denom-headers denom-variables denom-terms
   denominators = record {
     headers_long = c.expand-sheet-interactions.auto.1.1.1.1.1.1.0;

@@ -22,7 +22,7 @@ rest c =
     let a = c.args in
     interactions_of prime (map (λ (l : List ℕ). length l)
     (a.work.now ∷ a.pool.now ∷ a.headers.now ∷ a.variables.now ∷ a.terms.now
-    ∷ a.denom-headers.now ∷ a.denom-variables.now ∷ a.denom-terms.now ∷ []))
+    ∷ a.denom_headers.now ∷ a.denom_variables.now ∷ a.denom_terms.now ∷ []))
 
 abbrev at_head : tie.After-expand-checked-arg8 → tie.After-checked
 at_head c = c.before.before.before.before.before.before.before.before.before

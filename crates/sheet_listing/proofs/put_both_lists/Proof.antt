@@ -16,7 +16,7 @@ module _ (s : tie.Start) where
   numerators = front_lines Numerators s.args.n.numerators s.args.headers.now s.args.variables.now s.args.terms.now
 
   abbrev denominators : List ℕ
-  denominators = front_lines Denominators s.args.n.denominators s.args.denom-headers.now s.args.denom-variables.now s.args.denom-terms.now
+  denominators = front_lines Denominators s.args.n.denominators s.args.denom_headers.now s.args.denom_variables.now s.args.denom_terms.now
 
   abbrev rest : List ℕ
   rest = denominators ++ line (end_text ∷ [])

@@ -47,13 +47,13 @@ module _ (c : tie.After-next-length8) where
   terms-lent : let n = at-terms.next-length5.result in n ≡ length (take n (start at-work).args.terms.now)
   terms-lent = sym (length-take-le _ _ at-terms.next-length5.ensures)
 
-  denom-headers-lent : let n = at-denom-headers.next-length6.result in n ≡ length (take n (start at-work).args.denom-headers.now)
+  denom-headers-lent : let n = at-denom-headers.next-length6.result in n ≡ length (take n (start at-work).args.denom_headers.now)
   denom-headers-lent = sym (length-take-le _ _ at-denom-headers.next-length6.ensures)
 
-  denom-variables-lent : let n = at-denom-variables.next-length7.result in n ≡ length (take n (start at-work).args.denom-variables.now)
+  denom-variables-lent : let n = at-denom-variables.next-length7.result in n ≡ length (take n (start at-work).args.denom_variables.now)
   denom-variables-lent = sym (length-take-le _ _ at-denom-variables.next-length7.ensures)
 
-  denom-terms-lent : let n = c.next-length8.result in n ≡ length (take n (start at-work).args.denom-terms.now)
+  denom-terms-lent : let n = c.next-length8.result in n ≡ length (take n (start at-work).args.denom_terms.now)
   denom-terms-lent = sym (length-take-le _ _ c.next-length8.ensures)
 
 -- Where each slice is lent, one after the other.
