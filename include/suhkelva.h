@@ -2,7 +2,7 @@
  * The C library of Suhkelva: packed variables, rule sheets, their blocks, their graphs and their monomials.
  *
  * Link libsuhkelva.a, an archive for x86-64 Linux. It is written by
- *     rt staticlib suhkelva        -> target/staticlib/libsuhkelva.a
+ *     rt lib, in crates/suhkelva   -> crates/suhkelva/out/libsuhkelva.a
  * and only after each function was proved to meet its contract (crates/suhkelva/src/lib.rt). examples/c/example.c is a program that
  * goes from blocks to printed monomials.
  *

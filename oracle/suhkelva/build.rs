@@ -1,4 +1,4 @@
-//! Links libsuhkelva.a from the folder SUHKELVA_LIBRARY, a full path, by default target/staticlib at the root of the repository.
+//! Links libsuhkelva.a from the folder SUHKELVA_LIBRARY, a full path, by default crates/suhkelva/out at the root of the repository.
 
 use std::env;
 use std::path::{Path, PathBuf};
@@ -10,7 +10,7 @@ fn main() {
         Some(folder) => PathBuf::from(folder),
         None => {
             let package = env::var("CARGO_MANIFEST_DIR").expect("set by cargo");
-            Path::new(&package).join("../../target/staticlib")
+            Path::new(&package).join("../../crates/suhkelva/out")
         }
     };
     let archive = folder.join("libsuhkelva.a");

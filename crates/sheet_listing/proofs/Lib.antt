@@ -2,3 +2,4 @@ pub mod Sounds
 pub mod Expanded
 pub mod Printed
 pub mod Inputs
+mod Reading

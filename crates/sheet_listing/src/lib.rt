@@ -1,7 +1,8 @@
 // What `sheetlist` prints, step by step; a refusal ends the output.
 #![tactic(auto)]
 
-ghost use Rattle.std.specs.Prelude.{◌≡◌, List, ℕ, ◌<◌, length, take};
+ghost use Rattle.std.specs.Prelude.{◌≡◌, List, ℕ, ◌<◌, length, take, IfOk, IfSome, OnOk};
+ghost use Rattle.std.specs.Io.KnownBytes.{Appends};
 ghost use Rattle.slices.specs.Lent.{old, new};
 ghost use Rattle.semantics.specs.Arithmetic.{prime};
 ghost use Rattle.semantics.specs.Call.{padded};
@@ -18,9 +19,10 @@ use answers::{Counted, Written};
 use constraint_lists::ConstraintLists;
 use grouping::Lengths;
 use interaction_lists::{InteractionLengths, InteractionLists};
-use libc::{STDIN_FILENO, STDOUT_FILENO};
 use listing::headers::Family;
 use listing::{headers, lines};
+use std::io;
+use std::io::{Read, Write};
 
 // The headers of a family, from the front of three slices.
 fn put_lists(
@@ -234,11 +236,29 @@ pub fn list_read(buffer: &[u8; 4097], n: usize, out: &mut [u8; 65536]) -> usize
     list_front(buffer, n, out)
 }
 
-// Lists standard input to standard output.
-pub fn list_input() {
+// Reads until the buffer is full or the input ends, and hands back how many bytes went to the buffer's front.
+fn read_front<R: Read>(input: &mut R, buffer: &mut [u8]) -> io::Result<usize>
+    ensures { IfOk result (λ n. IfSome (R.remaining input.old) (λ bytes. ReadOf buffer.new n bytes)) }
+{
+    let mut n: usize = 0;
+    while n < buffer.len() {
+        let more = input.read(&mut buffer[n..])?;
+        if more == 0 {
+            return Ok(n);
+        }
+        n += more;
+    }
+    Ok(n)
+}
+
+// Lists an input to an output: where the bytes of the input are known, all of what `sheetlist` prints for them is written.
+pub fn list_input<R: Read, W: Write>(input: &mut R, output: &mut W) -> io::Result<()>
+    ensures { OnOk result (IfSome (R.remaining input.old) (λ bytes.
+        Appends (W.contents output.old) (W.contents output.new) (sheetlist prime bytes))) }
+{
     let mut buffer = [0u8; 4097];
-    let n = io::read_full(STDIN_FILENO, &mut buffer);
+    let n = read_front(input, &mut buffer)?;
     let mut out = [0u8; 65536];
     let printed = list_read(&buffer, n, &mut out);
-    io::write_all(STDOUT_FILENO, &out[..printed]);
+    output.write_all(&out[..printed])
 }

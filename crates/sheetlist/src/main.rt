@@ -1,6 +1,10 @@
 // Lists the sheet on standard input.
 #![tactic(auto)]
 
-fn main() {
-    sheet_listing::list_input();
+use std::io;
+
+fn main(rt: HostRuntime) -> io::Result<()> {
+    let mut input = rt.stdin();
+    let mut output = rt.stdout();
+    sheet_listing::list_input(&mut input, &mut output)
 }

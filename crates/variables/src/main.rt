@@ -1,154 +1,161 @@
 // Answers calls on entries and variables, one line for each case on standard input. oracle/README.md has the form of both.
 #![tactic(auto)]
 
+ghost use Rattle.std.specs.Prelude.{◌≡◌, IfOk, IfSome, slice_index};
+
 use answers::Refusal;
-use libc::{STDIN_FILENO, STDOUT_FILENO};
 use packed_var::{Packed, PackedVar};
+use std::io;
+use std::io::Read;
 use symbolic_variable::{Entry, EntryOffset, Rotated, RotatedVariable, SymbolicVariable};
 
 // The next byte, 0 at the end of the input.
-fn next_byte() -> u8 {
+fn next_byte<R: Read>(input: &mut R) -> io::Result<u8>
+    ensures { IfOk result (λ b. IfSome (R.remaining input.old) (λ bytes. b ≡ slice_index bytes 0)) }
+{
     let mut byte = [0u8; 1];
-    io::read_full(STDIN_FILENO, &mut byte);
-    byte[0]
+    let n = input.read(&mut byte)?;
+    if n == 0 {
+        return Ok(0);
+    }
+    Ok(byte[0])
 }
 
 // The next number, which is below 2^64: its digits, then one byte that ends it.
-fn next_number() -> usize {
+fn next_number(input: &mut impl Read) -> io::Result<usize> {
     let mut value: usize = 0;
     for _ in 0usize..21 {
-        let byte = next_byte();
+        let byte = next_byte(input)?;
         if byte < 48 {
-            return value;
+            return Ok(value);
         }
-        value = std::num::wrapping_add_usize(
-            value % 1844674407370955162 * 10,
-            (byte % 16) as usize,
-        );
+        value = (value % 1844674407370955162 * 10).wrapping_add(usize::from(byte % 16));
     }
-    value
+    Ok(value)
 }
 
 // The next three numbers: 0 preprocessed, 1 main, 2 challenge, 3 public; part; offset.
-fn next_entry() -> Entry {
-    let entry = next_number();
-    let part_index = next_number();
-    let offset = next_number();
+fn next_entry(input: &mut impl Read) -> io::Result<Entry> {
+    let entry = next_number(input)?;
+    let part_index = next_number(input)?;
+    let offset = next_number(input)?;
     if entry == 0 {
-        return Entry::Preprocessed { offset };
+        return Ok(Entry::Preprocessed { offset });
     }
     if entry == 1 {
-        return Entry::Main { part_index, offset };
+        return Ok(Entry::Main { part_index, offset });
     }
     if entry == 2 {
-        return Entry::Challenge;
+        return Ok(Entry::Challenge);
     }
-    Entry::Public
+    Ok(Entry::Public)
 }
 
-fn print(text: &[u8]) {
-    io::write_all(STDOUT_FILENO, text);
+fn print(rt: &impl Print, text: &[u8]) -> io::Result<()> {
+    rt.write_all(text)
 }
 
-fn print_number(n: usize) {
-    io::print_decimal(STDOUT_FILENO, n as u64);
+fn print_number(rt: &impl Print, n: usize) -> io::Result<()> {
+    rt.print(n)
 }
 
-fn print_words(entry: usize, part: usize, offset: usize) {
-    print_number(entry);
-    print(b" ");
-    print_number(part);
-    print(b" ");
-    print_number(offset);
+fn print_words(rt: &impl Print, entry: usize, part: usize, offset: usize) -> io::Result<()> {
+    print_number(rt, entry)?;
+    print(rt, b" ")?;
+    print_number(rt, part)?;
+    print(rt, b" ")?;
+    print_number(rt, offset)
 }
 
-fn print_entry(entry: Entry) {
+fn print_entry(rt: &impl Print, entry: Entry) -> io::Result<()> {
     match entry {
-        Entry::Preprocessed { offset } => print_words(0, 0, offset),
-        Entry::Main { part_index, offset } => print_words(1, part_index, offset),
-        Entry::Challenge => print_words(2, 0, 0),
-        Entry::Public => print_words(3, 0, 0),
+        Entry::Preprocessed { offset } => print_words(rt, 0, 0, offset),
+        Entry::Main { part_index, offset } => print_words(rt, 1, part_index, offset),
+        Entry::Challenge => print_words(rt, 2, 0, 0),
+        Entry::Public => print_words(rt, 3, 0, 0),
     }
 }
 
-fn print_variable(var: SymbolicVariable) {
+fn print_variable(rt: &impl Print, var: SymbolicVariable) -> io::Result<()> {
     let entry = var.entry;
-    print_entry(entry);
-    print(b" ");
-    print_number(var.index);
+    print_entry(rt, entry)?;
+    print(rt, b" ")?;
+    print_number(rt, var.index)
 }
 
-fn print_refusal(refusal: Refusal) {
-    print(b"refused ");
-    print_number(refusal.number as usize);
-    print(b" ");
-    print_number(refusal.place);
+fn print_refusal(rt: &impl Print, refusal: Refusal) -> io::Result<()> {
+    print(rt, b"refused ")?;
+    print_number(rt, refusal.number as usize)?;
+    print(rt, b" ")?;
+    print_number(rt, refusal.place)
 }
 
-fn print_offset(offset: EntryOffset) {
+fn print_offset(rt: &impl Print, offset: EntryOffset) -> io::Result<()> {
     match offset {
-        EntryOffset::At(n) => print_number(n),
-        EntryOffset::Nowhere => print(b"none"),
+        EntryOffset::At(n) => print_number(rt, n),
+        EntryOffset::Nowhere => print(rt, b"none"),
     }
 }
 
-fn print_rotated(rotated: Rotated) {
+fn print_rotated(rt: &impl Print, rotated: Rotated) -> io::Result<()> {
     match rotated {
-        Rotated::To(entry) => print_entry(entry),
-        Rotated::Refused(refusal) => print_refusal(refusal),
+        Rotated::To(entry) => print_entry(rt, entry),
+        Rotated::Refused(refusal) => print_refusal(rt, refusal),
     }
 }
 
-fn print_rotated_variable(rotated: RotatedVariable) {
+fn print_rotated_variable(rt: &impl Print, rotated: RotatedVariable) -> io::Result<()> {
     match rotated {
-        RotatedVariable::To(var) => print_variable(var),
-        RotatedVariable::Refused(refusal) => print_refusal(refusal),
+        RotatedVariable::To(var) => print_variable(rt, var),
+        RotatedVariable::Refused(refusal) => print_refusal(rt, refusal),
     }
 }
 
-fn print_packed_var(v: PackedVar) {
-    print_number(v.0 as usize);
+fn print_packed_var(rt: &impl Print, v: PackedVar) -> io::Result<()> {
+    print_number(rt, v.0 as usize)
 }
 
-fn print_packed(packed: Packed) {
+fn print_packed(rt: &impl Print, packed: Packed) -> io::Result<()> {
     match packed {
-        Packed::Var(v) => print_packed_var(v),
-        Packed::Refused(refusal) => print_refusal(refusal),
+        Packed::Var(v) => print_packed_var(rt, v),
+        Packed::Refused(refusal) => print_refusal(rt, refusal),
     }
 }
 
 // The calls by their numbers.
-fn answer(call: usize, entry: Entry, column: usize, by: usize) {
+fn answer(rt: &impl Print, call: usize, entry: Entry, column: usize, by: usize) -> io::Result<()> {
     let var = SymbolicVariable::new(entry, column);
     match call {
-        1 => print_offset(entry.offset()),
-        2 => print_rotated(entry.rotate(by)),
-        3 => print_rotated(entry.next()),
-        4 => print_variable(var),
-        5 => print_number(var.degree_multiple()),
-        6 => print_rotated_variable(var.rotate(by)),
-        7 => print_rotated_variable(var.next()),
-        8 => print_packed(PackedVar::from_symbolic_var(var)),
-        9 => print_packed_var(PackedVar::is_first()),
-        10 => print_packed_var(PackedVar::is_last()),
-        11 => print_packed_var(PackedVar::is_transition()),
-        _ => print(b"no call"),
+        1 => print_offset(rt, entry.offset()),
+        2 => print_rotated(rt, entry.rotate(by)),
+        3 => print_rotated(rt, entry.next()),
+        4 => print_variable(rt, var),
+        5 => print_number(rt, var.degree_multiple()),
+        6 => print_rotated_variable(rt, var.rotate(by)),
+        7 => print_rotated_variable(rt, var.next()),
+        8 => print_packed(rt, PackedVar::from_symbolic_var(var)),
+        9 => print_packed_var(rt, PackedVar::is_first()),
+        10 => print_packed_var(rt, PackedVar::is_last()),
+        11 => print_packed_var(rt, PackedVar::is_transition()),
+        _ => print(rt, b"no call"),
     }
 }
 
 // The next case: the call, the entry, the column, and by how much it is rotated.
-fn next_case() {
-    let call = next_number();
-    let entry = next_entry();
-    let column = next_number();
-    let by = next_number();
-    answer(call, entry, column, by);
-    print(b"\n");
+fn next_case(rt: &impl Print, input: &mut impl Read) -> io::Result<()> {
+    let call = next_number(input)?;
+    let entry = next_entry(input)?;
+    let column = next_number(input)?;
+    let by = next_number(input)?;
+    answer(rt, call, entry, column, by)?;
+    print(rt, b"\n")
 }
 
-fn main() {
-    let count = next_number();
+fn main(rt: HostRuntime) -> io::Result<()> {
+    let mut input = rt.stdin();
+    let count = next_number(&mut input)?;
     for _ in 0..count {
-        next_case();
+        next_case(&rt, &mut input)?;
     }
+    Ok(())
 }
