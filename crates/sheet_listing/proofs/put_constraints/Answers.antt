@@ -13,7 +13,7 @@ pub put_refused-requires : goal.put_refused-requires
 put_refused-requires c =
     let refused : let u = c.of_constraints-refusal.result in
     line (refused_text ∷ cons_text ∷ decimal u.number ∷ decimal u.place ∷ []) ≡ constraint_step prime c.args.graph.now =
-        let v = c.expand_constraints-lists in
+    let v = c.expand_constraints-lists in
     let u = c.of_constraints-refusal in
     constraints_refused c.args.graph.now v.result c.expand_constraints-lists.new.work c.expand_constraints-lists.new.pool c.expand_constraints-lists.new.headers c.expand_constraints-lists.new.variables c.expand_constraints-lists.new.terms v.ensures c.in_default.field-0 u.result c.in_default.is u.ensures in
     room_is c.args.out.now c.args.at (refused) c.requires
@@ -22,7 +22,7 @@ pub returns-in_default : goal.returns-in_default
 returns-in_default c =
     let refused : let u = c.of_constraints-refusal.result in
     line (refused_text ∷ cons_text ∷ decimal u.number ∷ decimal u.place ∷ []) ≡ constraint_step prime c.args.graph.now =
-        let v = c.expand_constraints-lists in
+    let v = c.expand_constraints-lists in
     let u = c.of_constraints-refusal in
     constraints_refused c.args.graph.now v.result c.expand_constraints-lists.new.work c.expand_constraints-lists.new.pool c.expand_constraints-lists.new.headers c.expand_constraints-lists.new.variables c.expand_constraints-lists.new.terms v.ensures c.in_default.field-0 u.result c.in_default.is u.ensures in
     puts_is c.put_refused.ensures (refused)
@@ -30,20 +30,20 @@ returns-in_default c =
 pub put_lists-next-requires : goal.put_lists-next-requires
 put_lists-next-requires c =
     let written : Fronts Constraints c.in-Written.n c.expand_constraints-lists.new.headers c.expand_constraints-lists.new.variables c.expand_constraints-lists.new.terms × ((front_lines Constraints c.in-Written.n c.expand_constraints-lists.new.headers c.expand_constraints-lists.new.variables c.expand_constraints-lists.new.terms) ++ interaction_step prime c.args.graph.now ≡ constraint_step prime c.args.graph.now) =
-        let v = c.expand_constraints-lists in
+    let v = c.expand_constraints-lists in
     constraints_written c.args.graph.now v.result c.expand_constraints-lists.new.work c.expand_constraints-lists.new.pool c.expand_constraints-lists.new.headers c.expand_constraints-lists.new.variables c.expand_constraints-lists.new.terms v.ensures c.in-Written.n c.in-Written.is in
     ((written).0, room_front c.args.out.now c.args.at ((front_lines Constraints c.in-Written.n c.expand_constraints-lists.new.headers c.expand_constraints-lists.new.variables c.expand_constraints-lists.new.terms)) (interaction_step prime c.args.graph.now) (written).1 c.requires)
 
 pub put_interactions-requires : goal.put_interactions-requires
 put_interactions-requires c =
     let written : Fronts Constraints c.in-Written.n c.expand_constraints-lists.new.headers c.expand_constraints-lists.new.variables c.expand_constraints-lists.new.terms × ((front_lines Constraints c.in-Written.n c.expand_constraints-lists.new.headers c.expand_constraints-lists.new.variables c.expand_constraints-lists.new.terms) ++ interaction_step prime c.args.graph.now ≡ constraint_step prime c.args.graph.now) =
-        let v = c.expand_constraints-lists in
+    let v = c.expand_constraints-lists in
     constraints_written c.args.graph.now v.result c.expand_constraints-lists.new.work c.expand_constraints-lists.new.pool c.expand_constraints-lists.new.headers c.expand_constraints-lists.new.variables c.expand_constraints-lists.new.terms v.ensures c.in-Written.n c.in-Written.is in
     room_next c.put_lists-next.ensures (interaction_step prime c.args.graph.now) (written).1 c.requires
 
 pub returns : goal.returns
 returns c =
     let written : Fronts Constraints c.in-Written.n c.expand_constraints-lists.new.headers c.expand_constraints-lists.new.variables c.expand_constraints-lists.new.terms × ((front_lines Constraints c.in-Written.n c.expand_constraints-lists.new.headers c.expand_constraints-lists.new.variables c.expand_constraints-lists.new.terms) ++ interaction_step prime c.args.graph.now ≡ constraint_step prime c.args.graph.now) =
-        let v = c.expand_constraints-lists in
+    let v = c.expand_constraints-lists in
     constraints_written c.args.graph.now v.result c.expand_constraints-lists.new.work c.expand_constraints-lists.new.pool c.expand_constraints-lists.new.headers c.expand_constraints-lists.new.variables c.expand_constraints-lists.new.terms v.ensures c.in-Written.n c.in-Written.is in
     puts_next c.put_lists-next.ensures (interaction_step prime c.args.graph.now) (written).1 c.requires c.put_interactions.ensures

@@ -13,7 +13,7 @@ pub put_refused-requires : goal.put_refused-requires
 put_refused-requires c =
     let refused : let u = c.of_interactions-refusal.result in
     line (refused_text ∷ inter_text ∷ decimal u.number ∷ decimal u.place ∷ []) ≡ interaction_step prime c.args.graph.now =
-        let v = c.expand_interactions-lists in
+    let v = c.expand_interactions-lists in
     let u = c.of_interactions-refusal in
     interactions_refused c.args.graph.now v.result c.expand_interactions-lists.new.work c.expand_interactions-lists.new.pool c.expand_interactions-lists.new.headers c.expand_interactions-lists.new.variables c.expand_interactions-lists.new.terms c.expand_interactions-lists.new.denom_headers c.expand_interactions-lists.new.denom_variables c.expand_interactions-lists.new.denom_terms
     v.ensures c.in_default.field-0 u.result c.in_default.is u.ensures in
@@ -23,7 +23,7 @@ pub returns-in_default : goal.returns-in_default
 returns-in_default c =
     let refused : let u = c.of_interactions-refusal.result in
     line (refused_text ∷ inter_text ∷ decimal u.number ∷ decimal u.place ∷ []) ≡ interaction_step prime c.args.graph.now =
-        let v = c.expand_interactions-lists in
+    let v = c.expand_interactions-lists in
     let u = c.of_interactions-refusal in
     interactions_refused c.args.graph.now v.result c.expand_interactions-lists.new.work c.expand_interactions-lists.new.pool c.expand_interactions-lists.new.headers c.expand_interactions-lists.new.variables c.expand_interactions-lists.new.terms c.expand_interactions-lists.new.denom_headers c.expand_interactions-lists.new.denom_variables c.expand_interactions-lists.new.denom_terms
     v.ensures c.in_default.field-0 u.result c.in_default.is u.ensures in
@@ -34,7 +34,7 @@ put_both_lists-requires c =
     let written : Fronts Numerators c.in-Written.n.numerators c.expand_interactions-lists.new.headers c.expand_interactions-lists.new.variables c.expand_interactions-lists.new.terms
     × Fronts Denominators c.in-Written.n.denominators c.expand_interactions-lists.new.denom_headers c.expand_interactions-lists.new.denom_variables c.expand_interactions-lists.new.denom_terms
     × (both_lines c.in-Written.n c.expand_interactions-lists.new.headers c.expand_interactions-lists.new.variables c.expand_interactions-lists.new.terms c.expand_interactions-lists.new.denom_headers c.expand_interactions-lists.new.denom_variables c.expand_interactions-lists.new.denom_terms ≡ interaction_step prime c.args.graph.now) =
-        let v = c.expand_interactions-lists in
+    let v = c.expand_interactions-lists in
     interactions_written c.args.graph.now v.result c.expand_interactions-lists.new.work c.expand_interactions-lists.new.pool c.expand_interactions-lists.new.headers c.expand_interactions-lists.new.variables c.expand_interactions-lists.new.terms c.expand_interactions-lists.new.denom_headers c.expand_interactions-lists.new.denom_variables c.expand_interactions-lists.new.denom_terms
     v.ensures c.in-Written.n c.in-Written.is in
     let w = written in
@@ -45,7 +45,7 @@ returns c =
     let written : Fronts Numerators c.in-Written.n.numerators c.expand_interactions-lists.new.headers c.expand_interactions-lists.new.variables c.expand_interactions-lists.new.terms
     × Fronts Denominators c.in-Written.n.denominators c.expand_interactions-lists.new.denom_headers c.expand_interactions-lists.new.denom_variables c.expand_interactions-lists.new.denom_terms
     × (both_lines c.in-Written.n c.expand_interactions-lists.new.headers c.expand_interactions-lists.new.variables c.expand_interactions-lists.new.terms c.expand_interactions-lists.new.denom_headers c.expand_interactions-lists.new.denom_variables c.expand_interactions-lists.new.denom_terms ≡ interaction_step prime c.args.graph.now) =
-        let v = c.expand_interactions-lists in
+    let v = c.expand_interactions-lists in
     interactions_written c.args.graph.now v.result c.expand_interactions-lists.new.work c.expand_interactions-lists.new.pool c.expand_interactions-lists.new.headers c.expand_interactions-lists.new.variables c.expand_interactions-lists.new.terms c.expand_interactions-lists.new.denom_headers c.expand_interactions-lists.new.denom_variables c.expand_interactions-lists.new.denom_terms
     v.ensures c.in-Written.n c.in-Written.is in
     puts_is c.put_both_lists.ensures (written).2
