@@ -22,40 +22,40 @@ returns-in_default c =
 pub overflow_add-blocks : goal.overflow_add-blocks
 overflow_add-blocks c =
     let sheet : (t : Sheet) × (check prime c.args.s.now ≡ good t) × (c.in-Sheet.head ≡ head_of t) =
-        found prime c.args.s.now c.check_sheet-checked.ensures c.in-Sheet.is in
+    found prime c.args.s.now c.check_sheet-checked.ensures c.in-Sheet.is in
     omega (arith, words_few prime c.args.s.now (sheet).1 (sheet).2)
 
 pub overflow_mul-needed : goal.overflow_mul-needed
 overflow_mul-needed c =
     let sheet : (t : Sheet) × (check prime c.args.s.now ≡ good t) × (c.in-Sheet.head ≡ head_of t) =
-        found prime c.args.s.now c.check_sheet-checked.ensures c.in-Sheet.is in
+    found prime c.args.s.now c.check_sheet-checked.ensures c.in-Sheet.is in
     omega (arith, words_few prime c.args.s.now (sheet).1 (sheet).2)
 
 pub returns-then-out-needed : goal.returns-then-out-needed
 unfolding writer_call
 returns-then-out-needed c =
     let sheet : (t : Sheet) × (check prime c.args.s.now ≡ good t) × (c.in-Sheet.head ≡ head_of t) =
-        found prime c.args.s.now c.check_sheet-checked.ensures c.in-Sheet.is in
+    found prime c.args.s.now c.check_sheet-checked.ensures c.in-Sheet.is in
     let t = sheet in
     sheet_short prime c.args.s.now sheet_bytes sheet_blocks c.args.out.now refl t.1 (bytes_are prime c.args.s.now t.1 t.2) c.if-out-needed.true
 
 pub slice_bounds-write_each-end : goal.slice_bounds-write_each-end
 slice_bounds-write_each-end c =
     let sheet : (t : Sheet) × (check prime c.args.s.now ≡ good t) × (c.in-Sheet.head ≡ head_of t) =
-        found prime c.args.s.now c.check_sheet-checked.ensures c.in-Sheet.is in
+    found prime c.args.s.now c.check_sheet-checked.ensures c.in-Sheet.is in
     words_inside prime c.args.s.now (sheet).1 (sheet).2
 
 pub write_each-requires : goal.write_each-requires
 write_each-requires c =
     let sheet : (t : Sheet) × (check prime c.args.s.now ≡ good t) × (c.in-Sheet.head ≡ head_of t) =
-        found prime c.args.s.now c.check_sheet-checked.ensures c.in-Sheet.is in
+    found prime c.args.s.now c.check_sheet-checked.ensures c.in-Sheet.is in
     (omega (arith, words_few prime c.args.s.now (sheet).1 (sheet).2), search rules)
 
 pub returns : goal.returns
 unfolding writer_call
 returns c =
     let sheet : (t : Sheet) × (check prime c.args.s.now ≡ good t) × (c.in-Sheet.head ≡ head_of t) =
-        found prime c.args.s.now c.check_sheet-checked.ensures c.in-Sheet.is in
+    found prime c.args.s.now c.check_sheet-checked.ensures c.in-Sheet.is in
     let write = c.write_each in
     let w = c.args.s.now in
     let t = sheet in

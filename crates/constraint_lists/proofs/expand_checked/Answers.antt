@@ -26,31 +26,29 @@ returns-then-work-lt4096 c =
 pub overflow_mul-records : goal.overflow_mul-records
 overflow_mul-records c =
     let few : 2 * c.args.records ≤ 8192 =
-        omega (arith, c.requires.1.records_are, (counts_small c.args.s.now c.requires.1.checked).0) in
+    omega (arith, c.requires.1.records_are, (counts_small c.args.s.now c.requires.1.checked).0) in
     omega (arith, few)
 
 pub overflow_mul-result : goal.overflow_mul-result
 overflow_mul-result c =
     let few : 2 * c.args.records ≤ 8192 =
-        omega (arith, c.requires.1.records_are, (counts_small c.args.s.now c.requires.1.checked).0) in
+    omega (arith, c.requires.1.records_are, (counts_small c.args.s.now c.requires.1.checked).0) in
     omega (arith, few)
 
 pub returns-then-pool-records : goal.returns-then-pool-records
-returns-then-pool-records c =
-    (
-      pool_short ((length c.args.work.now)) ((length c.args.pool.now)) ((length c.args.headers.now ∷ length c.args.variables.now ∷ length c.args.terms.now ∷ [])) constraint_roots (constraint_outputs prime) (λ x. []) (read_sheet c.args.s.now)
-          c.if-work-lt4096.false (2 * c.args.records) (ap (λ (n : ℕ). 2 * n) c.requires.1.records_are) c.if-pool-records.true,
-      tt,
-    )
+returns-then-pool-records c = (
+  pool_short ((length c.args.work.now)) ((length c.args.pool.now)) ((length c.args.headers.now ∷ length c.args.variables.now ∷ length c.args.terms.now ∷ [])) constraint_roots (constraint_outputs prime) (λ x. []) (read_sheet c.args.s.now)
+      c.if-work-lt4096.false (2 * c.args.records) (ap (λ (n : ℕ). 2 * n) c.requires.1.records_are) c.if-pool-records.true,
+  tt,
+)
 
 pub returns-in_default : goal.returns-in_default
 returns-in_default c =
     let work_long : 4096 ≤ (length c.args.work.now) =
-        c.if-work-lt4096.false in
+    c.if-work-lt4096.false in
     let pool-long : 2 * length (read_sheet c.args.s.now).records ≤ (length c.args.pool.now) =
-        omega (arith, c.requires.1.records_are, c.if-pool-records.false) in
-    let a = c.args in
-    (
+    omega (arith, c.requires.1.records_are, c.if-pool-records.false) in
+    let a = c.args in (
       constraints_refused c.args.s.now ((length c.args.work.now)) ((length c.args.pool.now)) (unchanged a.headers.now a.variables.now a.terms.now)
           (work_long) (pool-long)
           c.walk_constraints-walked.result c.refusal_of.result c.in_default.field-0 c.walk_constraints-walked.new.pool c.walk_constraints-walked.auto.pool
@@ -61,7 +59,7 @@ returns-in_default c =
 pub group_constraints-requires : goal.group_constraints-requires
 group_constraints-requires c =
     let expanded : Expands c.args.s.now c.walk_constraints-walked.new.pool (Used c.in-Used._used) (order (records_of c.args.s.now) (read_sheet c.args.s.now).constraints) =
-        subst (λ (u : Expanded). Expands c.args.s.now c.walk_constraints-walked.new.pool u (order (records_of c.args.s.now) (read_sheet c.args.s.now).constraints))
+    subst (λ (u : Expanded). Expands c.args.s.now c.walk_constraints-walked.new.pool u (order (records_of c.args.s.now) (read_sheet c.args.s.now).constraints))
     c.in-Used.is c.walk_constraints-walked.ensures in
     constraints_grouping c.args.s.now c.requires.1.checked c.walk_constraints-walked.new.pool c.in-Used._used (expanded)
 
@@ -74,19 +72,19 @@ constraints_in-requires c =
 pub returns : goal.returns
 returns c =
     let work_long : 4096 ≤ (length c.args.work.now) =
-        c.if-work-lt4096.false in
+    c.if-work-lt4096.false in
     let pool-long : 2 * length (read_sheet c.args.s.now).records ≤ (length c.args.pool.now) =
-        omega (arith, c.requires.1.records_are, c.if-pool-records.false) in
+    omega (arith, c.requires.1.records_are, c.if-pool-records.false) in
     let expanded : Expands c.args.s.now c.walk_constraints-walked.new.pool (Used c.in-Used._used) (order (records_of c.args.s.now) (read_sheet c.args.s.now).constraints) =
-        subst (λ (u : Expanded). Expands c.args.s.now c.walk_constraints-walked.new.pool u (order (records_of c.args.s.now) (read_sheet c.args.s.now).constraints))
+    subst (λ (u : Expanded). Expands c.args.s.now c.walk_constraints-walked.new.pool u (order (records_of c.args.s.now) (read_sheet c.args.s.now).constraints))
     c.in-Used.is c.walk_constraints-walked.ensures in
     let kept : let a = c.args in
     Kept (length a.headers.now) (length a.variables.now) (length a.terms.now) c.group_constraints.new.headers c.group_constraints.new.variables c.group_constraints.new.terms =
-        record {
-  headers_long = c.group_constraints.auto.headers;
-  variables_long = c.group_constraints.auto.variables;
-  terms_long_lem = c.group_constraints.auto.terms;
-} in
+    record {
+      headers_long = c.group_constraints.auto.headers;
+      variables_long = c.group_constraints.auto.variables;
+      terms_long_lem = c.group_constraints.auto.terms;
+    } in
     constraints_grouped c.args.s.now ((length c.args.work.now)) ((length c.args.pool.now)) (kept) (work_long) (pool-long)
     c.in-Used._used c.walk_constraints-walked.new.pool c.walk_constraints-walked.auto.pool (expanded)
     c.group_constraints.result c.group_constraints.ensures c.constraints_in.result c.constraints_in.ensures

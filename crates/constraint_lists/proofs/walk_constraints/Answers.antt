@@ -14,9 +14,9 @@ use Rattle.constraint_lists.proofs.walk_constraints.Goals as goal
 pub expand_references-requires : goal.expand_references-requires
 expand_references-requires c =
     let sheet-is : CheckedSheet c.args.s.now c.args.records c.args.constraints c.requires.0.0 =
-        c.requires.0.1 in
+    c.requires.0.1 in
     let heads-long : length ((take (2 * c.args.records) c.args.pool.now)) ≡ 2 * c.args.records =
-        omega (arith, length-take (2 * c.args.records) c.args.pool.now, c.requires.2) in
+    omega (arith, length-take (2 * c.args.records) c.args.pool.now, c.requires.2) in
     let zero = c.zero_all in
     let a = c.args in (
       walk_starts c.args.s.now a.records (sheet-is).records_are zero.new.s ((drop (2 * c.args.records) c.args.pool.now)) (length ((take (2 * c.args.records) c.args.pool.now)))
@@ -28,9 +28,9 @@ expand_references-requires c =
 pub returns : goal.returns
 returns c =
     let sheet-is : CheckedSheet c.args.s.now c.args.records c.args.constraints c.requires.0.0 =
-        c.requires.0.1 in
+    c.requires.0.1 in
     let heads-long : length ((take (2 * c.args.records) c.args.pool.now)) ≡ 2 * c.args.records =
-        omega (arith, length-take (2 * c.args.records) c.args.pool.now, c.requires.2) in
+    omega (arith, length-take (2 * c.args.records) c.args.pool.now, c.requires.2) in
     let expand = c.expand_references in
     let pool = expand.new.pool in
     let zero = c.zero_all in

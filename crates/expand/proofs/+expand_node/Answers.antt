@@ -112,8 +112,7 @@ expand_node-answer-requires-2 t c =
       same_pool = v.auto.pool;
       visits = v.ensures;
     } in
-    let two : (node_in a.sheet.now a.r).kind ≡ 8 → ⊥ = λ e. c.if-kind_at-eq8.false (c.kind_at-2.ensures ∙ e) in
-    (
+    let two : (node_in a.sheet.now a.r).kind ≡ 8 → ⊥ = λ e. c.if-kind_at-eq8.false (c.kind_at-2.ensures ∙ e) in (
       subst (λ (m : ℕ). c.right_at.result < m) c.decreases (right_low left c.in-Used.is two c.right_at.ensures),
       ready_right left c.in-Used.is two c.right_at.ensures,
     )
@@ -135,7 +134,7 @@ returns-in_default-answer t c =
     let two : (node_in a.sheet.now a.r).kind ≡ 8 → ⊥ = λ e. c.if-kind_at-eq8.false (c.kind_at-2.ensures ∙ e) in
     let w = c.expand_node-answer-2 in
     let right : Right a.sheet.now a.r a.work.now a.pool.now a.used c.left_at.result v.new.work v.new.pool v.result
-        c.in-Used.one c.right_at.result w.new.work w.new.pool w.result = record {
+    c.in-Used.one c.right_at.result w.new.work w.new.pool w.result = record {
       left = left;
       taken = c.in-Used.is;
       two = two;
@@ -163,7 +162,7 @@ finish_record-answer-requires-2 t c =
     let two : (node_in a.sheet.now a.r).kind ≡ 8 → ⊥ = λ e. c.if-kind_at-eq8.false (c.kind_at-2.ensures ∙ e) in
     let w = c.expand_node-answer-2 in
     let right : Right a.sheet.now a.r a.work.now a.pool.now a.used c.left_at.result v.new.work v.new.pool v.result
-        c.in-Used.one c.right_at.result w.new.work w.new.pool w.result = record {
+    c.in-Used.one c.right_at.result w.new.work w.new.pool w.result = record {
       left = left;
       taken = c.in-Used.is;
       two = two;
@@ -191,7 +190,7 @@ returns t c =
     let two : (node_in a.sheet.now a.r).kind ≡ 8 → ⊥ = λ e. c.if-kind_at-eq8.false (c.kind_at-2.ensures ∙ e) in
     let w = c.expand_node-answer-2 in
     let right : Right a.sheet.now a.r a.work.now a.pool.now a.used c.left_at.result v.new.work v.new.pool v.result
-        c.in-Used.one c.right_at.result w.new.work w.new.pool w.result = record {
+    c.in-Used.one c.right_at.result w.new.work w.new.pool w.result = record {
       left = left;
       taken = c.in-Used.is;
       two = two;

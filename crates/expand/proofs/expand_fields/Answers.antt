@@ -9,11 +9,10 @@ pub interaction_at-x-requires : goal.interaction_at-x-requires
 interaction_at-x-requires c = (next_inside c.requires.0 c.loop-i.invariant c.loop-i-test.true).inside
 
 pub expand_references-answer-requires : goal.expand_references-answer-requires
-expand_references-answer-requires c =
-    (
-      passing_walking c.requires.0 c.loop-i.invariant,
-      references_next c.requires.0 c.loop-i.invariant c.loop-i-test.true (fields_taken c.args.sheet.now) c.interaction_at-x.ensures,
-    )
+expand_references-answer-requires c = (
+  passing_walking c.requires.0 c.loop-i.invariant,
+  references_next c.requires.0 c.loop-i.invariant c.loop-i-test.true (fields_taken c.args.sheet.now) c.interaction_at-x.ensures,
+)
 
 pub returns-in_default : goal.returns-in_default
 returns-in_default c =

@@ -8,11 +8,11 @@ pub returns : goal.returns
 returns c =
     let long : Kept (length c.args.headers.now) (length c.args.variables.now) (length c.args.terms.now)
     c.expand_sheet-lists.new.headers c.expand_sheet-lists.new.variables c.expand_sheet-lists.new.terms =
-        record {
-  headers_long = c.expand_sheet-lists.auto.headers;
-  variables_long = c.expand_sheet-lists.auto.variables;
-  terms_long_lem = c.expand_sheet-lists.auto.terms;
-} in
+    record {
+      headers_long = c.expand_sheet-lists.auto.headers;
+      variables_long = c.expand_sheet-lists.auto.variables;
+      terms_long_lem = c.expand_sheet-lists.auto.terms;
+    } in
     let clear = c.clear_behind in
     let expand = c.expand_sheet-lists in
     let a = c.args in

@@ -9,19 +9,19 @@ pub returns : goal.returns
 returns c =
     let numerators : Kept (length c.args.headers.now) (length c.args.variables.now) (length c.args.terms.now)
     c.expand_sheet_interactions-lists.new.headers c.expand_sheet_interactions-lists.new.variables c.expand_sheet_interactions-lists.new.terms =
-        record {
-  headers_long = c.expand_sheet_interactions-lists.auto.headers;
-  variables_long = c.expand_sheet_interactions-lists.auto.variables;
-  terms_long_lem = c.expand_sheet_interactions-lists.auto.terms;
-} in
+    record {
+      headers_long = c.expand_sheet_interactions-lists.auto.headers;
+      variables_long = c.expand_sheet_interactions-lists.auto.variables;
+      terms_long_lem = c.expand_sheet_interactions-lists.auto.terms;
+    } in
     let denominators : let a = c.args in
     Kept (length a.denom_headers.now) (length a.denom_variables.now) (length a.denom_terms.now)
     c.expand_sheet_interactions-lists.new.denom_headers c.expand_sheet_interactions-lists.new.denom_variables c.expand_sheet_interactions-lists.new.denom_terms =
-        record {
-  headers_long = c.expand_sheet_interactions-lists.auto.denom_headers;
-  variables_long = c.expand_sheet_interactions-lists.auto.denom_variables;
-  terms_long_lem = c.expand_sheet_interactions-lists.auto.denom_terms;
-} in
+    record {
+      headers_long = c.expand_sheet_interactions-lists.auto.denom_headers;
+      variables_long = c.expand_sheet_interactions-lists.auto.denom_variables;
+      terms_long_lem = c.expand_sheet_interactions-lists.auto.denom_terms;
+    } in
     let expand = c.expand_sheet_interactions-lists in
     let a = c.args in
     let kept = c.both_lengths-kept in

@@ -24,11 +24,11 @@ pub returns-in_default : goal.returns-in_default
 returns-in_default c =
     let numerators : Kept (length c.args.headers.now) (length c.args.variables.now) (length c.args.terms.now)
     c.group_counts-counted.new.headers c.group_counts-counted.new.variables c.group_counts-counted.new.terms =
-        record {
-  headers_long = c.group_counts-counted.auto.headers;
-  variables_long = c.group_counts-counted.auto.variables;
-  terms_long_lem = c.group_counts-counted.auto.terms;
-} in
+    record {
+      headers_long = c.group_counts-counted.auto.headers;
+      variables_long = c.group_counts-counted.auto.variables;
+      terms_long_lem = c.group_counts-counted.auto.terms;
+    } in
     let a = c.args in
     counts_refused c.args.s.now (numerators) (unchanged a.denom_headers.now a.denom_variables.now a.denom_terms.now)
     c.group_counts-counted.result c.too_short.result c.group_counts-counted.ensures
@@ -46,19 +46,19 @@ pub returns-in_default-listed : goal.returns-in_default-listed
 returns-in_default-listed c =
     let numerators : Kept (length c.args.headers.now) (length c.args.variables.now) (length c.args.terms.now)
     c.group_counts-counted.new.headers c.group_counts-counted.new.variables c.group_counts-counted.new.terms =
-        record {
-  headers_long = c.group_counts-counted.auto.headers;
-  variables_long = c.group_counts-counted.auto.variables;
-  terms_long_lem = c.group_counts-counted.auto.terms;
-} in
+    record {
+      headers_long = c.group_counts-counted.auto.headers;
+      variables_long = c.group_counts-counted.auto.variables;
+      terms_long_lem = c.group_counts-counted.auto.terms;
+    } in
     let denominators : let a = c.args in
     Kept (length a.denom_headers.now) (length a.denom_variables.now) (length a.denom_terms.now)
     c.group_fields-listed.new.headers c.group_fields-listed.new.variables c.group_fields-listed.new.terms =
-        record {
-  headers_long = c.group_fields-listed.auto.headers;
-  variables_long = c.group_fields-listed.auto.variables;
-  terms_long_lem = c.group_fields-listed.auto.terms;
-} in
+    record {
+      headers_long = c.group_fields-listed.auto.headers;
+      variables_long = c.group_fields-listed.auto.variables;
+      terms_long_lem = c.group_fields-listed.auto.terms;
+    } in
     fields_refused c.args.s.now (numerators) (denominators)
     c.group_counts-counted.result c.in-Written.numerators c.group_counts-counted.ensures c.in-Written.is
     c.group_fields-listed.result c.too_short-in_default-listed.result c.group_fields-listed.ensures
@@ -73,19 +73,19 @@ pub returns : goal.returns
 returns c =
     let numerators : Kept (length c.args.headers.now) (length c.args.variables.now) (length c.args.terms.now)
     c.group_counts-counted.new.headers c.group_counts-counted.new.variables c.group_counts-counted.new.terms =
-        record {
-  headers_long = c.group_counts-counted.auto.headers;
-  variables_long = c.group_counts-counted.auto.variables;
-  terms_long_lem = c.group_counts-counted.auto.terms;
-} in
+    record {
+      headers_long = c.group_counts-counted.auto.headers;
+      variables_long = c.group_counts-counted.auto.variables;
+      terms_long_lem = c.group_counts-counted.auto.terms;
+    } in
     let denominators : let a = c.args in
     Kept (length a.denom_headers.now) (length a.denom_variables.now) (length a.denom_terms.now)
     c.group_fields-listed.new.headers c.group_fields-listed.new.variables c.group_fields-listed.new.terms =
-        record {
-  headers_long = c.group_fields-listed.auto.headers;
-  variables_long = c.group_fields-listed.auto.variables;
-  terms_long_lem = c.group_fields-listed.auto.terms;
-} in
+    record {
+      headers_long = c.group_fields-listed.auto.headers;
+      variables_long = c.group_fields-listed.auto.variables;
+      terms_long_lem = c.group_fields-listed.auto.terms;
+    } in
     let at = c.interactions_at in
     all_written c.args.s.now (numerators) (denominators)
     c.group_counts-counted.result c.in-Written.numerators c.group_counts-counted.ensures c.in-Written.is

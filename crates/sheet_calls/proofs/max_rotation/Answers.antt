@@ -20,13 +20,13 @@ returns-in_default c =
 pub largest_offset-requires : goal.largest_offset-requires
 largest_offset-requires c =
     let sheet : (t : Sheet) × (check prime c.args.s.now ≡ good t) × (c.in-Sheet.head ≡ head_of t) =
-        found prime c.args.s.now c.check_sheet-checked.ensures c.in-Sheet.is in
+    found prime c.args.s.now c.check_sheet-checked.ensures c.in-Sheet.is in
     records_fit prime c.args.s.now (sheet).1 (sheet).2
 
 pub returns : goal.returns
 unfolding max_rotation_call
 returns c =
     let sheet : (t : Sheet) × (check prime c.args.s.now ≡ good t) × (c.in-Sheet.head ≡ head_of t) =
-        found prime c.args.s.now c.check_sheet-checked.ensures c.in-Sheet.is in
+    found prime c.args.s.now c.check_sheet-checked.ensures c.in-Sheet.is in
     let t = sheet in
     counted_found prime c.args.s.now max_rotation t.1 (c.largest_offset.ensures ∙ largest_is prime c.args.s.now t.1 t.2)

@@ -33,10 +33,10 @@ pub overflow_sub-sum : goal.overflow_sub-sum
 overflow_sub-sum c =
     let end-words : let a = c.args in
     249 * c.word_at-2.result + 251 * c.word_at-3.result + 253 * c.word_at-4.result ≡ rest 127 a.bytes.now a.at 124 =
-        let a = c.args in
+    let a = c.args in
     last_words a.bytes.now a.at c.word_at-2.ensures c.word_at-3.ensures c.word_at-4.ensures in
     let rows : c.loop-row.row ≡ 31 =
-        search rules in
+    search rules in
     let a = c.args in
     let b = c.loop-row in
     sums_fit c.args.number (weighted 0 ((words_of 127 (drop c.args.at c.args.bytes.now)))) b.row a.bytes.now a.at b.a b.b b.c b.d _ _ _ b.invariant.5 (rows) (end-words)
@@ -45,10 +45,10 @@ pub returns : goal.returns
 returns c =
     let end-words : let a = c.args in
     249 * c.word_at-2.result + 251 * c.word_at-3.result + 253 * c.word_at-4.result ≡ rest 127 a.bytes.now a.at 124 =
-        let a = c.args in
+    let a = c.args in
     last_words a.bytes.now a.at c.word_at-2.ensures c.word_at-3.ensures c.word_at-4.ensures in
     let rows : c.loop-row.row ≡ 31 =
-        search rules in
+    search rules in
     let a = c.args in
     let b = c.loop-row in
     summed c.args.number _ ((words_of 127 (drop c.args.at c.args.bytes.now)))

@@ -19,7 +19,7 @@ overflow_mul-k c =
     let i = l.j - 1 in
     (get_or a.fronts.now i 0 ≤ l.end) × PlaceInside a.pool.now (get_or a.places.now i 0) × (i < length a.places.now) × (i < length a.fronts.now) × (l.end ≤ a.n) × (l.j ≤ a.b)
     × (4 * a.n + 4 * a.b ≤ length l.headers) =
-        let l = c.loop-j in
+    let l = c.loop-j in
     let g = l.invariant in
     let p = c.requires in
     let t = c.loop-j-test.true in
@@ -37,7 +37,7 @@ shift_up-requires c =
     let i = l.j - 1 in
     (get_or a.fronts.now i 0 ≤ l.end) × PlaceInside a.pool.now (get_or a.places.now i 0) × (i < length a.places.now) × (i < length a.fronts.now) × (l.end ≤ a.n) × (l.j ≤ a.b)
     × (4 * a.n + 4 * a.b ≤ length l.headers) =
-        let l = c.loop-j in
+    let l = c.loop-j in
     let g = l.invariant in
     let p = c.requires in
     let t = c.loop-j-test.true in
@@ -55,7 +55,7 @@ overflow_mul-k-in-loop-j c =
     let i = l.j - 1 in
     (get_or a.fronts.now i 0 ≤ l.end) × PlaceInside a.pool.now (get_or a.places.now i 0) × (i < length a.places.now) × (i < length a.fronts.now) × (l.end ≤ a.n) × (l.j ≤ a.b)
     × (4 * a.n + 4 * a.b ≤ length l.headers) =
-        let l = c.loop-j in
+    let l = c.loop-j in
     let g = l.invariant in
     let p = c.requires in
     let t = c.loop-j-test.true in
@@ -73,7 +73,7 @@ overflow_add-k c =
     let i = l.j - 1 in
     (get_or a.fronts.now i 0 ≤ l.end) × PlaceInside a.pool.now (get_or a.places.now i 0) × (i < length a.places.now) × (i < length a.fronts.now) × (l.end ≤ a.n) × (l.j ≤ a.b)
     × (4 * a.n + 4 * a.b ≤ length l.headers) =
-        let l = c.loop-j in
+    let l = c.loop-j in
     let g = l.invariant in
     let p = c.requires in
     let t = c.loop-j-test.true in
@@ -91,7 +91,7 @@ put_row-requires c =
     let i = l.j - 1 in
     (get_or a.fronts.now i 0 ≤ l.end) × PlaceInside a.pool.now (get_or a.places.now i 0) × (i < length a.places.now) × (i < length a.fronts.now) × (l.end ≤ a.n) × (l.j ≤ a.b)
     × (4 * a.n + 4 * a.b ≤ length l.headers) =
-        let l = c.loop-j in
+    let l = c.loop-j in
     let g = l.invariant in
     let p = c.requires in
     let t = c.loop-j-test.true in

@@ -18,12 +18,12 @@ pub overflow_mul-row : goal.overflow_mul-row
 overflow_mul-row c =
     let there : let a = c.args in
     Spot (pool_vars a.pool.now a.at) (tallied a.n a.headers.now a.pool.now) (There c.in-There.k) =
-        let a = c.args in
+    let a = c.args in
     subst (Spot (pool_vars a.pool.now a.at) (tallied a.n a.headers.now a.pool.now)) c.in-There.is c.find_near-found.ensures in
     let row : let a = c.args in
     let k = c.in-There.k in
     (k < a.n) × (get_or a.headers.now (4 * k + 3) 0 < 4294967295) × (4 * a.n ≤ length a.headers.now) =
-        let a = c.args in
+    let a = c.args in
     let p = c.requires in
     let k = c.in-There.k in
     let v : List ℕ = pool_vars a.pool.now a.at in
@@ -35,12 +35,12 @@ pub overflow_add-headers : goal.overflow_add-headers
 overflow_add-headers c =
     let there : let a = c.args in
     Spot (pool_vars a.pool.now a.at) (tallied a.n a.headers.now a.pool.now) (There c.in-There.k) =
-        let a = c.args in
+    let a = c.args in
     subst (Spot (pool_vars a.pool.now a.at) (tallied a.n a.headers.now a.pool.now)) c.in-There.is c.find_near-found.ensures in
     let row : let a = c.args in
     let k = c.in-There.k in
     (k < a.n) × (get_or a.headers.now (4 * k + 3) 0 < 4294967295) × (4 * a.n ≤ length a.headers.now) =
-        let a = c.args in
+    let a = c.args in
     let p = c.requires in
     let k = c.in-There.k in
     let v : List ℕ = pool_vars a.pool.now a.at in
@@ -52,12 +52,12 @@ pub offset_bounds-headers-row : goal.offset_bounds-headers-row
 offset_bounds-headers-row c =
     let there : let a = c.args in
     Spot (pool_vars a.pool.now a.at) (tallied a.n a.headers.now a.pool.now) (There c.in-There.k) =
-        let a = c.args in
+    let a = c.args in
     subst (Spot (pool_vars a.pool.now a.at) (tallied a.n a.headers.now a.pool.now)) c.in-There.is c.find_near-found.ensures in
     let row : let a = c.args in
     let k = c.in-There.k in
     (k < a.n) × (get_or a.headers.now (4 * k + 3) 0 < 4294967295) × (4 * a.n ≤ length a.headers.now) =
-        let a = c.args in
+    let a = c.args in
     let p = c.requires in
     let k = c.in-There.k in
     let v : List ℕ = pool_vars a.pool.now a.at in
@@ -69,12 +69,12 @@ pub bounds-headers-row : goal.bounds-headers-row
 bounds-headers-row c =
     let there : let a = c.args in
     Spot (pool_vars a.pool.now a.at) (tallied a.n a.headers.now a.pool.now) (There c.in-There.k) =
-        let a = c.args in
+    let a = c.args in
     subst (Spot (pool_vars a.pool.now a.at) (tallied a.n a.headers.now a.pool.now)) c.in-There.is c.find_near-found.ensures in
     let row : let a = c.args in
     let k = c.in-There.k in
     (k < a.n) × (get_or a.headers.now (4 * k + 3) 0 < 4294967295) × (4 * a.n ≤ length a.headers.now) =
-        let a = c.args in
+    let a = c.args in
     let p = c.requires in
     let k = c.in-There.k in
     let v : List ℕ = pool_vars a.pool.now a.at in
@@ -86,12 +86,12 @@ pub overflow_add-headers-in-There : goal.overflow_add-headers-in-There
 overflow_add-headers-in-There c =
     let there : let a = c.args in
     Spot (pool_vars a.pool.now a.at) (tallied a.n a.headers.now a.pool.now) (There c.in-There.k) =
-        let a = c.args in
+    let a = c.args in
     subst (Spot (pool_vars a.pool.now a.at) (tallied a.n a.headers.now a.pool.now)) c.in-There.is c.find_near-found.ensures in
     let row : let a = c.args in
     let k = c.in-There.k in
     (k < a.n) × (get_or a.headers.now (4 * k + 3) 0 < 4294967295) × (4 * a.n ≤ length a.headers.now) =
-        let a = c.args in
+    let a = c.args in
     let p = c.requires in
     let k = c.in-There.k in
     let v : List ℕ = pool_vars a.pool.now a.at in
@@ -103,12 +103,12 @@ pub overflow_add-headers-in-There-2 : goal.overflow_add-headers-in-There-2
 overflow_add-headers-in-There-2 c =
     let there : let a = c.args in
     Spot (pool_vars a.pool.now a.at) (tallied a.n a.headers.now a.pool.now) (There c.in-There.k) =
-        let a = c.args in
+    let a = c.args in
     subst (Spot (pool_vars a.pool.now a.at) (tallied a.n a.headers.now a.pool.now)) c.in-There.is c.find_near-found.ensures in
     let row : let a = c.args in
     let k = c.in-There.k in
     (k < a.n) × (get_or a.headers.now (4 * k + 3) 0 < 4294967295) × (4 * a.n ≤ length a.headers.now) =
-        let a = c.args in
+    let a = c.args in
     let p = c.requires in
     let k = c.in-There.k in
     let v : List ℕ = pool_vars a.pool.now a.at in
@@ -120,12 +120,12 @@ pub offset_bounds-headers-row-in-There : goal.offset_bounds-headers-row-in-There
 offset_bounds-headers-row-in-There c =
     let there : let a = c.args in
     Spot (pool_vars a.pool.now a.at) (tallied a.n a.headers.now a.pool.now) (There c.in-There.k) =
-        let a = c.args in
+    let a = c.args in
     subst (Spot (pool_vars a.pool.now a.at) (tallied a.n a.headers.now a.pool.now)) c.in-There.is c.find_near-found.ensures in
     let row : let a = c.args in
     let k = c.in-There.k in
     (k < a.n) × (get_or a.headers.now (4 * k + 3) 0 < 4294967295) × (4 * a.n ≤ length a.headers.now) =
-        let a = c.args in
+    let a = c.args in
     let p = c.requires in
     let k = c.in-There.k in
     let v : List ℕ = pool_vars a.pool.now a.at in
@@ -137,12 +137,12 @@ pub bounds-headers-row-in-There : goal.bounds-headers-row-in-There
 bounds-headers-row-in-There c =
     let there : let a = c.args in
     Spot (pool_vars a.pool.now a.at) (tallied a.n a.headers.now a.pool.now) (There c.in-There.k) =
-        let a = c.args in
+    let a = c.args in
     subst (Spot (pool_vars a.pool.now a.at) (tallied a.n a.headers.now a.pool.now)) c.in-There.is c.find_near-found.ensures in
     let row : let a = c.args in
     let k = c.in-There.k in
     (k < a.n) × (get_or a.headers.now (4 * k + 3) 0 < 4294967295) × (4 * a.n ≤ length a.headers.now) =
-        let a = c.args in
+    let a = c.args in
     let p = c.requires in
     let k = c.in-There.k in
     let v : List ℕ = pool_vars a.pool.now a.at in
@@ -154,7 +154,7 @@ pub returns-then-may_follow : goal.returns-then-may_follow
 returns-then-may_follow c =
     let follows : let a = c.args in MayFollow a.b a.places.now
     a.pool.now a.at true =
-        let a = c.args in subst
+    let a = c.args in subst
     (MayFollow a.b a.places.now a.pool.now a.at) c.if-may_follow.true c.may_follow.ensures in
     let a = c.args in
     let p = c.requires in
@@ -169,7 +169,7 @@ pub returns-in-There : goal.returns-in-There
 returns-in-There c =
     let there : let a = c.args in
     Spot (pool_vars a.pool.now a.at) (tallied a.n a.headers.now a.pool.now) (There c.in-There.k) =
-        let a = c.args in
+    let a = c.args in
     subst (Spot (pool_vars a.pool.now a.at) (tallied a.n a.headers.now a.pool.now)) c.in-There.is c.find_near-found.ensures in
     let a = c.args in
     let x = batch_count a.n a.b a.headers.now a.pool.now a.places.now a.fronts.now (pool_vars a.pool.now a.at)

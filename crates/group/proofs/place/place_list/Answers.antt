@@ -10,7 +10,7 @@ use Rattle.group.proofs.place.place_list.Goals as goal
 pub place_kept-near-requires : goal.place_kept-near-requires
 place_kept-near-requires c =
     let next_stands : PlaceInside c.args.pool.now c.loop-i.place =
-        let a = c.args in
+    let a = c.args in
     let b = c.loop-i in
     let s = standing_next a.count b.i b.place a.pool.now c.loop-i-test.true b.invariant.standing in
     (s.0, s.1, s.2) in
@@ -20,7 +20,7 @@ place_kept-near-requires c =
 pub overflow_add-place : goal.overflow_add-place
 overflow_add-place c =
     let next_stands : PlaceInside c.args.pool.now c.loop-i.place =
-        let a = c.args in
+    let a = c.args in
     let b = c.loop-i in
     let s = standing_next a.count b.i b.place a.pool.now c.loop-i-test.true b.invariant.standing in
     (s.0, s.1, s.2) in
@@ -29,7 +29,7 @@ overflow_add-place c =
 pub offset_bounds-pool-place : goal.offset_bounds-pool-place
 offset_bounds-pool-place c =
     let next_stands : PlaceInside c.args.pool.now c.loop-i.place =
-        let a = c.args in
+    let a = c.args in
     let b = c.loop-i in
     let s = standing_next a.count b.i b.place a.pool.now c.loop-i-test.true b.invariant.standing in
     (s.0, s.1, s.2) in
@@ -38,7 +38,7 @@ offset_bounds-pool-place c =
 pub bounds-pool-place : goal.bounds-pool-place
 bounds-pool-place c =
     let next_stands : PlaceInside c.args.pool.now c.loop-i.place =
-        let a = c.args in
+    let a = c.args in
     let b = c.loop-i in
     let s = standing_next a.count b.i b.place a.pool.now c.loop-i-test.true b.invariant.standing in
     (s.0, s.1, s.2) in
@@ -47,7 +47,7 @@ bounds-pool-place c =
 pub overflow_add-place-in-loop-i : goal.overflow_add-place-in-loop-i
 overflow_add-place-in-loop-i c =
     let next_stands : PlaceInside c.args.pool.now c.loop-i.place =
-        let a = c.args in
+    let a = c.args in
     let b = c.loop-i in
     let s = standing_next a.count b.i b.place a.pool.now c.loop-i-test.true b.invariant.standing in
     (s.0, s.1, s.2) in

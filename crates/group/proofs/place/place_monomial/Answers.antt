@@ -22,9 +22,9 @@ returns-in_default c =
 pub overflow_mul-row : goal.overflow_mul-row
 overflow_mul-row c =
     let there : Spot ((item_at c.args.index c.args.field (monomial_in c.args.pool.now c.args.at))).vars ((tallied c.args.n c.args.headers.now c.args.pool.now)) (There c.in-There.k) =
-        subst (Spot ((item_at c.args.index c.args.field (monomial_in c.args.pool.now c.args.at))).vars ((tallied c.args.n c.args.headers.now c.args.pool.now))) c.in-There.is c.find_near-found.ensures in
+    subst (Spot ((item_at c.args.index c.args.field (monomial_in c.args.pool.now c.args.at))).vars ((tallied c.args.n c.args.headers.now c.args.pool.now))) c.in-There.is c.find_near-found.ensures in
     let row_inside : (c.in-There.k < c.args.n) × (4 * c.args.n ≤ length c.args.headers.now) =
-        let a = c.args in
+    let a = c.args in
     let r = c.requires.0.placing.rows_are in
     (there_lt a.n c.in-There.k a.headers.now a.pool.now ((item_at c.args.index c.args.field (monomial_in c.args.pool.now c.args.at))).vars r (there), r.room) in
     let x = row_inside in search rules
@@ -32,9 +32,9 @@ overflow_mul-row c =
 pub overflow_add-cursor : goal.overflow_add-cursor
 overflow_add-cursor c =
     let there : Spot ((item_at c.args.index c.args.field (monomial_in c.args.pool.now c.args.at))).vars ((tallied c.args.n c.args.headers.now c.args.pool.now)) (There c.in-There.k) =
-        subst (Spot ((item_at c.args.index c.args.field (monomial_in c.args.pool.now c.args.at))).vars ((tallied c.args.n c.args.headers.now c.args.pool.now))) c.in-There.is c.find_near-found.ensures in
+    subst (Spot ((item_at c.args.index c.args.field (monomial_in c.args.pool.now c.args.at))).vars ((tallied c.args.n c.args.headers.now c.args.pool.now))) c.in-There.is c.find_near-found.ensures in
     let row_inside : (c.in-There.k < c.args.n) × (4 * c.args.n ≤ length c.args.headers.now) =
-        let a = c.args in
+    let a = c.args in
     let r = c.requires.0.placing.rows_are in
     (there_lt a.n c.in-There.k a.headers.now a.pool.now ((item_at c.args.index c.args.field (monomial_in c.args.pool.now c.args.at))).vars r (there), r.room) in
     let x = row_inside in search rules
@@ -42,9 +42,9 @@ overflow_add-cursor c =
 pub offset_bounds-headers-row : goal.offset_bounds-headers-row
 offset_bounds-headers-row c =
     let there : Spot ((item_at c.args.index c.args.field (monomial_in c.args.pool.now c.args.at))).vars ((tallied c.args.n c.args.headers.now c.args.pool.now)) (There c.in-There.k) =
-        subst (Spot ((item_at c.args.index c.args.field (monomial_in c.args.pool.now c.args.at))).vars ((tallied c.args.n c.args.headers.now c.args.pool.now))) c.in-There.is c.find_near-found.ensures in
+    subst (Spot ((item_at c.args.index c.args.field (monomial_in c.args.pool.now c.args.at))).vars ((tallied c.args.n c.args.headers.now c.args.pool.now))) c.in-There.is c.find_near-found.ensures in
     let row_inside : (c.in-There.k < c.args.n) × (4 * c.args.n ≤ length c.args.headers.now) =
-        let a = c.args in
+    let a = c.args in
     let r = c.requires.0.placing.rows_are in
     (there_lt a.n c.in-There.k a.headers.now a.pool.now ((item_at c.args.index c.args.field (monomial_in c.args.pool.now c.args.at))).vars r (there), r.room) in
     let x = row_inside in search rules
@@ -52,9 +52,9 @@ offset_bounds-headers-row c =
 pub bounds-headers-row : goal.bounds-headers-row
 bounds-headers-row c =
     let there : Spot ((item_at c.args.index c.args.field (monomial_in c.args.pool.now c.args.at))).vars ((tallied c.args.n c.args.headers.now c.args.pool.now)) (There c.in-There.k) =
-        subst (Spot ((item_at c.args.index c.args.field (monomial_in c.args.pool.now c.args.at))).vars ((tallied c.args.n c.args.headers.now c.args.pool.now))) c.in-There.is c.find_near-found.ensures in
+    subst (Spot ((item_at c.args.index c.args.field (monomial_in c.args.pool.now c.args.at))).vars ((tallied c.args.n c.args.headers.now c.args.pool.now))) c.in-There.is c.find_near-found.ensures in
     let row_inside : (c.in-There.k < c.args.n) × (4 * c.args.n ≤ length c.args.headers.now) =
-        let a = c.args in
+    let a = c.args in
     let r = c.requires.0.placing.rows_are in
     (there_lt a.n c.in-There.k a.headers.now a.pool.now ((item_at c.args.index c.args.field (monomial_in c.args.pool.now c.args.at))).vars r (there), r.room) in
     let x = row_inside in omega arith
@@ -62,18 +62,18 @@ bounds-headers-row c =
 pub put_term-requires : goal.put_term-requires
 put_term-requires c =
     let there : Spot ((item_at c.args.index c.args.field (monomial_in c.args.pool.now c.args.at))).vars ((tallied c.args.n c.args.headers.now c.args.pool.now)) (There c.in-There.k) =
-        subst (Spot ((item_at c.args.index c.args.field (monomial_in c.args.pool.now c.args.at))).vars ((tallied c.args.n c.args.headers.now c.args.pool.now))) c.in-There.is c.find_near-found.ensures in
+    subst (Spot ((item_at c.args.index c.args.field (monomial_in c.args.pool.now c.args.at))).vars ((tallied c.args.n c.args.headers.now c.args.pool.now))) c.in-There.is c.find_near-found.ensures in
     let term-inside : term_width c.args.interaction * ((get_or c.args.headers.now (4 * c.in-There.k + 1) 0)) + term_width c.args.interaction ≤ length c.args.terms.now =
-        term_fits c.requires.0.placing ((item_at c.args.index c.args.field (monomial_in c.args.pool.now c.args.at))) c.in-There.k c.requires.0.room (there) in
+    term_fits c.requires.0.placing ((item_at c.args.index c.args.field (monomial_in c.args.pool.now c.args.at))) c.in-There.k c.requires.0.room (there) in
     let a = c.args in
     subst (λ (i : ℕ). term_width a.interaction * i + term_width a.interaction ≤ length a.terms.now) (sym c.wide.ensures) (term-inside)
 
 pub overflow_add-headers : goal.overflow_add-headers
 overflow_add-headers c =
     let there : Spot ((item_at c.args.index c.args.field (monomial_in c.args.pool.now c.args.at))).vars ((tallied c.args.n c.args.headers.now c.args.pool.now)) (There c.in-There.k) =
-        subst (Spot ((item_at c.args.index c.args.field (monomial_in c.args.pool.now c.args.at))).vars ((tallied c.args.n c.args.headers.now c.args.pool.now))) c.in-There.is c.find_near-found.ensures in
+    subst (Spot ((item_at c.args.index c.args.field (monomial_in c.args.pool.now c.args.at))).vars ((tallied c.args.n c.args.headers.now c.args.pool.now))) c.in-There.is c.find_near-found.ensures in
     let cursor-inside : suc ((get_or c.args.headers.now (4 * c.in-There.k + 1) 0)) ≤ tallied_total c.requires.0.gs =
-        cursor_small c.requires.0.placing ((item_at c.args.index c.args.field (monomial_in c.args.pool.now c.args.at))) c.in-There.k c.requires.0.room (there) in
+    cursor_small c.requires.0.placing ((item_at c.args.index c.args.field (monomial_in c.args.pool.now c.args.at))) c.in-There.k c.requires.0.room (there) in
     let x = cursor-inside in
     let z = c.requires.0.placing.small in
     search rules
@@ -81,9 +81,9 @@ overflow_add-headers c =
 pub overflow_add-headers-2 : goal.overflow_add-headers-2
 overflow_add-headers-2 c =
     let there : Spot ((item_at c.args.index c.args.field (monomial_in c.args.pool.now c.args.at))).vars ((tallied c.args.n c.args.headers.now c.args.pool.now)) (There c.in-There.k) =
-        subst (Spot ((item_at c.args.index c.args.field (monomial_in c.args.pool.now c.args.at))).vars ((tallied c.args.n c.args.headers.now c.args.pool.now))) c.in-There.is c.find_near-found.ensures in
+    subst (Spot ((item_at c.args.index c.args.field (monomial_in c.args.pool.now c.args.at))).vars ((tallied c.args.n c.args.headers.now c.args.pool.now))) c.in-There.is c.find_near-found.ensures in
     let row_inside : (c.in-There.k < c.args.n) × (4 * c.args.n ≤ length c.args.headers.now) =
-        let a = c.args in
+    let a = c.args in
     let r = c.requires.0.placing.rows_are in
     (there_lt a.n c.in-There.k a.headers.now a.pool.now ((item_at c.args.index c.args.field (monomial_in c.args.pool.now c.args.at))).vars r (there), r.room) in
     let x = row_inside in search rules
@@ -91,9 +91,9 @@ overflow_add-headers-2 c =
 pub offset_bounds-headers-row-2 : goal.offset_bounds-headers-row-2
 offset_bounds-headers-row-2 c =
     let there : Spot ((item_at c.args.index c.args.field (monomial_in c.args.pool.now c.args.at))).vars ((tallied c.args.n c.args.headers.now c.args.pool.now)) (There c.in-There.k) =
-        subst (Spot ((item_at c.args.index c.args.field (monomial_in c.args.pool.now c.args.at))).vars ((tallied c.args.n c.args.headers.now c.args.pool.now))) c.in-There.is c.find_near-found.ensures in
+    subst (Spot ((item_at c.args.index c.args.field (monomial_in c.args.pool.now c.args.at))).vars ((tallied c.args.n c.args.headers.now c.args.pool.now))) c.in-There.is c.find_near-found.ensures in
     let row_inside : (c.in-There.k < c.args.n) × (4 * c.args.n ≤ length c.args.headers.now) =
-        let a = c.args in
+    let a = c.args in
     let r = c.requires.0.placing.rows_are in
     (there_lt a.n c.in-There.k a.headers.now a.pool.now ((item_at c.args.index c.args.field (monomial_in c.args.pool.now c.args.at))).vars r (there), r.room) in
     let x = row_inside in search rules
@@ -101,9 +101,9 @@ offset_bounds-headers-row-2 c =
 pub bounds-headers-row-2 : goal.bounds-headers-row-2
 bounds-headers-row-2 c =
     let there : Spot ((item_at c.args.index c.args.field (monomial_in c.args.pool.now c.args.at))).vars ((tallied c.args.n c.args.headers.now c.args.pool.now)) (There c.in-There.k) =
-        subst (Spot ((item_at c.args.index c.args.field (monomial_in c.args.pool.now c.args.at))).vars ((tallied c.args.n c.args.headers.now c.args.pool.now))) c.in-There.is c.find_near-found.ensures in
+    subst (Spot ((item_at c.args.index c.args.field (monomial_in c.args.pool.now c.args.at))).vars ((tallied c.args.n c.args.headers.now c.args.pool.now))) c.in-There.is c.find_near-found.ensures in
     let row_inside : (c.in-There.k < c.args.n) × (4 * c.args.n ≤ length c.args.headers.now) =
-        let a = c.args in
+    let a = c.args in
     let r = c.requires.0.placing.rows_are in
     (there_lt a.n c.in-There.k a.headers.now a.pool.now ((item_at c.args.index c.args.field (monomial_in c.args.pool.now c.args.at))).vars r (there), r.room) in
     let x = row_inside in omega arith
@@ -111,10 +111,10 @@ bounds-headers-row-2 c =
 pub returns : goal.returns
 returns c =
     let there : Spot ((item_at c.args.index c.args.field (monomial_in c.args.pool.now c.args.at))).vars ((tallied c.args.n c.args.headers.now c.args.pool.now)) (There c.in-There.k) =
-        subst (Spot ((item_at c.args.index c.args.field (monomial_in c.args.pool.now c.args.at))).vars ((tallied c.args.n c.args.headers.now c.args.pool.now))) c.in-There.is c.find_near-found.ensures in
+    subst (Spot ((item_at c.args.index c.args.field (monomial_in c.args.pool.now c.args.at))).vars ((tallied c.args.n c.args.headers.now c.args.pool.now))) c.in-There.is c.find_near-found.ensures in
     let terms_are : c.put_term.new.terms
     ≡ sets c.args.terms.now (term_width c.args.interaction * (get_or c.args.headers.now (4 * c.in-There.k + 1) 0)) (term_of c.args.interaction ((item_at c.args.index c.args.field (monomial_in c.args.pool.now c.args.at)))) =
-        c.put_term.ensures ((item_at c.args.index c.args.field (monomial_in c.args.pool.now c.args.at))) refl refl (read_coef c.args.pool.now c.args.at)
+    c.put_term.ensures ((item_at c.args.index c.args.field (monomial_in c.args.pool.now c.args.at))) refl refl (read_coef c.args.pool.now c.args.at)
     ∙ ap (λ (i : ℕ). sets c.args.terms.now (term_width c.args.interaction * i) (term_of c.args.interaction ((item_at c.args.index c.args.field (monomial_in c.args.pool.now c.args.at))))) c.wide.ensures in
     let H = c.args.headers.now in
     λ gs done x y. place_one x ((item_at c.args.index c.args.field (monomial_in c.args.pool.now c.args.at))) c.in-There.k y (there) (set H (4 * c.in-There.k + 1) ((get_or c.args.headers.now (4 * c.in-There.k + 1) 0) + 1)) c.put_term.new.terms (terms_are) refl

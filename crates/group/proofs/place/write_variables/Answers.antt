@@ -14,10 +14,10 @@ loop-i-init c = written_none ((tallied c.args.n c.args.headers.now c.args.pool.n
 pub write_row-at-requires : goal.write_row-at-requires
 write_row-at-requires c =
     let row-tallied : c.loop-i.i < length ((tallied c.args.n c.args.headers.now c.args.pool.now)) =
-        let e = tallied_length c.args.n c.args.headers.now c.args.pool.now in
+    let e = tallied_length c.args.n c.args.headers.now c.args.pool.now in
     omega (arith, c.loop-i-test.true) in
     let size_is : (row_size c.args.headers.now c.loop-i.i) ≡ length (get_or ((tallied c.args.n c.args.headers.now c.args.pool.now)) c.loop-i.i none).vars =
-        vars_long c.args.n c.loop-i.i c.args.headers.now c.args.pool.now c.requires.0 c.loop-i-test.true in
+    vars_long c.args.n c.loop-i.i c.args.headers.now c.args.pool.now c.requires.0 c.loop-i-test.true in
     let a = c.args in
     let b = c.loop-i in
     let r = c.requires.0.room in
@@ -28,13 +28,13 @@ write_row-at-requires c =
 pub loop-i-preserved : goal.loop-i-preserved
 loop-i-preserved c =
     let row-tallied : c.loop-i.i < length ((tallied c.args.n c.args.headers.now c.args.pool.now)) =
-        let e = tallied_length c.args.n c.args.headers.now c.args.pool.now in
+    let e = tallied_length c.args.n c.args.headers.now c.args.pool.now in
     omega (arith, c.loop-i-test.true) in
     let size_is : (row_size c.args.headers.now c.loop-i.i) ≡ length (get_or ((tallied c.args.n c.args.headers.now c.args.pool.now)) c.loop-i.i none).vars =
-        vars_long c.args.n c.loop-i.i c.args.headers.now c.args.pool.now c.requires.0 c.loop-i-test.true in
+    vars_long c.args.n c.loop-i.i c.args.headers.now c.args.pool.now c.requires.0 c.loop-i-test.true in
     let row_written : let b = c.loop-i in
     c.write_row-at.new.variables ≡ take b.at b.variables ++ ((get_or ((tallied c.args.n c.args.headers.now c.args.pool.now)) b.i none).vars ++ drop (b.at + (row_size c.args.headers.now c.loop-i.i)) b.variables) =
-        let a = c.args in
+    let a = c.args in
     let b = c.loop-i in
     c.write_row-at.ensures.1
     ∙ ap (λ (x : List ℕ). take b.at b.variables ++ (x ++ drop (b.at + (row_size c.args.headers.now c.loop-i.i)) b.variables))

@@ -16,7 +16,7 @@ returns-then-var-gt65535 c =
 pub returns-then-part_index-gt255 : goal.returns-then-part_index-gt255
 returns-then-part_index-gt255 c =
     let column_fits : ltb 65535 c.args.var.index ≡ false =
-        le-ltb _ _ c.if-var-gt65535.false in
+    le-ltb _ _ c.if-var-gt65535.false in
     entry_packs _ c.refused-then-part_index-gt255.result c.in-Main.is
     (ap packed_answer c.refused-then-part_index-gt255.ensures
     ∙ variable_faults _ _ _ _ (column_fits) refl (lt-ltb _ _ c.if-part_index-gt255.true) refl)
@@ -24,7 +24,7 @@ returns-then-part_index-gt255 c =
 pub returns-then-offset-gt15 : goal.returns-then-offset-gt15
 returns-then-offset-gt15 c =
     let column_fits : ltb 65535 c.args.var.index ≡ false =
-        le-ltb _ _ c.if-var-gt65535.false in
+    le-ltb _ _ c.if-var-gt65535.false in
     entry_packs _ c.refused-then-offset-gt15.result c.in-Main.is
     (ap packed_answer c.refused-then-offset-gt15.ensures
     ∙ variable_faults _ _ _ _ (column_fits) refl (le-ltb _ _ c.if-part_index-gt255.false) (lt-ltb _ _ c.if-offset-gt15.true))
@@ -32,7 +32,7 @@ returns-then-offset-gt15 c =
 pub returns-then-offset-gt15-2 : goal.returns-then-offset-gt15-2
 returns-then-offset-gt15-2 c =
     let column_fits : ltb 65535 c.args.var.index ≡ false =
-        le-ltb _ _ c.if-var-gt65535.false in
+    le-ltb _ _ c.if-var-gt65535.false in
     entry_packs _ c.refused-then-offset-gt15-2.result c.in-Preprocessed.is
     (ap packed_answer c.refused-then-offset-gt15-2.ensures
     ∙ variable_faults _ _ _ _ (column_fits) refl refl (lt-ltb _ _ c.if-offset-gt15-2.true))
@@ -40,7 +40,7 @@ returns-then-offset-gt15-2 c =
 pub returns-else-offset-gt15 : goal.returns-else-offset-gt15
 returns-else-offset-gt15 c =
     let column_fits : ltb 65535 c.args.var.index ≡ false =
-        le-ltb _ _ c.if-var-gt65535.false in
+    le-ltb _ _ c.if-var-gt65535.false in
     entry_packs _ (Var c.new.result) c.in-Main.is
     (ap good c.new.ensures
     ∙ variable_faults _ _ _ _ (column_fits) refl (le-ltb _ _ c.if-part_index-gt255.false) (le-ltb _ _ c.if-offset-gt15.false))
@@ -48,7 +48,7 @@ returns-else-offset-gt15 c =
 pub returns-else-offset-gt15-2 : goal.returns-else-offset-gt15-2
 returns-else-offset-gt15-2 c =
     let column_fits : ltb 65535 c.args.var.index ≡ false =
-        le-ltb _ _ c.if-var-gt65535.false in
+    le-ltb _ _ c.if-var-gt65535.false in
     entry_packs _ (Var c.new-in-Preprocessed.result) c.in-Preprocessed.is
     (ap good c.new-in-Preprocessed.ensures
     ∙ variable_faults _ _ _ _ (column_fits) refl refl (le-ltb _ _ c.if-offset-gt15-2.false))
@@ -56,13 +56,13 @@ returns-else-offset-gt15-2 c =
 pub returns-in-Public : goal.returns-in-Public
 returns-in-Public c =
     let column_fits : ltb 65535 c.args.var.index ≡ false =
-        le-ltb _ _ c.if-var-gt65535.false in
+    le-ltb _ _ c.if-var-gt65535.false in
     entry_packs _ (Var c.new-in-Public.result) c.in-Public.is
     (ap good c.new-in-Public.ensures ∙ variable_faults _ _ _ _ (column_fits) refl refl refl)
 
 pub returns-in-Challenge : goal.returns-in-Challenge
 returns-in-Challenge c =
     let column_fits : ltb 65535 c.args.var.index ≡ false =
-        le-ltb _ _ c.if-var-gt65535.false in
+    le-ltb _ _ c.if-var-gt65535.false in
     entry_packs _ c.refused-in-Challenge.result c.in-Challenge.is
     (ap packed_answer c.refused-in-Challenge.ensures ∙ variable_faults _ _ _ _ (column_fits) refl refl refl)

@@ -13,7 +13,7 @@ unfolding fits
 returns-then-how-eq0 c =
     let as-use : (k : ℕ) → c.args.how ≡ k
     → fits prime c.args.own c.args.a k c.args.w ≡ fits prime c.args.own c.args.a c.args.how c.args.w =
-        λ k e. fits_at prime c.args.own c.args.a c.args.w c.args.how k e in
+    λ k e. fits_at prime c.args.own c.args.a c.args.w c.args.how k e in
     as-use 0 c.if-how-eq0.true
 
 pub returns-then-how-eq1 : goal.returns-then-how-eq1
@@ -21,7 +21,7 @@ unfolding fits
 returns-then-how-eq1 c =
     let as-use : (k : ℕ) → c.args.how ≡ k
     → fits prime c.args.own c.args.a k c.args.w ≡ fits prime c.args.own c.args.a c.args.how c.args.w =
-        λ k e. fits_at prime c.args.own c.args.a c.args.w c.args.how k e in
+    λ k e. fits_at prime c.args.own c.args.a c.args.w c.args.how k e in
     as-use 1 c.if-how-eq1.true
 
 pub returns-then-a-eq1 : goal.returns-then-a-eq1
@@ -29,7 +29,7 @@ unfolding fits
 returns-then-a-eq1 c =
     let as-use : (k : ℕ) → c.args.how ≡ k
     → fits prime c.args.own c.args.a k c.args.w ≡ fits prime c.args.own c.args.a c.args.how c.args.w =
-        λ k e. fits_at prime c.args.own c.args.a c.args.w c.args.how k e in
+    λ k e. fits_at prime c.args.own c.args.a c.args.w c.args.how k e in
     or_first (eqb c.args.a 1) (eqb c.args.w 0) (eq-eqb _ _ c.if-a-eq1.true) ∙ as-use 2 c.if-how-eq2.true
 
 pub returns-else-a-eq1 : goal.returns-else-a-eq1
@@ -37,7 +37,7 @@ unfolding fits
 returns-else-a-eq1 c =
     let as-use : (k : ℕ) → c.args.how ≡ k
     → fits prime c.args.own c.args.a k c.args.w ≡ fits prime c.args.own c.args.a c.args.how c.args.w =
-        λ k e. fits_at prime c.args.own c.args.a c.args.w c.args.how k e in
+    λ k e. fits_at prime c.args.own c.args.a c.args.w c.args.how k e in
     or_second (eqb c.args.a 1) (eqb c.args.w 0) (ne_eqb _ _ c.if-a-eq1.false) ∙ as-use 2 c.if-how-eq2.true
 
 pub returns-then-a-le1 : goal.returns-then-a-le1
@@ -45,7 +45,7 @@ unfolding fits
 returns-then-a-le1 c =
     let as-use : (k : ℕ) → c.args.how ≡ k
     → fits prime c.args.own c.args.a k c.args.w ≡ fits prime c.args.own c.args.a c.args.how c.args.w =
-        λ k e. fits_at prime c.args.own c.args.a c.args.w c.args.how k e in
+    λ k e. fits_at prime c.args.own c.args.a c.args.w c.args.how k e in
     or_first (leb c.args.a 1) (eqb c.args.w 0) (le-leb _ _ c.if-a-le1.true) ∙ as-use 3 c.if-how-eq3.true
 
 pub returns-else-a-le1 : goal.returns-else-a-le1
@@ -53,7 +53,7 @@ unfolding fits
 returns-else-a-le1 c =
     let as-use : (k : ℕ) → c.args.how ≡ k
     → fits prime c.args.own c.args.a k c.args.w ≡ fits prime c.args.own c.args.a c.args.how c.args.w =
-        λ k e. fits_at prime c.args.own c.args.a c.args.w c.args.how k e in
+    λ k e. fits_at prime c.args.own c.args.a c.args.w c.args.how k e in
     or_second (leb c.args.a 1) (eqb c.args.w 0) (lt-leb _ _ c.if-a-le1.false) ∙ as-use 3 c.if-how-eq3.true
 
 pub returns-then-how-eq5 : goal.returns-then-how-eq5
@@ -61,7 +61,7 @@ unfolding fits
 returns-then-how-eq5 c =
     let as-use : (k : ℕ) → c.args.how ≡ k
     → fits prime c.args.own c.args.a k c.args.w ≡ fits prime c.args.own c.args.a c.args.how c.args.w =
-        λ k e. fits_at prime c.args.own c.args.a c.args.w c.args.how k e in
+    λ k e. fits_at prime c.args.own c.args.a c.args.w c.args.how k e in
     as-use 5 c.if-how-eq5.true
 
 pub returns-then-how-eq6 : goal.returns-then-how-eq6
@@ -69,7 +69,7 @@ unfolding fits
 returns-then-how-eq6 c =
     let as-use : (k : ℕ) → c.args.how ≡ k
     → fits prime c.args.own c.args.a k c.args.w ≡ fits prime c.args.own c.args.a c.args.how c.args.w =
-        λ k e. fits_at prime c.args.own c.args.a c.args.w c.args.how k e in
+    λ k e. fits_at prime c.args.own c.args.a c.args.w c.args.how k e in
     ap (λ (x : ℕ). ltb x c.args.own) c.wide.ensures ∙ as-use 6 c.if-how-eq6.true
 
 pub returns : goal.returns
