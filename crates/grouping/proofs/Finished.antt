@@ -80,7 +80,8 @@ placing_start b n H H' P T r e d l v s =
     let m = r.room in
     let t : tallied n H' P ≡ tallied n H P = ap (map (tally_row P)) e ∙ start_tallies P 0 (rows 4 n H) in
     let z = placed_none (term_of b) (term_width b) (tallied n H P) in
-    let q : length (placed (term_of b) (term_width b) (tallied n H P) []) ≡ term_width b * tallied_total (tallied n H P) = ap length z ∙ zeros_long (term_width b * tallied_total (tallied n H P)) in
+    let q : length (placed (term_of b) (term_width b) (tallied n H P) []) ≡ term_width b * tallied_total (tallied n H P) =
+    ap length z ∙ zeros_long (term_width b * tallied_total (tallied n H P)) in
     record {
       rows_are = record {
         room = omega arith;

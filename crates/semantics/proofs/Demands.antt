@@ -278,7 +278,8 @@ module _ (p : ℕ) (big : 1 < p) where
 
   -- The expansions of the graph's words, against the source.
   module _ (s : Sheet) (w : Inside p s) (g : List ℕ) (e : check p g ≡ good (graph_of p s)) where
-    graph_constraints_lem : (work pool h v t : ℕ) → Accepted (constraint_call p g (work ∷ pool ∷ h ∷ v ∷ t ∷ [])) → GraphConstraintRule p s (constraint_call p g (work ∷ pool ∷ h ∷ v ∷ t ∷ []))
+    graph_constraints_lem : (work pool h v t : ℕ) → Accepted (constraint_call p g (work ∷ pool ∷ h ∷ v ∷ t ∷ []))
+        → GraphConstraintRule p s (constraint_call p g (work ∷ pool ∷ h ∷ v ∷ t ∷ []))
     graph_constraints_lem work pool h v t a =
         let r = constraint_rule g work pool h v t a in
         let rule = subst (λ (u : Sheet). ConstraintRule p u (constraint_call p g (work ∷ pool ∷ h ∷ v ∷ t ∷ []))) (good_injective (sym r.1 ∙ e)) r.2 in

@@ -6,7 +6,8 @@ use lib.ListN.{length, replicate}
 use Rattle.slices.specs.Rows.{rows}
 use Rattle.semantics.specs.Answer.{and_then}
 use Rattle.semantics.specs.Arithmetic.{prime, add_m, sub_m, mul_m, neg_m, signed_of}
-use Rattle.semantics.specs.Sheet.{Record, Sheet, record_of, record_words, interaction_words, head_words, encode, length_of, place, table, row, fits, record_tests, refers, interaction_tests, head_tests}
+use Rattle.semantics.specs.Sheet.{Record, Sheet, record_of, record_words, interaction_words, head_words, encode, length_of, place}
+use Rattle.semantics.specs.Sheet.{table, row, fits, record_tests, refers, interaction_tests, head_tests}
 use Rattle.semantics.specs.Check.{scan_words, scan_part, scan_parts, scan_spare, scan_sheet, read_record, read_records, read_interaction, read_interactions, read_sheet, judged, check}
 use Rattle.semantics.specs.Block.{word_bytes, word_at, words_of, weighted, check_word, block_good, bad_length, read_blocks, block_bytes, first_words, write_blocks, blocks_for}
 use Rattle.semantics.specs.Packing.{packed, pack_fault, leaf_tests, pack_record, pack}
@@ -164,7 +165,7 @@ text =
     ++ ((119 ∷ 32 ∷ 48 ∷ 32 ∷ 49 ∷ 32 ∷ 45 ∷ 49 ∷ 10 ∷ [])
     ++ ((100 ∷ 32 ∷ 48 ∷ 48 ∷ 48 ∷ 48 ∷ 49 ∷ 48 ∷ 48 ∷ 49 ∷ 10 ∷ [])
     ++ ((119 ∷ 32 ∷ 48 ∷ 32 ∷ 49 ∷ 32 ∷ 49 ∷ 10 ∷ [])
-    ++ ((101 ∷ 110 ∷ 100 ∷ 10 ∷ [])))))))))))))))
+    ++ (101 ∷ 110 ∷ 100 ∷ 10 ∷ []))))))))))))))
 
 -- "It prints, one item a line"
 listing_is : listing ≡ text
@@ -218,7 +219,8 @@ further :
     × (builder_call prime (encode (one_field 0 1 (v ∷ w ∷ []))) (2 ∷ 19 ∷ []) ≡ graph 2 (encode (one_field 1 0 (w ∷ v ∷ []))) 0)
     -- the largest offset is of any variable, and the largest message of any interaction
     × (max_rotation_call prime (words (record_of 1 1 0 3 0 ∷ record_of 1 0 0 5 0 ∷ record_of 6 0 1 7 0 ∷ []) []) ≡ answers (5 ∷ []))
-    × ((interaction_call prime (encode (two_messages 0 (v ∷ []))) (4096 ∷ 60 ∷ 8 ∷ 8 ∷ 8 ∷ 8 ∷ 8 ∷ 9 ∷ [])).reply ≡ accepted_with (4 ∷ 1 ∷ 6 ∷ 4 ∷ 1 ∷ 9 ∷ []) (2 ∷ 3 ∷ []))
+    × ((interaction_call prime (encode (two_messages 0 (v ∷ []))) (4096 ∷ 60 ∷ 8 ∷ 8 ∷ 8 ∷ 8 ∷ 8 ∷ 9 ∷ [])).reply
+    ≡ accepted_with (4 ∷ 1 ∷ 6 ∷ 4 ∷ 1 ∷ 9 ∷ []) (2 ∷ 3 ∷ []))
     -- E, C, I, L and where the interactions start; C; the L words without the spare one, and how many are needed
     × (check_call prime (encode small ++ (0 ∷ [])) ≡ answers (3 ∷ 2 ∷ 1 ∷ 26 ∷ 21 ∷ []))
     × (num_constraints_call prime (encode small) ≡ answers (2 ∷ []))

@@ -152,5 +152,6 @@ module _ (p : ℕ) where
         → (work pool h v t : ℕ) → Accepted (constraint_call p (handed_back 1 (builder_call p ws (scratch ∷ out ∷ [])) 0) (work ∷ pool ∷ h ∷ v ∷ t ∷ []))
         → GraphConstraintRule s (constraint_call p (handed_back 1 (builder_call p ws (scratch ∷ out ∷ [])) 0) (work ∷ pool ∷ h ∷ v ∷ t ∷ []))
     pub graph_interactions : (ws : List ℕ) (scratch out : ℕ) (s : Sheet) → Accepted (builder_call p ws (scratch ∷ out ∷ [])) → check p ws ≡ good s
-        → (work pool h v t h' v' t' : ℕ) → Accepted (interaction_call p (handed_back 1 (builder_call p ws (scratch ∷ out ∷ [])) 0) (work ∷ pool ∷ h ∷ v ∷ t ∷ h' ∷ v' ∷ t' ∷ []))
+        → (work pool h v t h' v' t' : ℕ)
+        → Accepted (interaction_call p (handed_back 1 (builder_call p ws (scratch ∷ out ∷ [])) 0) (work ∷ pool ∷ h ∷ v ∷ t ∷ h' ∷ v' ∷ t' ∷ []))
         → GraphInteractionRule s (interaction_call p (handed_back 1 (builder_call p ws (scratch ∷ out ∷ [])) 0) (work ∷ pool ∷ h ∷ v ∷ t ∷ h' ∷ v' ∷ t' ∷ []))

@@ -2,7 +2,6 @@
 #![tactic(auto)]
 
 ghost use Rattle.std.specs.Prelude.{[], ◌∷◌};
-ghost use Rattle.slices.specs.Lent.{old};
 ghost use Rattle.semantics.specs.Sheet.{record_of};
 ghost use Rattle.semantics.specs.Check.{prime_of};
 ghost use Rattle.semantics.specs.Call.{Handed, block_check_call, pack_call, unpack_call, check_call, max_rotation_call, num_constraints_call, conversion_call, Returns};

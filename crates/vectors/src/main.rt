@@ -2,7 +2,6 @@
 #![tactic(auto)]
 
 ghost use Rattle.std.specs.Prelude.{◌≡◌, ◌≤◌, length, IfOk, IfSome, slice_index};
-ghost use Rattle.slices.specs.Lent.{new};
 
 use answers::{Refusal, Written};
 use constraint_lists::ConstraintLists;

@@ -16,13 +16,13 @@ pub returns-then-out-needed : goal.returns-then-out-needed
 returns-then-out-needed c =
     let length_good : false ≡ bad_length (length c.args.bytes.now) =
     sym c.if-bad_length.false ∙ c.bad_length.ensures in
-    output_short c.args.bytes.now c.args.out.now refl (length_good) c.if-out-needed.true
+    output_short c.args.bytes.now c.args.out.now refl length_good c.if-out-needed.true
 
 pub read_each-requires : goal.read_each-requires
 read_each-requires c =
     let length_good : false ≡ bad_length (length c.args.bytes.now) =
     sym c.if-bad_length.false ∙ c.bad_length.ensures in
-    let fit = blocks_fit (length c.args.bytes.now) (length_good) in
+    let fit = blocks_fit (length c.args.bytes.now) length_good in
     (fit.0, fit.1, search rules)
 
 pub returns : goal.returns
@@ -30,4 +30,4 @@ returns c =
     let length_good : false ≡ bad_length (length c.args.bytes.now) =
     sym c.if-bad_length.false ∙ c.bad_length.ensures in
     let read = c.read_each in
-    blocks_read c.args.bytes.now read.new.out read.auto.out (length_good) read.result (search rules) read.ensures
+    blocks_read c.args.bytes.now read.new.out read.auto.out length_good read.result (search rules) read.ensures

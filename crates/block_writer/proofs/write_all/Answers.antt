@@ -23,13 +23,13 @@ pub overflow_add-blocks : goal.overflow_add-blocks
 overflow_add-blocks c =
     let sheet : (t : Sheet) × (check prime c.args.s.now ≡ good t) × (c.in-Sheet.head ≡ head_of t) =
     found prime c.args.s.now c.check_sheet-checked.ensures c.in-Sheet.is in
-    omega (arith, words_few prime c.args.s.now (sheet).1 (sheet).2)
+    omega (arith, words_few prime c.args.s.now sheet.1 sheet.2)
 
 pub overflow_mul-needed : goal.overflow_mul-needed
 overflow_mul-needed c =
     let sheet : (t : Sheet) × (check prime c.args.s.now ≡ good t) × (c.in-Sheet.head ≡ head_of t) =
     found prime c.args.s.now c.check_sheet-checked.ensures c.in-Sheet.is in
-    omega (arith, words_few prime c.args.s.now (sheet).1 (sheet).2)
+    omega (arith, words_few prime c.args.s.now sheet.1 sheet.2)
 
 pub returns-then-out-needed : goal.returns-then-out-needed
 unfolding writer_call
@@ -43,13 +43,13 @@ pub slice_bounds-write_each-end : goal.slice_bounds-write_each-end
 slice_bounds-write_each-end c =
     let sheet : (t : Sheet) × (check prime c.args.s.now ≡ good t) × (c.in-Sheet.head ≡ head_of t) =
     found prime c.args.s.now c.check_sheet-checked.ensures c.in-Sheet.is in
-    words_inside prime c.args.s.now (sheet).1 (sheet).2
+    words_inside prime c.args.s.now sheet.1 sheet.2
 
 pub write_each-requires : goal.write_each-requires
 write_each-requires c =
     let sheet : (t : Sheet) × (check prime c.args.s.now ≡ good t) × (c.in-Sheet.head ≡ head_of t) =
     found prime c.args.s.now c.check_sheet-checked.ensures c.in-Sheet.is in
-    (omega (arith, words_few prime c.args.s.now (sheet).1 (sheet).2), search rules)
+    (omega (arith, words_few prime c.args.s.now sheet.1 sheet.2), search rules)
 
 pub returns : goal.returns
 unfolding writer_call

@@ -20,8 +20,11 @@ use Rattle.constraint_lists.proofs.Steps.{Kept, unchanged, short_few, work_short
 use Rattle.constraint_lists.proofs.expand_checked.Goals as goal
 
 pub returns-then-work-lt4096 : goal.returns-then-work-lt4096
-returns-then-work-lt4096 c =
-    (work_short ((length c.args.work.now)) ((length c.args.pool.now)) ((length c.args.headers.now ∷ length c.args.variables.now ∷ length c.args.terms.now ∷ [])) constraint_roots (constraint_outputs prime) (λ x. []) (read_sheet c.args.s.now) c.if-work-lt4096.true, tt)
+returns-then-work-lt4096 c = (
+  work_short (length c.args.work.now) (length c.args.pool.now) (length c.args.headers.now ∷ length c.args.variables.now ∷ length c.args.terms.now ∷ []) constraint_roots
+      (constraint_outputs prime) (λ x. []) (read_sheet c.args.s.now) c.if-work-lt4096.true,
+  tt,
+)
 
 pub overflow_mul-records : goal.overflow_mul-records
 overflow_mul-records c =
@@ -37,7 +40,8 @@ overflow_mul-result c =
 
 pub returns-then-pool-records : goal.returns-then-pool-records
 returns-then-pool-records c = (
-  pool_short ((length c.args.work.now)) ((length c.args.pool.now)) ((length c.args.headers.now ∷ length c.args.variables.now ∷ length c.args.terms.now ∷ [])) constraint_roots (constraint_outputs prime) (λ x. []) (read_sheet c.args.s.now)
+  pool_short (length c.args.work.now) (length c.args.pool.now) (length c.args.headers.now ∷ length c.args.variables.now ∷ length c.args.terms.now ∷ []) constraint_roots
+      (constraint_outputs prime) (λ x. []) (read_sheet c.args.s.now)
       c.if-work-lt4096.false (2 * c.args.records) (ap (λ (n : ℕ). 2 * n) c.requires.1.records_are) c.if-pool-records.true,
   tt,
 )
@@ -49,8 +53,8 @@ returns-in_default c =
     let pool-long : 2 * length (read_sheet c.args.s.now).records ≤ (length c.args.pool.now) =
     omega (arith, c.requires.1.records_are, c.if-pool-records.false) in
     let a = c.args in (
-      constraints_refused c.args.s.now ((length c.args.work.now)) ((length c.args.pool.now)) (unchanged a.headers.now a.variables.now a.terms.now)
-          (work_long) (pool-long)
+      constraints_refused c.args.s.now (length c.args.work.now) (length c.args.pool.now) (unchanged a.headers.now a.variables.now a.terms.now)
+          work_long pool-long
           c.walk_constraints-walked.result c.refusal_of.result c.in_default.field-0 c.walk_constraints-walked.new.pool c.walk_constraints-walked.auto.pool
           c.walk_constraints-walked.ensures c.in_default.is c.refusal_of.ensures,
       tt,
@@ -61,7 +65,7 @@ group_constraints-requires c =
     let expanded : Expands c.args.s.now c.walk_constraints-walked.new.pool (Used c.in-Used._used) (order (records_of c.args.s.now) (read_sheet c.args.s.now).constraints) =
     subst (λ (u : Expanded). Expands c.args.s.now c.walk_constraints-walked.new.pool u (order (records_of c.args.s.now) (read_sheet c.args.s.now).constraints))
     c.in-Used.is c.walk_constraints-walked.ensures in
-    constraints_grouping c.args.s.now c.requires.1.checked c.walk_constraints-walked.new.pool c.in-Used._used (expanded)
+    constraints_grouping c.args.s.now c.requires.1.checked c.walk_constraints-walked.new.pool c.in-Used._used expanded
 
 pub constraints_in-requires : goal.constraints_in-requires
 constraints_in-requires c =
@@ -85,6 +89,6 @@ returns c =
       variables_long = c.group_constraints.auto.variables;
       terms_long_lem = c.group_constraints.auto.terms;
     } in
-    constraints_grouped c.args.s.now ((length c.args.work.now)) ((length c.args.pool.now)) (kept) (work_long) (pool-long)
-    c.in-Used._used c.walk_constraints-walked.new.pool c.walk_constraints-walked.auto.pool (expanded)
+    constraints_grouped c.args.s.now (length c.args.work.now) (length c.args.pool.now) kept work_long pool-long
+    c.in-Used._used c.walk_constraints-walked.new.pool c.walk_constraints-walked.auto.pool expanded
     c.group_constraints.result c.group_constraints.ensures c.constraints_in.result c.constraints_in.ensures

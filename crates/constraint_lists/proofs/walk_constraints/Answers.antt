@@ -15,27 +15,27 @@ pub expand_references-requires : goal.expand_references-requires
 expand_references-requires c =
     let sheet-is : CheckedSheet c.args.s.now c.args.records c.args.constraints c.requires.0.0 =
     c.requires.0.1 in
-    let heads-long : length ((take (2 * c.args.records) c.args.pool.now)) ≡ 2 * c.args.records =
+    let heads-long : length (take (2 * c.args.records) c.args.pool.now) ≡ 2 * c.args.records =
     omega (arith, length-take (2 * c.args.records) c.args.pool.now, c.requires.2) in
     let zero = c.zero_all in
     let a = c.args in (
-      walk_starts c.args.s.now a.records (sheet-is).records_are zero.new.s ((drop (2 * c.args.records) c.args.pool.now)) (length ((take (2 * c.args.records) c.args.pool.now)))
-          zero.ensures (heads-long)
-          (sheet-is).checked a.work.now c.requires.1,
-      references_there c.args.s.now a.records a.constraints c.requires.0.0 (sheet-is) c.constraints_at-at.result c.constraints_at-at.ensures,
+      walk_starts c.args.s.now a.records sheet-is.records_are zero.new.s (drop (2 * c.args.records) c.args.pool.now) (length (take (2 * c.args.records) c.args.pool.now))
+          zero.ensures heads-long
+          sheet-is.checked a.work.now c.requires.1,
+      references_there c.args.s.now a.records a.constraints c.requires.0.0 sheet-is c.constraints_at-at.result c.constraints_at-at.ensures,
     )
 
 pub returns : goal.returns
 returns c =
     let sheet-is : CheckedSheet c.args.s.now c.args.records c.args.constraints c.requires.0.0 =
     c.requires.0.1 in
-    let heads-long : length ((take (2 * c.args.records) c.args.pool.now)) ≡ 2 * c.args.records =
+    let heads-long : length (take (2 * c.args.records) c.args.pool.now) ≡ 2 * c.args.records =
     omega (arith, length-take (2 * c.args.records) c.args.pool.now, c.requires.2) in
     let expand = c.expand_references in
     let pool = expand.new.pool in
     let zero = c.zero_all in
     let a = c.args in
     subst (λ (references : List ℕ). Expands c.args.s.now pool expand.result (order (records_of c.args.s.now) references))
-    (references_are c.args.s.now a.records a.constraints c.requires.0.0 (sheet-is) c.constraints_at-at.result c.constraints_at-at.ensures)
-    (walk_ends c.args.s.now a.records (sheet-is).records_are zero.new.s ((drop (2 * c.args.records) c.args.pool.now)) (length ((take (2 * c.args.records) c.args.pool.now))) zero.ensures (heads-long)
+    (references_are c.args.s.now a.records a.constraints c.requires.0.0 sheet-is c.constraints_at-at.result c.constraints_at-at.ensures)
+    (walk_ends c.args.s.now a.records sheet-is.records_are zero.new.s (drop (2 * c.args.records) c.args.pool.now) (length (take (2 * c.args.records) c.args.pool.now)) zero.ensures heads-long
     _ pool expand.result expand.ensures)

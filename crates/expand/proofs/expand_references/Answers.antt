@@ -11,7 +11,7 @@ expand_node-answer-requires c =
     let left : c.loop-j.j < c.args.count =
     omega arith in
     let p = c.requires in
-    ready_name p.0 p.1 c.loop-j.invariant (left) c.wide-r.ensures
+    ready_name p.0 p.1 c.loop-j.invariant left c.wide-r.ensures
 
 pub returns-in_default : goal.returns-in_default
 returns-in_default c =
@@ -19,7 +19,7 @@ returns-in_default c =
     omega arith in
     let v = c.expand_node-answer in
     let p = c.requires in
-    naming_refused p.0 p.1 c.loop-j.invariant (left) c.wide-r.ensures v.new.work v.new.pool v.result v.ensures c.in_default.is
+    naming_refused p.0 p.1 c.loop-j.invariant left c.wide-r.ensures v.new.work v.new.pool v.result v.ensures c.in_default.is
 
 pub loop-j-preserved : goal.loop-j-preserved
 loop-j-preserved c =
@@ -27,5 +27,5 @@ loop-j-preserved c =
     omega arith in
     let v = c.expand_node-answer in
     let p = c.requires in
-    naming_more p.0 p.1 c.loop-j.invariant (left) c.wide-r.ensures v.new.work v.new.pool v.result v.ensures
+    naming_more p.0 p.1 c.loop-j.invariant left c.wide-r.ensures v.new.work v.new.pool v.result v.ensures
     v.auto.work v.auto.pool c.in-Used.is

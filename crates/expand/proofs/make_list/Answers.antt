@@ -35,7 +35,7 @@ expand_neg-requires c =
       child_is = c.wide.ensures;
       reads = c.list_of-left.ensures;
     } in
-    let f = left_fits (left) in
+    let f = left_fits left in
     (c.requires.1.ready.walking.room, f)
 
 pub returns-then-q-eq8 : goal.returns-then-q-eq8
@@ -50,7 +50,7 @@ returns-then-q-eq8 c =
       reads = c.list_of-left.ensures;
     } in
     let v = c.expand_neg in
-    finishes_neg (left) c.if-q-eq8.true v.new.work v.result v.ensures
+    finishes_neg left c.if-q-eq8.true v.new.work v.result v.ensures
 
 pub list_of-right-requires : goal.list_of-right-requires
 list_of-right-requires c =
@@ -63,7 +63,7 @@ list_of-right-requires c =
       child_is = c.wide.ensures;
       reads = c.list_of-left.ensures;
     } in
-    right_head c.requires.1 c.record_at-q.result c.record_at-q.ensures (left).parent c.if-q-eq8.false c.wide-2.ensures
+    right_head c.requires.1 c.record_at-q.result c.record_at-q.ensures left.parent c.if-q-eq8.false c.wide-2.ensures
 
 pub expand_product-requires : goal.expand_product-requires
 expand_product-requires c =
@@ -84,7 +84,7 @@ expand_product-requires c =
       child_is = c.wide-2.ensures;
       reads = c.list_of-right.ensures;
     } in
-    let f = both_fit (both) in
+    let f = both_fit both in
     (c.requires.1.ready.walking.room, f.0, f.1)
 
 pub returns-then-q-eq9 : goal.returns-then-q-eq9
@@ -107,7 +107,7 @@ returns-then-q-eq9 c =
       reads = c.list_of-right.ensures;
     } in
     let v = c.expand_product in
-    finishes_mul (both) c.if-q-eq9.true v.new.work v.result v.ensures
+    finishes_mul both c.if-q-eq9.true v.new.work v.result v.ensures
 
 pub expand_sum-requires : goal.expand_sum-requires
 expand_sum-requires c =
@@ -128,7 +128,7 @@ expand_sum-requires c =
       child_is = c.wide-2.ensures;
       reads = c.list_of-right.ensures;
     } in
-    let f = both_fit (both) in
+    let f = both_fit both in
     (c.requires.1.ready.walking.room, f.0, f.1)
 
 pub returns : goal.returns
@@ -151,4 +151,4 @@ returns c =
       reads = c.list_of-right.ensures;
     } in
     let v = c.expand_sum in
-    finishes_sum (both) c.if-q-eq9.false (eqb c.record_at-q.result.kind 7) refl v.new.work v.result v.ensures
+    finishes_sum both c.if-q-eq9.false (eqb c.record_at-q.result.kind 7) refl v.new.work v.result v.ensures

@@ -16,7 +16,7 @@ returns c =
     let clear = c.clear_behind in
     let expand = c.expand_sheet-lists in
     let a = c.args in
-    constraint_done a.s.now (length a.work.now) (length a.pool.now) expand.result (long)
+    constraint_done a.s.now (length a.work.now) (length a.pool.now) expand.result long
     expand.ensures.0 expand.ensures.1
     c.lengths_of-kept.result c.lengths_of-kept.ensures c.zero_all.new.s c.zero_all-2.new.s
     (zeroed_again c.zero_all.ensures expand.auto.work) (zeroed_again c.zero_all-2.ensures expand.auto.pool)

@@ -30,7 +30,7 @@ returns c =
     let clear = c.clear_behind in
     let clear-denominators = c.clear_behind-2 in
     interaction_done a.s.now (length a.work.now) (length a.pool.now) expand.result
-    (numerators) (denominators)
+    numerators denominators
     expand.ensures.0 expand.ensures.1 kept.result kept.ensures zero-work.new.s zero-pool.new.s
     (zeroed_again zero-work.ensures expand.auto.work) (zeroed_again zero-pool.ensures expand.auto.pool)
     clear.new.headers clear.new.variables clear.new.terms clear.ensures

@@ -11,10 +11,10 @@ use Rattle.expansion.proofs.expand_sheet_interactions.Goals as goal
 
 pub returns-in_default : goal.returns-in_default
 returns-in_default c = (
-  sheet_refused c.args.s.now ((let a = c.args in
+  sheet_refused c.args.s.now (let a = c.args in
       interactions_of prime (map (λ (l : List ℕ). length l)
       (a.work.now ∷ a.pool.now ∷ a.headers.now ∷ a.variables.now ∷ a.terms.now
-      ∷ a.denom_headers.now ∷ a.denom_variables.now ∷ a.denom_terms.now ∷ [])))) c.check_sheet-checked.ensures c.in_default.is c.refusal_of.ensures,
+      ∷ a.denom_headers.now ∷ a.denom_variables.now ∷ a.denom_terms.now ∷ []))) c.check_sheet-checked.ensures c.in_default.is c.refusal_of.ensures,
   tt,
 )
 
@@ -29,9 +29,9 @@ returns c =
     let sheet : let h = c.in-Sheet.head in CheckedSheet c.args.s.now h.records h.constraints h.interactions =
     sheet_found c.args.s.now c.check_sheet-checked.ensures c.in-Sheet.is in
     let x = c.expand_checked.ensures in (
-      x.0 ∙ sheet_goes_on c.args.s.now ((let a = c.args in
+      x.0 ∙ sheet_goes_on c.args.s.now (let a = c.args in
           interactions_of prime (map (λ (l : List ℕ). length l)
           (a.work.now ∷ a.pool.now ∷ a.headers.now ∷ a.variables.now ∷ a.terms.now
-          ∷ a.denom_headers.now ∷ a.denom_variables.now ∷ a.denom_terms.now ∷ [])))) (sheet).checked,
+          ∷ a.denom_headers.now ∷ a.denom_variables.now ∷ a.denom_terms.now ∷ []))) sheet.checked,
       x.1,
     )

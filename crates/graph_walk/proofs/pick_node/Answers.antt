@@ -37,7 +37,7 @@ built_child-l-requires c =
     let s = c.requires in picking s.1.ready.done s.1.ready.order s.1.there s.0 s.1.ready.holds in
     let parent : 6 ≤ c.record_at-q.result.kind =
     omega (arith, c.if-q-lt6.false) in
-    left_there (asked) (parent) _ c.wide.ensures c.requires.1.ready.room
+    left_there asked parent _ c.wide.ensures c.requires.1.ready.room
 
 pub returns-then-q-eq8 : goal.returns-then-q-eq8
 returns-then-q-eq8 c =
@@ -50,7 +50,7 @@ returns-then-q-eq8 c =
     let a = c.args in
     subst (λ (k : ℕ). Reads a.scratch.now a.out.now k c.built_child-l.result) c.wide.ensures c.built_child-l.ensures in
     λ done o there n h.
-    c.neg_rule.ensures ∙ picks_neg (picking done o there n h) c.if-q-eq8.true _ (reads-left)
+    c.neg_rule.ensures ∙ picks_neg (picking done o there n h) c.if-q-eq8.true _ reads-left
 
 pub built_child-requires : goal.built_child-requires
 built_child-requires c =
@@ -65,7 +65,7 @@ built_child-requires c =
     let s = c.requires in picking s.1.ready.done s.1.ready.order s.1.there s.0 s.1.ready.holds in
     let parent : 6 ≤ c.record_at-q.result.kind =
     omega (arith, c.if-q-lt6.false) in
-    right_there (asked) (parent) c.if-q-eq8.false _ c.wide-2.ensures c.requires.1.ready.room
+    right_there asked parent c.if-q-eq8.false _ c.wide-2.ensures c.requires.1.ready.room
 
 pub returns : goal.returns
 returns c =
@@ -84,4 +84,4 @@ returns c =
     subst (λ (k : ℕ). Reads a.scratch.now a.out.now k c.built_child.result) c.wide-2.ensures c.built_child.ensures in
     λ done o there n h.
     c.two_rule.ensures
-    ∙ picks_two (picking done o there n h) (parent) c.if-q-eq8.false _ _ (reads-left) (reads-right)
+    ∙ picks_two (picking done o there n h) parent c.if-q-eq8.false _ _ reads-left reads-right

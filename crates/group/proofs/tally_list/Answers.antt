@@ -7,10 +7,10 @@ use Rattle.group.proofs.tally_list.Goals as goal
 
 pub returns-in_default : goal.returns-in_default
 returns-in_default c =
-    let counted : (r : Tallied) → c.insert_pending-next.result ≡ r → CountedMore c.insert_pending-next.new.headers c.args.pool.now ((let u = c.tally_run-run in
-    batched c.loop-i.rows u.result.pending u.new.headers c.args.pool.now u.new.places)) r =
-    λ r e. subst (CountedMore c.insert_pending-next.new.headers c.args.pool.now ((let u = c.tally_run-run in
-    batched c.loop-i.rows u.result.pending u.new.headers c.args.pool.now u.new.places))) e c.insert_pending-next.ensures in
+    let counted : (r : Tallied) → c.insert_pending-next.result ≡ r → CountedMore c.insert_pending-next.new.headers c.args.pool.now (let u = c.tally_run-run in
+    batched c.loop-i.rows u.result.pending u.new.headers c.args.pool.now u.new.places) r =
+    λ r e. subst (CountedMore c.insert_pending-next.new.headers c.args.pool.now (let u = c.tally_run-run in
+    batched c.loop-i.rows u.result.pending u.new.headers c.args.pool.now u.new.places)) e c.insert_pending-next.ensures in
     tallying_full c.loop-i.invariant c.tally_run-run.ensures c.insert_pending-next.new.headers (counted _ c.in_default.is)
 
 pub returns : goal.returns

@@ -19,7 +19,7 @@ returns c =
     let write = c.write_variables in
     let a = c.args in
     let p = c.requires in (
-      padded_starts (tallied_headers 0 0 ((tallied c.args.n c.args.headers.now c.args.pool.now))) fill.new.headers
+      padded_starts (tallied_headers 0 0 (tallied c.args.n c.args.headers.now c.args.pool.now)) fill.new.headers
           (headers_filled a.n a.headers.now fill.new.headers a.pool.now p.0 fill.ensures.0 fill.ensures.1 fill.auto.headers),
-      written_starts (vars_in ((tallied c.args.n c.args.headers.now c.args.pool.now))) a.variables.now write.new.variables p.3 write.auto.variables write.ensures,
+      written_starts (vars_in (tallied c.args.n c.args.headers.now c.args.pool.now)) a.variables.now write.new.variables p.3 write.auto.variables write.ensures,
     )

@@ -22,6 +22,6 @@ returns c =
     let T = zero.new.s in
     let small = c.requires.1 in
     λ b h.
-    let room = subst (λ (k : ℕ). term_width b * tallied_total ((tallied c.args.n c.args.headers.now c.args.pool.now)) ≤ k) (sym zero.auto.s) h in
+    let room = subst (λ (k : ℕ). term_width b * tallied_total (tallied c.args.n c.args.headers.now c.args.pool.now) ≤ k) (sym zero.auto.s) h in
     placing_start b a.n a.headers.now begin.new.headers a.pool.now T c.requires.0 begin.ensures.0 begin.ensures.1 begin.auto.headers
-    (vacant_terms b ((tallied c.args.n c.args.headers.now c.args.pool.now)) T (zeros_again T (length a.terms.now) zero.ensures) room) (omega arith)
+    (vacant_terms b (tallied c.args.n c.args.headers.now c.args.pool.now) T (zeros_again T (length a.terms.now) zero.ensures) room) (omega arith)

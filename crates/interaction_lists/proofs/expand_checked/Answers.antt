@@ -17,8 +17,8 @@ use Rattle.interaction_lists.proofs.expand_checked.Goals as goal
 
 pub returns-then-work-lt4096 : goal.returns-then-work-lt4096
 returns-then-work-lt4096 c = (
-  work_refused c.args.s.now ((length c.args.work.now)) ((length c.args.pool.now)) ((length c.args.headers.now ∷ length c.args.variables.now ∷ length c.args.terms.now
-      ∷ length c.args.denom_headers.now ∷ length c.args.denom_variables.now ∷ length c.args.denom_terms.now ∷ [])) c.if-work-lt4096.true,
+  work_refused c.args.s.now (length c.args.work.now) (length c.args.pool.now) (length c.args.headers.now ∷ length c.args.variables.now ∷ length c.args.terms.now
+      ∷ length c.args.denom_headers.now ∷ length c.args.denom_variables.now ∷ length c.args.denom_terms.now ∷ []) c.if-work-lt4096.true,
   tt,
 )
 
@@ -36,8 +36,8 @@ overflow_mul-result c =
 
 pub returns-then-pool-records : goal.returns-then-pool-records
 returns-then-pool-records c = (
-  pool_refused c.args.s.now ((length c.args.work.now)) ((length c.args.pool.now)) ((length c.args.headers.now ∷ length c.args.variables.now ∷ length c.args.terms.now
-      ∷ length c.args.denom_headers.now ∷ length c.args.denom_variables.now ∷ length c.args.denom_terms.now ∷ [])) c.if-work-lt4096.false
+  pool_refused c.args.s.now (length c.args.work.now) (length c.args.pool.now) (length c.args.headers.now ∷ length c.args.variables.now ∷ length c.args.terms.now
+      ∷ length c.args.denom_headers.now ∷ length c.args.denom_variables.now ∷ length c.args.denom_terms.now ∷ []) c.if-work-lt4096.false
       (2 * c.args.records) (ap (λ (n : ℕ). 2 * n) c.requires.records_are) c.if-pool-records.true,
   tt,
 )
@@ -47,8 +47,8 @@ returns-in_default c =
     let room : 2 * length (read_sheet c.args.s.now).records ≤ (length c.args.pool.now) =
     omega (arith, c.requires.records_are, c.if-pool-records.false) in
     let walk = c.walk_interactions-walked in (
-      interactions_refused c.args.s.now ((length c.args.work.now)) ((length c.args.pool.now)) ((length c.args.headers.now ∷ length c.args.variables.now ∷ length c.args.terms.now
-          ∷ length c.args.denom_headers.now ∷ length c.args.denom_variables.now ∷ length c.args.denom_terms.now ∷ [])) c.if-work-lt4096.false (room)
+      interactions_refused c.args.s.now (length c.args.work.now) (length c.args.pool.now) (length c.args.headers.now ∷ length c.args.variables.now ∷ length c.args.terms.now
+          ∷ length c.args.denom_headers.now ∷ length c.args.denom_variables.now ∷ length c.args.denom_terms.now ∷ []) c.if-work-lt4096.false room
           walk.result c.refusal_of.result c.in_default.field-0 c.walk_interactions-walked.new.pool walk.auto.pool walk.ensures
           c.in_default.is c.refusal_of.ensures,
       tt,
@@ -56,8 +56,9 @@ returns-in_default c =
 
 pub group_interactions-requires : goal.group_interactions-requires
 group_interactions-requires c =
-    let all_held : PoolHolds c.args.s.now ((order (records_of c.args.s.now) (counts_of (read_sheet c.args.s.now).interactions ++ fields_of (read_sheet c.args.s.now).interactions))) c.walk_interactions-walked.new.pool c.in-Used._used =
-    subst (λ (u : Expanded). Expands c.args.s.now c.walk_interactions-walked.new.pool u ((order (records_of c.args.s.now) (counts_of (read_sheet c.args.s.now).interactions ++ fields_of (read_sheet c.args.s.now).interactions)))) c.in-Used.is
+    let all_held =
+    subst (λ (u : Expanded). Expands c.args.s.now c.walk_interactions-walked.new.pool u (order (records_of c.args.s.now)
+    (counts_of (read_sheet c.args.s.now).interactions ++ fields_of (read_sheet c.args.s.now).interactions))) c.in-Used.is
     c.walk_interactions-walked.ensures in (
       counts_grouping c.args.s.now c.requires.checked c.walk_interactions-walked.new.pool c.in-Used._used (all_held),
       fields_grouping c.args.s.now c.requires.checked c.walk_interactions-walked.new.pool c.in-Used._used (all_held),
@@ -68,13 +69,14 @@ pub returns : goal.returns
 returns c =
     let room : 2 * length (read_sheet c.args.s.now).records ≤ (length c.args.pool.now) =
     omega (arith, c.requires.records_are, c.if-pool-records.false) in
-    let all_held : PoolHolds c.args.s.now ((order (records_of c.args.s.now) (counts_of (read_sheet c.args.s.now).interactions ++ fields_of (read_sheet c.args.s.now).interactions))) c.walk_interactions-walked.new.pool c.in-Used._used =
-    subst (λ (u : Expanded). Expands c.args.s.now c.walk_interactions-walked.new.pool u ((order (records_of c.args.s.now) (counts_of (read_sheet c.args.s.now).interactions ++ fields_of (read_sheet c.args.s.now).interactions)))) c.in-Used.is
+    let all_held =
+    subst (λ (u : Expanded). Expands c.args.s.now c.walk_interactions-walked.new.pool u (order (records_of c.args.s.now)
+    (counts_of (read_sheet c.args.s.now).interactions ++ fields_of (read_sheet c.args.s.now).interactions))) c.in-Used.is
     c.walk_interactions-walked.ensures in
     let group = c.group_interactions in (
       group.ensures.0
-          ∙ interactions_walked c.args.s.now ((length c.args.work.now)) ((length c.args.pool.now)) ((length c.args.headers.now ∷ length c.args.variables.now ∷ length c.args.terms.now
-          ∷ length c.args.denom_headers.now ∷ length c.args.denom_variables.now ∷ length c.args.denom_terms.now ∷ [])) c.if-work-lt4096.false (room)
+          ∙ interactions_walked c.args.s.now (length c.args.work.now) (length c.args.pool.now) (length c.args.headers.now ∷ length c.args.variables.now ∷ length c.args.terms.now
+          ∷ length c.args.denom_headers.now ∷ length c.args.denom_variables.now ∷ length c.args.denom_terms.now ∷ []) c.if-work-lt4096.false room
           c.in-Used._used c.walk_interactions-walked.new.pool c.walk_interactions-walked.auto.pool (all_held),
       group.ensures.1,
     )

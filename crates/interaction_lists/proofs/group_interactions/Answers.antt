@@ -30,7 +30,7 @@ returns-in_default c =
       terms_long_lem = c.group_counts-counted.auto.terms;
     } in
     let a = c.args in
-    counts_refused c.args.s.now (numerators) (unchanged a.denom_headers.now a.denom_variables.now a.denom_terms.now)
+    counts_refused c.args.s.now numerators (unchanged a.denom_headers.now a.denom_variables.now a.denom_terms.now)
     c.group_counts-counted.result c.too_short.result c.group_counts-counted.ensures
     c.in_default.field-0 c.in_default.is c.too_short.ensures
 
@@ -59,7 +59,7 @@ returns-in_default-listed c =
       variables_long = c.group_fields-listed.auto.variables;
       terms_long_lem = c.group_fields-listed.auto.terms;
     } in
-    fields_refused c.args.s.now (numerators) (denominators)
+    fields_refused c.args.s.now numerators denominators
     c.group_counts-counted.result c.in-Written.numerators c.group_counts-counted.ensures c.in-Written.is
     c.group_fields-listed.result c.too_short-in_default-listed.result c.group_fields-listed.ensures
     c.in_default-listed.field-0 c.in_default-listed.is c.too_short-in_default-listed.ensures
@@ -87,7 +87,7 @@ returns c =
       terms_long_lem = c.group_fields-listed.auto.terms;
     } in
     let at = c.interactions_at in
-    all_written c.args.s.now (numerators) (denominators)
+    all_written c.args.s.now numerators denominators
     c.group_counts-counted.result c.in-Written.numerators c.group_counts-counted.ensures c.in-Written.is
     c.group_fields-listed.result c.in-Written-listed.denominators c.group_fields-listed.ensures c.in-Written-listed.is
     c.args.interactions c.max_fields_len-longest.result c.requires.2

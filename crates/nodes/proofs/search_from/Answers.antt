@@ -21,7 +21,7 @@ returns-then-r c =
     omega (arith, c.if-r-lt6.false) in
     let high : c.args.r.kind ≤ 9 =
     omega (arith, c.if-r-gt9.false) in
-    from_right (five_words c.args.r) (low) (high) c.if-r-eq8.false c.if-r.true _ c.wide-then-r.ensures
+    from_right (five_words c.args.r) low high c.if-r-eq8.false c.if-r.true _ c.wide-then-r.ensures
 
 pub returns : goal.returns
 returns c =
@@ -29,4 +29,4 @@ returns c =
     omega (arith, c.if-r-lt6.false) in
     let high : c.args.r.kind ≤ 9 =
     omega (arith, c.if-r-gt9.false) in
-    from_left (five_words c.args.r) (low) (high) c.if-r-eq8.false (omega (arith, c.if-r.false)) _ c.wide-2.ensures
+    from_left (five_words c.args.r) low high c.if-r-eq8.false (omega (arith, c.if-r.false)) _ c.wide-2.ensures

@@ -26,27 +26,27 @@ unfolding conversion_call
 returns-then-out-words c =
     let sheet : (t : Sheet) × (check prime c.args.s.now ≡ good t) × (c.in-Sheet.head ≡ head_of t) =
     found prime c.args.s.now c.check_sheet-checked.ensures c.in-Sheet.is in
-    let words_are : c.in-Sheet.head.words ≡ length_of (sheet).0 =
-    ap (λ (h : Head). h.words) (sheet).2 in
-    sheet_short prime c.args.s.now length_of encode c.args.out.now refl (sheet).1 (words_are) c.if-out-words.true
+    let words_are : c.in-Sheet.head.words ≡ length_of sheet.0 =
+    ap (λ (h : Head). h.words) sheet.2 in
+    sheet_short prime c.args.s.now length_of encode c.args.out.now refl sheet.1 words_are c.if-out-words.true
 
 pub slice_bounds-copy_words-end : goal.slice_bounds-copy_words-end
 slice_bounds-copy_words-end c =
     let sheet : (t : Sheet) × (check prime c.args.s.now ≡ good t) × (c.in-Sheet.head ≡ head_of t) =
     found prime c.args.s.now c.check_sheet-checked.ensures c.in-Sheet.is in
-    words_inside prime c.args.s.now (sheet).1 (sheet).2
+    words_inside prime c.args.s.now sheet.1 sheet.2
 
 pub returns : goal.returns
 unfolding conversion_call
 returns c =
     let sheet : (t : Sheet) × (check prime c.args.s.now ≡ good t) × (c.in-Sheet.head ≡ head_of t) =
     found prime c.args.s.now c.check_sheet-checked.ensures c.in-Sheet.is in
-    let words_are : c.in-Sheet.head.words ≡ length_of (sheet).0 =
-    ap (λ (h : Head). h.words) (sheet).2 in
+    let words_are : c.in-Sheet.head.words ≡ length_of sheet.0 =
+    ap (λ (h : Head). h.words) sheet.2 in
     let copy = c.copy_words in
     let t = sheet in
     let front = words_found prime c.args.s.now t.1 t.2 in
     let inside = words_inside prime c.args.s.now t.1 t.2 in
-    sheet_written prime c.args.s.now length_of encode copy.new.out copy.auto.out t.1 (words_are) c.if-out-words.false
+    sheet_written prime c.args.s.now length_of encode copy.new.out copy.auto.out t.1 words_are c.if-out-words.false
     (ap (λ (c : ℕ). take c copy.new.out) inside ∙ copied_front _ _ c.args.out.now (omega arith) copy.ensures ∙ front)
     (inside ∙ ap length front)

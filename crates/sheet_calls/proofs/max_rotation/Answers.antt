@@ -21,7 +21,7 @@ pub largest_offset-requires : goal.largest_offset-requires
 largest_offset-requires c =
     let sheet : (t : Sheet) × (check prime c.args.s.now ≡ good t) × (c.in-Sheet.head ≡ head_of t) =
     found prime c.args.s.now c.check_sheet-checked.ensures c.in-Sheet.is in
-    records_fit prime c.args.s.now (sheet).1 (sheet).2
+    records_fit prime c.args.s.now sheet.1 sheet.2
 
 pub returns : goal.returns
 unfolding max_rotation_call

@@ -9,10 +9,12 @@ use Rattle.sheet_listing.proofs.put_both_lists.Goals as goal
 
 pub returns : goal.returns
 returns c =
-    let all_left : (Done c.args.out.now c.args.at ((front_lines Numerators c.args.n.numerators c.args.headers.now c.args.variables.now c.args.terms.now) ++ (((front_lines Denominators c.args.n.denominators c.args.denom_headers.now c.args.denom_variables.now c.args.denom_terms.now) ++ line (end_text ∷ [])))) ((front_lines Numerators c.args.n.numerators c.args.headers.now c.args.variables.now c.args.terms.now) ++ (((front_lines Denominators c.args.n.denominators c.args.denom_headers.now c.args.denom_variables.now c.args.denom_terms.now) ++ line (end_text ∷ [])))) c.args.out.now c.args.at) =
+    let all_left =
     done_none c.args.out.now c.args.at refl c.requires.2 in
-    let numerators-put : (Done c.args.out.now c.args.at ((front_lines Numerators c.args.n.numerators c.args.headers.now c.args.variables.now c.args.terms.now) ++ (((front_lines Denominators c.args.n.denominators c.args.denom_headers.now c.args.denom_variables.now c.args.denom_terms.now) ++ line (end_text ∷ [])))) (((front_lines Denominators c.args.n.denominators c.args.denom_headers.now c.args.denom_variables.now c.args.denom_terms.now) ++ line (end_text ∷ []))) c.put_lists-next.new.out c.put_lists-next.result) =
-    done_more (all_left) ((front_lines Numerators c.args.n.numerators c.args.headers.now c.args.variables.now c.args.terms.now)) (((front_lines Denominators c.args.n.denominators c.args.denom_headers.now c.args.denom_variables.now c.args.denom_terms.now) ++ line (end_text ∷ []))) refl c.put_lists-next.ensures in
-    let denominators-put : (Done c.args.out.now c.args.at ((front_lines Numerators c.args.n.numerators c.args.headers.now c.args.variables.now c.args.terms.now) ++ (((front_lines Denominators c.args.n.denominators c.args.denom_headers.now c.args.denom_variables.now c.args.denom_terms.now) ++ line (end_text ∷ [])))) (line (end_text ∷ [])) c.put_lists-end.new.out c.put_lists-end.result) =
-    done_more (numerators-put) ((front_lines Denominators c.args.n.denominators c.args.denom_headers.now c.args.denom_variables.now c.args.denom_terms.now)) (line (end_text ∷ [])) refl c.put_lists-end.ensures in
-    done_last (denominators-put) c.put_end.ensures
+    let numerators-put =
+    done_more all_left (front_lines Numerators c.args.n.numerators c.args.headers.now c.args.variables.now c.args.terms.now)
+    ((front_lines Denominators c.args.n.denominators c.args.denom_headers.now c.args.denom_variables.now c.args.denom_terms.now) ++ line (end_text ∷ [])) refl c.put_lists-next.ensures in
+    let denominators-put =
+    done_more numerators-put (front_lines Denominators c.args.n.denominators c.args.denom_headers.now c.args.denom_variables.now c.args.denom_terms.now) (line (end_text ∷ []))
+    refl c.put_lists-end.ensures in
+    done_last denominators-put c.put_end.ensures

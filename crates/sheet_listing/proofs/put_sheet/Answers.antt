@@ -17,7 +17,7 @@ put_refused-requires c =
     let v = c.build-built in
     let u = c.of_written-refusal in
     built_refused c.args.sheet.now v.result c.build-built.new.scratch c.build-built.new.out v.ensures c.in_default.field-0 u.result c.in_default.is u.ensures in
-    room_is c.args.out.now c.args.at (refused) c.requires
+    room_is c.args.out.now c.args.at refused c.requires
 
 pub returns-in_default : goal.returns-in_default
 returns-in_default c =
@@ -26,7 +26,7 @@ returns-in_default c =
     let v = c.build-built in
     let u = c.of_written-refusal in
     built_refused c.args.sheet.now v.result c.build-built.new.scratch c.build-built.new.out v.ensures c.in_default.field-0 u.result c.in_default.is u.ensures in
-    puts_is c.put_refused.ensures (refused)
+    puts_is c.put_refused.ensures refused
 
 pub slice_bounds-graph-end : goal.slice_bounds-graph-end
 slice_bounds-graph-end c =
@@ -34,7 +34,7 @@ slice_bounds-graph-end c =
     (c.in-Words.n ≤ length c.build-built.new.out) × (2 < length words) × (graph_lines prime words ≡ sheet_lines prime c.args.sheet.now) =
     let v = c.build-built in
     graph_written c.args.sheet.now v.result c.build-built.new.scratch c.build-built.new.out v.ensures c.in-Words.n c.in-Words.is in
-    (written).0
+    written.0
 
 pub slice_bounds-put_graph-end : goal.slice_bounds-put_graph-end
 slice_bounds-put_graph-end c =
@@ -42,7 +42,7 @@ slice_bounds-put_graph-end c =
     (c.in-Words.n ≤ length c.build-built.new.out) × (2 < length words) × (graph_lines prime words ≡ sheet_lines prime c.args.sheet.now) =
     let v = c.build-built in
     graph_written c.args.sheet.now v.result c.build-built.new.scratch c.build-built.new.out v.ensures c.in-Words.n c.in-Words.is in
-    omega (arith, (written).0, length-take c.in-Words.n c.build-built.new.out)
+    omega (arith, written.0, length-take c.in-Words.n c.build-built.new.out)
 
 pub put_graph-requires : goal.put_graph-requires
 put_graph-requires c =
@@ -59,4 +59,4 @@ returns c =
     (c.in-Words.n ≤ length c.build-built.new.out) × (2 < length words) × (graph_lines prime words ≡ sheet_lines prime c.args.sheet.now) =
     let v = c.build-built in
     graph_written c.args.sheet.now v.result c.build-built.new.scratch c.build-built.new.out v.ensures c.in-Words.n c.in-Words.is in
-    puts_is c.put_graph.ensures (written).2
+    puts_is c.put_graph.ensures written.2

@@ -39,7 +39,7 @@ overflow_sub-sum c =
     search rules in
     let a = c.args in
     let b = c.loop-row in
-    sums_fit c.args.number (weighted 0 ((words_of 127 (drop c.args.at c.args.bytes.now)))) b.row a.bytes.now a.at b.a b.b b.c b.d _ _ _ b.invariant.5 (rows) (end-words)
+    sums_fit c.args.number (weighted 0 (words_of 127 (drop c.args.at c.args.bytes.now))) b.row a.bytes.now a.at b.a b.b b.c b.d _ _ _ b.invariant.5 rows end-words
 
 pub returns : goal.returns
 returns c =
@@ -51,5 +51,5 @@ returns c =
     search rules in
     let a = c.args in
     let b = c.loop-row in
-    summed c.args.number _ ((words_of 127 (drop c.args.at c.args.bytes.now)))
-    (sums_taken c.args.number (weighted 0 ((words_of 127 (drop c.args.at c.args.bytes.now)))) b.row a.bytes.now a.at b.a b.b b.c b.d _ _ _ b.invariant.5 (rows) (end-words))
+    summed c.args.number _ (words_of 127 (drop c.args.at c.args.bytes.now))
+    (sums_taken c.args.number (weighted 0 (words_of 127 (drop c.args.at c.args.bytes.now))) b.row a.bytes.now a.at b.a b.b b.c b.d _ _ _ b.invariant.5 rows end-words)

@@ -15,12 +15,12 @@ pub returns-in_default : goal.returns-in_default
 returns-in_default c =
     let low : c.args.q.kind ≤ 4 =
     omega (arith, c.requires.1, c.if-q-eq5.false) in
-    leaf_refused c.requires.2.0 (five_words c.args.q) c.requires.2.1 c.args.work.now c.args.work.now (λ c. []) (low) _ c.pack-packed.ensures
+    leaf_refused c.requires.2.0 (five_words c.args.q) c.requires.2.1 c.args.work.now c.args.work.now (λ c. []) low _ c.pack-packed.ensures
     c.in_default.field-0 c.in_default.is _ c.pack_fault.ensures
 
 pub returns : goal.returns
 returns c =
     let low : c.args.q.kind ≤ 4 =
     omega (arith, c.requires.1, c.if-q-eq5.false) in
-    single_made c.requires.2.0 (five_words c.args.q) c.requires.2.1 c.args.work.now c.put_monomial-2.new.work (λ c. []) (low) _ c.pack-packed.ensures
+    single_made c.requires.2.0 (five_words c.args.q) c.requires.2.1 c.args.work.now c.put_monomial-2.new.work (λ c. []) low _ c.pack-packed.ensures
     c.in-Var.v c.in-Var.is _ c.single_monomial.ensures.0 c.put_monomial-2.ensures

@@ -17,7 +17,7 @@ pub returns-then-left-right-gt14 : goal.returns-then-left-right-gt14
 returns-then-left-right-gt14 c =
     let few : c.args.l.count * c.args.r.count ≤ 256 =
     omega (arith, c.if-l-r-gt256.false) in
-    product_long c.requires.1.1 c.requires.2.1 c.args.work.now _ _ (few) c.longest-left.ensures c.longest-right.ensures c.if-left-right-gt14.true
+    product_long c.requires.1.1 c.requires.2.1 c.args.work.now _ _ few c.longest-left.ensures c.longest-right.ensures c.if-left-right-gt14.true
 
 pub returns : goal.returns
 returns c =
@@ -25,5 +25,5 @@ returns c =
     omega (arith, c.if-l-r-gt256.false) in
     let v = c.multiply_lists-n in
     let p = c.requires in
-    product_made p.1.1 p.2.1 v.new.work v.result _ _ (few) c.longest-left.ensures c.longest-right.ensures
+    product_made p.1.1 p.2.1 v.new.work v.result _ _ few c.longest-left.ensures c.longest-right.ensures
     (omega (arith, c.if-left-right-gt14.false)) v.ensures.1 v.ensures.0

@@ -18,7 +18,7 @@ combine_list-two-requires c =
     let few : c.args.l.count + c.args.r.count ≤ 256 =
     omega (arith, c.if-l-r-gt256.false) in
     let v = c.combine_list-one in
-    sum_second c.args.negated c.requires.1.1 c.requires.2.1 c.args.work.now v.new.work v.result c.requires.0 v.auto.work v.ensures.0 v.ensures.1 (few)
+    sum_second c.args.negated c.requires.1.1 c.requires.2.1 c.args.work.now v.new.work v.result c.requires.0 v.auto.work v.ensures.0 v.ensures.1 few
 
 pub returns : goal.returns
 returns c =
@@ -27,4 +27,4 @@ returns c =
     let w = c.combine_list-two in
     let v = c.combine_list-one in
     sum_made c.args.negated c.requires.1.1 c.requires.2.1 c.args.work.now v.new.work v.result c.requires.0 v.auto.work v.ensures.0
-    w.new.work w.result v.ensures.1 (few) w.ensures.1 w.ensures.0
+    w.new.work w.result v.ensures.1 few w.ensures.1 w.ensures.0

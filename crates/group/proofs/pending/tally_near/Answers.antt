@@ -27,7 +27,7 @@ overflow_mul-row c =
     let p = c.requires in
     let k = c.in-There.k in
     let v : List ℕ = pool_vars a.pool.now a.at in
-    let t = there_small a.n k a.headers.now a.pool.now v p.0.rows_are (there) in
+    let t = there_small a.n k a.headers.now a.pool.now v p.0.rows_are there in
     (there_lt a.n k a.headers.now a.pool.now v p.0.rows_are (there), omega (arith, p.2), p.0.rows_are.room) in
     let x = row in search rules
 
@@ -44,7 +44,7 @@ overflow_add-headers c =
     let p = c.requires in
     let k = c.in-There.k in
     let v : List ℕ = pool_vars a.pool.now a.at in
-    let t = there_small a.n k a.headers.now a.pool.now v p.0.rows_are (there) in
+    let t = there_small a.n k a.headers.now a.pool.now v p.0.rows_are there in
     (there_lt a.n k a.headers.now a.pool.now v p.0.rows_are (there), omega (arith, p.2), p.0.rows_are.room) in
     let x = row in search rules
 
@@ -61,7 +61,7 @@ offset_bounds-headers-row c =
     let p = c.requires in
     let k = c.in-There.k in
     let v : List ℕ = pool_vars a.pool.now a.at in
-    let t = there_small a.n k a.headers.now a.pool.now v p.0.rows_are (there) in
+    let t = there_small a.n k a.headers.now a.pool.now v p.0.rows_are there in
     (there_lt a.n k a.headers.now a.pool.now v p.0.rows_are (there), omega (arith, p.2), p.0.rows_are.room) in
     let x = row in search rules
 
@@ -78,7 +78,7 @@ bounds-headers-row c =
     let p = c.requires in
     let k = c.in-There.k in
     let v : List ℕ = pool_vars a.pool.now a.at in
-    let t = there_small a.n k a.headers.now a.pool.now v p.0.rows_are (there) in
+    let t = there_small a.n k a.headers.now a.pool.now v p.0.rows_are there in
     (there_lt a.n k a.headers.now a.pool.now v p.0.rows_are (there), omega (arith, p.2), p.0.rows_are.room) in
     let x = row in search rules
 
@@ -95,7 +95,7 @@ overflow_add-headers-in-There c =
     let p = c.requires in
     let k = c.in-There.k in
     let v : List ℕ = pool_vars a.pool.now a.at in
-    let t = there_small a.n k a.headers.now a.pool.now v p.0.rows_are (there) in
+    let t = there_small a.n k a.headers.now a.pool.now v p.0.rows_are there in
     (there_lt a.n k a.headers.now a.pool.now v p.0.rows_are (there), omega (arith, p.2), p.0.rows_are.room) in
     let x = row in search rules
 
@@ -112,7 +112,7 @@ overflow_add-headers-in-There-2 c =
     let p = c.requires in
     let k = c.in-There.k in
     let v : List ℕ = pool_vars a.pool.now a.at in
-    let t = there_small a.n k a.headers.now a.pool.now v p.0.rows_are (there) in
+    let t = there_small a.n k a.headers.now a.pool.now v p.0.rows_are there in
     (there_lt a.n k a.headers.now a.pool.now v p.0.rows_are (there), omega (arith, p.2), p.0.rows_are.room) in
     let x = row in search rules
 
@@ -129,7 +129,7 @@ offset_bounds-headers-row-in-There c =
     let p = c.requires in
     let k = c.in-There.k in
     let v : List ℕ = pool_vars a.pool.now a.at in
-    let t = there_small a.n k a.headers.now a.pool.now v p.0.rows_are (there) in
+    let t = there_small a.n k a.headers.now a.pool.now v p.0.rows_are there in
     (there_lt a.n k a.headers.now a.pool.now v p.0.rows_are (there), omega (arith, p.2), p.0.rows_are.room) in
     let x = row in search rules
 
@@ -146,7 +146,7 @@ bounds-headers-row-in-There c =
     let p = c.requires in
     let k = c.in-There.k in
     let v : List ℕ = pool_vars a.pool.now a.at in
-    let t = there_small a.n k a.headers.now a.pool.now v p.0.rows_are (there) in
+    let t = there_small a.n k a.headers.now a.pool.now v p.0.rows_are there in
     (there_lt a.n k a.headers.now a.pool.now v p.0.rows_are (there), omega (arith, p.2), p.0.rows_are.room) in
     let x = row in search rules
 
@@ -162,7 +162,7 @@ returns-then-may_follow c =
     let k = c.in-Missing.k in
     let s = subst (Spot v (tallied a.n a.headers.now a.pool.now)) c.in-Missing.is
     c.find_near-found.ensures in
-    let x = batch_wait a.n a.b a.headers.now a.pool.now a.places.now a.fronts.now v p.0 a.at k refl p.1 s (follows) in
+    let x = batch_wait a.n a.b a.headers.now a.pool.now a.places.now a.fronts.now v p.0 a.at k refl p.1 s follows in
     (omega arith, x.0, x.1)
 
 pub returns-in-There : goal.returns-in-There
@@ -174,5 +174,5 @@ returns-in-There c =
     let a = c.args in
     let x = batch_count a.n a.b a.headers.now a.pool.now a.places.now a.fronts.now (pool_vars a.pool.now a.at)
     c.requires.0 c.in-There.k
-    (there) in
+    there in
     (omega arith, x.0, x.1)

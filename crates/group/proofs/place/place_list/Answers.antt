@@ -42,7 +42,7 @@ bounds-pool-place c =
     let b = c.loop-i in
     let s = standing_next a.count b.i b.place a.pool.now c.loop-i-test.true b.invariant.standing in
     (s.0, s.1, s.2) in
-    omega (arith, (next_stands).1)
+    omega (arith, next_stands.1)
 
 pub overflow_add-place-in-loop-i : goal.overflow_add-place-in-loop-i
 overflow_add-place-in-loop-i c =

@@ -13,7 +13,7 @@ loop-i-preserved c =
     let a = c.args in
     let b = c.loop-i in
     summing_step a.word a.n a.headers.now b.total b.i c.wide-total.result c.requires.0
-    c.loop-i-test.true c.wide-total.ensures (word_small) b.invariant
+    c.loop-i-test.true c.wide-total.ensures word_small b.invariant
 
 pub returns : goal.returns
 returns c =

@@ -9,12 +9,12 @@ use Rattle.grouping.proofs.families.place_family.Goals as goal
 
 pub place_constraints-requires : goal.place_constraints-requires
 place_constraints-requires c =
-    let constraint_roots_lem : labelled constraint_root 0 (words_from c.constraints_at-at.result c.num_constraints-count.result c.args.sheet.now) ≡ (roots_of c.args.family (read_sheet c.args.sheet.now)) =
+    let constraint_roots_lem =
     constraint_labelled c.args.sheet.now c.requires.0 c.constraints_at-at.ensures c.num_constraints-count.ensures c.in-Constraints.is in
     let a = c.args in
     let span = constraint_span c.args.sheet.now c.requires.0 c.constraints_at-at.ensures c.num_constraints-count.ensures in
     let family = ap is_interaction c.in-Constraints.is in
-    (span.0, span.1, named_ready family (constraint_roots_lem) a.n a.pool.now a.headers.now a.terms.now c.requires.1)
+    (span.0, span.1, named_ready family constraint_roots_lem a.n a.pool.now a.headers.now a.terms.now c.requires.1)
 
 pub place_counts-requires : goal.place_counts-requires
 place_counts-requires c =
@@ -25,7 +25,7 @@ place_counts-requires c =
     let a = c.args in
     let span = interaction_span c.args.sheet.now c.requires.0 c.interactions_at-at.ensures c.num_interactions-count.ensures in
     let family = ap is_interaction c.in-Counts.is in
-    (span.0, span.1, named_ready family (count_roots_lem) a.n a.pool.now a.headers.now a.terms.now c.requires.1)
+    (span.0, span.1, named_ready family count_roots_lem a.n a.pool.now a.headers.now a.terms.now c.requires.1)
 
 pub place_fields-requires : goal.place_fields-requires
 place_fields-requires c =
@@ -36,15 +36,15 @@ place_fields-requires c =
     let a = c.args in
     let span = interaction_span c.args.sheet.now c.requires.0 c.interactions_at-at-in-Fields.ensures c.num_interactions-count-in-Fields.ensures in
     let family = ap is_interaction c.in-Fields.is in
-    (span.0, span.1, named_ready family (field_roots_lem) a.n a.pool.now a.headers.now a.terms.now c.requires.1)
+    (span.0, span.1, named_ready family field_roots_lem a.n a.pool.now a.headers.now a.terms.now c.requires.1)
 
 pub returns-in-Constraints : goal.returns-in-Constraints
 returns-in-Constraints c =
-    let constraint_roots_lem : labelled constraint_root 0 (words_from c.constraints_at-at.result c.num_constraints-count.result c.args.sheet.now) ≡ (roots_of c.args.family (read_sheet c.args.sheet.now)) =
+    let constraint_roots_lem =
     constraint_labelled c.args.sheet.now c.requires.0 c.constraints_at-at.ensures c.num_constraints-count.ensures c.in-Constraints.is in
     let place = c.place_constraints in
     let a = c.args in
-    named_placed (ap is_interaction c.in-Constraints.is) (constraint_roots_lem)
+    named_placed (ap is_interaction c.in-Constraints.is) constraint_roots_lem
     a.n a.pool.now a.headers.now a.terms.now
     place.new.headers place.new.terms place.ensures
 
@@ -56,7 +56,7 @@ returns-in-Counts c =
     c.num_interactions-count.ensures c.in-Counts.is in
     let place = c.place_counts in
     let a = c.args in
-    named_placed (ap is_interaction c.in-Counts.is) (count_roots_lem)
+    named_placed (ap is_interaction c.in-Counts.is) count_roots_lem
     a.n a.pool.now a.headers.now a.terms.now
     place.new.headers place.new.terms place.ensures
 
@@ -68,6 +68,6 @@ returns-in-Fields c =
     c.num_interactions-count-in-Fields.ensures c.in-Fields.is in
     let place = c.place_fields in
     let a = c.args in
-    named_placed (ap is_interaction c.in-Fields.is) (field_roots_lem)
+    named_placed (ap is_interaction c.in-Fields.is) field_roots_lem
     a.n a.pool.now a.headers.now a.terms.now
     place.new.headers place.new.terms place.ensures

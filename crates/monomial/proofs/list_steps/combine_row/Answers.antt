@@ -17,26 +17,26 @@ pub monomial_in-right-requires : goal.monomial_in-right-requires
 monomial_in-right-requires c =
     let front : Front c.args.pool.now c.loop-i.from (c.args.m - (c.loop-i.i + 1)) =
     left_front c.args.pool.now c.loop-i.from c.args.m c.loop-i.i (omega arith) c.loop-i.invariant.0.left in
-    (omega (arith, (front).room), (front).short)
+    (omega (arith, front.room), front.short)
 
 pub multiply-requires : goal.multiply-requires
 multiply-requires c =
     let front : Front c.args.pool.now c.loop-i.from (c.args.m - (c.loop-i.i + 1)) =
     left_front c.args.pool.now c.loop-i.from c.args.m c.loop-i.i (omega arith) c.loop-i.invariant.0.left in
     let short : c.args.left.count + c.monomial_in-right.result.count ≤ 14 =
-    let h = short_first c.args.pool.now c.loop-i.from c.args.m c.loop-i.i ((longest_in c.args.pool.now c.args.at c.args.m)) (omega arith) c.loop-i.invariant.1 in
+    let h = short_first c.args.pool.now c.loop-i.from c.args.m c.loop-i.i (longest_in c.args.pool.now c.args.at c.args.m) (omega arith) c.loop-i.invariant.1 in
     omega (arith, h, c.monomial_in-right.ensures.1, c.requires.5) in (
       short,
       c.requires.4.sorted,
-      subst (λ (x : semantics.Monomial). Sorted above x.vars) (sym c.monomial_in-right.ensures.0) (front).one.sorted,
+      subst (λ (x : semantics.Monomial). Sorted above x.vars) (sym c.monomial_in-right.ensures.0) front.one.sorted,
     )
 
 pub combine_like_terms-total-requires : goal.combine_like_terms-total-requires
 combine_like_terms-total-requires c =
     let short : c.args.left.count + c.monomial_in-right.result.count ≤ 14 =
-    let h = short_first c.args.pool.now c.loop-i.from c.args.m c.loop-i.i ((longest_in c.args.pool.now c.args.at c.args.m)) (omega arith) c.loop-i.invariant.1 in
+    let h = short_first c.args.pool.now c.loop-i.from c.args.m c.loop-i.i (longest_in c.args.pool.now c.args.at c.args.m) (omega arith) c.loop-i.invariant.1 in
     omega (arith, h, c.monomial_in-right.ensures.1, c.requires.5) in
-    let product_fits : Fits ((monomial_of c.multiply.result)) =
+    let product_fits : Fits (monomial_of c.multiply.result) =
     let l = c.args.left in
     let r = c.monomial_in-right.result in
     subst Fits (sym c.multiply.ensures.0)
@@ -51,11 +51,11 @@ combine_like_terms-total-requires c =
 pub loop-i-preserved : goal.loop-i-preserved
 loop-i-preserved c =
     let short : c.args.left.count + c.monomial_in-right.result.count ≤ 14 =
-    let h = short_first c.args.pool.now c.loop-i.from c.args.m c.loop-i.i ((longest_in c.args.pool.now c.args.at c.args.m)) (omega arith) c.loop-i.invariant.1 in
+    let h = short_first c.args.pool.now c.loop-i.from c.args.m c.loop-i.i (longest_in c.args.pool.now c.args.at c.args.m) (omega arith) c.loop-i.invariant.1 in
     omega (arith, h, c.monomial_in-right.ensures.1, c.requires.5) in
     let product_is : (monomial_of c.multiply.result) ≡ (mul_monomial prime (monomial_of c.args.left)) (read_monomial (drop c.loop-i.from c.args.pool.now)) =
-    c.multiply.ensures.0 ∙ ap ((mul_monomial prime (monomial_of c.args.left))) c.monomial_in-right.ensures.0 in
-    let product_fits : Fits ((monomial_of c.multiply.result)) =
+    c.multiply.ensures.0 ∙ ap (mul_monomial prime (monomial_of c.args.left)) c.monomial_in-right.ensures.0 in
+    let product_fits : Fits (monomial_of c.multiply.result) =
     let l = c.args.left in
     let r = c.monomial_in-right.result in
     subst Fits (sym c.multiply.ensures.0)
@@ -64,14 +64,14 @@ loop-i-preserved c =
     let p = c.combine_like_terms-total in
     let q = c.monomial_in-right.ensures.1 in
     let a = c.args in (
-      adding_more ((mul_monomial prime (monomial_of c.args.left))) c.args.pool.now a.at a.m a.count a.work.now c.loop-i.work p.new.work c.loop-i.total p.result
-          c.loop-i.from c.loop-i.i c.monomial_in-right.result.count ((monomial_of c.multiply.result)) c.loop-i.invariant.0 (omega arith) q p.auto.work
-          (product_is) (product_fits) p.ensures.0 p.ensures.1,
-      short_rest c.args.pool.now c.loop-i.from a.m c.loop-i.i ((longest_in c.args.pool.now c.args.at c.args.m)) (omega arith) c.loop-i.invariant.1 c.monomial_in-right.result.count q,
+      adding_more (mul_monomial prime (monomial_of c.args.left)) c.args.pool.now a.at a.m a.count a.work.now c.loop-i.work p.new.work c.loop-i.total p.result
+          c.loop-i.from c.loop-i.i c.monomial_in-right.result.count (monomial_of c.multiply.result) c.loop-i.invariant.0 (omega arith) q p.auto.work
+          product_is product_fits p.ensures.0 p.ensures.1,
+      short_rest c.args.pool.now c.loop-i.from a.m c.loop-i.i (longest_in c.args.pool.now c.args.at c.args.m) (omega arith) c.loop-i.invariant.1 c.monomial_in-right.result.count q,
     )
 
 pub returns : goal.returns
 returns c =
     let a = c.args in
-    adding_done ((mul_monomial prime (monomial_of c.args.left))) c.args.pool.now a.at a.m a.count a.work.now c.loop-i.work c.loop-i.total c.loop-i.from c.loop-i.i
+    adding_done (mul_monomial prime (monomial_of c.args.left)) c.args.pool.now a.at a.m a.count a.work.now c.loop-i.work c.loop-i.total c.loop-i.from c.loop-i.i
     c.loop-i.invariant.0 (omega arith)

@@ -10,14 +10,14 @@ pub vars_in-size-requires : goal.vars_in-size-requires
 vars_in-size-requires c =
     let front : Front c.args.pool.now c.loop-i.from (c.args.n - (c.loop-i.i + 1)) =
     left_front c.args.pool.now c.loop-i.from c.args.n c.loop-i.i (omega arith) c.loop-i.invariant.left in
-    omega (arith, (front).room)
+    omega (arith, front.room)
 
 pub overflow_add-from-in-loop-i : goal.overflow_add-from-in-loop-i
 overflow_add-from-in-loop-i c =
     let front : Front c.args.pool.now c.loop-i.from (c.args.n - (c.loop-i.i + 1)) =
     left_front c.args.pool.now c.loop-i.from c.args.n c.loop-i.i (omega arith) c.loop-i.invariant.left in
     let behind : c.loop-i.from + 2 + c.vars_in-size.result ≤ length c.args.pool.now =
-    omega (arith, (front).room, c.vars_in-size.ensures) in
+    omega (arith, front.room, c.vars_in-size.ensures) in
     let h = behind in search rules
 
 pub loop-i-preserved : goal.loop-i-preserved

@@ -15,7 +15,7 @@ pub monomial_in-l-requires : goal.monomial_in-l-requires
 monomial_in-l-requires c =
     let front : Front c.args.pool.now c.loop-i.from (c.args.n - (c.loop-i.i + 1)) =
     left_front c.args.pool.now c.loop-i.from c.args.n c.loop-i.i (omega arith) c.loop-i.invariant.rest in
-    (omega (arith, (front).room), (front).short)
+    (omega (arith, front.room), front.short)
 
 pub combine_row-total-requires : goal.combine_row-total-requires
 combine_row-total-requires c =

@@ -16,7 +16,7 @@ pub monomial_in-m-requires : goal.monomial_in-m-requires
 monomial_in-m-requires c =
     let front : Front c.args.pool.now c.loop-k.from (c.args.n - (c.loop-k.k + 1)) =
     left_front c.args.pool.now c.loop-k.from c.args.n c.loop-k.k (omega arith) c.loop-k.invariant.left in
-    (omega (arith, (front).room), (front).short)
+    (omega (arith, front.room), front.short)
 
 pub loop-k-preserved : goal.loop-k-preserved
 loop-k-preserved c =

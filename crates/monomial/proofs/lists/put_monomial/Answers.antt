@@ -14,4 +14,4 @@ returns c =
     let a = c.args in
     let vs = nums a.m.vars in
     ap (held (a.k + 1)) c.put_slot.ensures
-    ∙ held_more a.work.now vs (drop (16 * a.k + 16) a.work.now) a.k a.m.count a.m.coef (omega arith) (vars_length)
+    ∙ held_more a.work.now vs (drop (16 * a.k + 16) a.work.now) a.k a.m.count a.m.coef (omega arith) vars_length

@@ -27,7 +27,7 @@ returns-in-Same c =
     let s = c.slot_count in
     let l = held_length a.count a.work.now in (
       omega (arith, inside),
-      found_same (sought c.numbers-mine.result a.m.count) a.work.now (((c.loop-low.low + c.loop-low.high) / 2)) a.count (inside) s.result s.ensures
+      found_same (sought c.numbers-mine.result a.m.count) a.work.now ((c.loop-low.low + c.loop-low.high) / 2) a.count inside s.result s.ensures
           c.order_at-order.result c.order_at-order.ensures c.in-Same.is
           ∙ ap (take a.m.count) c.numbers-mine.ensures,
     )
@@ -41,7 +41,7 @@ loop-low-preserved-in-After c =
     let h = c.loop-low.invariant in (
       omega arith,
       omega arith,
-      found_after (sought c.numbers-mine.result a.m.count) a.work.now (((c.loop-low.low + c.loop-low.high) / 2)) a.count (inside) s.result s.ensures
+      found_after (sought c.numbers-mine.result a.m.count) a.work.now ((c.loop-low.low + c.loop-low.high) / 2) a.count inside s.result s.ensures
           c.order_at-order.result c.order_at-order.ensures c.requires.3 c.in-After.is,
       h.3,
     )
@@ -56,7 +56,7 @@ loop-low-preserved c =
       omega arith,
       omega arith,
       h.2,
-      found_before (sought c.numbers-mine.result a.m.count) a.work.now (((c.loop-low.low + c.loop-low.high) / 2)) a.count (inside) s.result s.ensures
+      found_before (sought c.numbers-mine.result a.m.count) a.work.now ((c.loop-low.low + c.loop-low.high) / 2) a.count inside s.result s.ensures
           c.order_at-order.result c.order_at-order.ensures c.requires.3 c.in-Before.is,
     )
 

@@ -23,7 +23,7 @@ returns c =
     let a = c.args in
     let l = (held c.args.count c.args.work.now) in (
       held_put a.work.now a.k a.count (omega arith) (omega arith) a.m.count a.m.coef (nums a.m.vars) _ _ (omega arith)
-          (vars_length) c.shift_up.ensures c.put_slot.ensures
+          vars_length c.shift_up.ensures c.put_slot.ensures
           ∙ ap (λ (r : List semantics.Monomial). take a.k l ++ r) (sym (keep_other (monomial_of a.m) (drop a.k l) c.if-m-eq0.false)),
       omega arith,
     )

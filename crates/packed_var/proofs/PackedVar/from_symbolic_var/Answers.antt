@@ -19,7 +19,7 @@ returns-then-part_index-gt255 c =
     le-ltb _ _ c.if-var-gt65535.false in
     entry_packs _ c.refused-then-part_index-gt255.result c.in-Main.is
     (ap packed_answer c.refused-then-part_index-gt255.ensures
-    ∙ variable_faults _ _ _ _ (column_fits) refl (lt-ltb _ _ c.if-part_index-gt255.true) refl)
+    ∙ variable_faults _ _ _ _ column_fits refl (lt-ltb _ _ c.if-part_index-gt255.true) refl)
 
 pub returns-then-offset-gt15 : goal.returns-then-offset-gt15
 returns-then-offset-gt15 c =
@@ -27,7 +27,7 @@ returns-then-offset-gt15 c =
     le-ltb _ _ c.if-var-gt65535.false in
     entry_packs _ c.refused-then-offset-gt15.result c.in-Main.is
     (ap packed_answer c.refused-then-offset-gt15.ensures
-    ∙ variable_faults _ _ _ _ (column_fits) refl (le-ltb _ _ c.if-part_index-gt255.false) (lt-ltb _ _ c.if-offset-gt15.true))
+    ∙ variable_faults _ _ _ _ column_fits refl (le-ltb _ _ c.if-part_index-gt255.false) (lt-ltb _ _ c.if-offset-gt15.true))
 
 pub returns-then-offset-gt15-2 : goal.returns-then-offset-gt15-2
 returns-then-offset-gt15-2 c =
@@ -35,7 +35,7 @@ returns-then-offset-gt15-2 c =
     le-ltb _ _ c.if-var-gt65535.false in
     entry_packs _ c.refused-then-offset-gt15-2.result c.in-Preprocessed.is
     (ap packed_answer c.refused-then-offset-gt15-2.ensures
-    ∙ variable_faults _ _ _ _ (column_fits) refl refl (lt-ltb _ _ c.if-offset-gt15-2.true))
+    ∙ variable_faults _ _ _ _ column_fits refl refl (lt-ltb _ _ c.if-offset-gt15-2.true))
 
 pub returns-else-offset-gt15 : goal.returns-else-offset-gt15
 returns-else-offset-gt15 c =
@@ -43,7 +43,7 @@ returns-else-offset-gt15 c =
     le-ltb _ _ c.if-var-gt65535.false in
     entry_packs _ (Var c.new.result) c.in-Main.is
     (ap good c.new.ensures
-    ∙ variable_faults _ _ _ _ (column_fits) refl (le-ltb _ _ c.if-part_index-gt255.false) (le-ltb _ _ c.if-offset-gt15.false))
+    ∙ variable_faults _ _ _ _ column_fits refl (le-ltb _ _ c.if-part_index-gt255.false) (le-ltb _ _ c.if-offset-gt15.false))
 
 pub returns-else-offset-gt15-2 : goal.returns-else-offset-gt15-2
 returns-else-offset-gt15-2 c =
@@ -51,18 +51,18 @@ returns-else-offset-gt15-2 c =
     le-ltb _ _ c.if-var-gt65535.false in
     entry_packs _ (Var c.new-in-Preprocessed.result) c.in-Preprocessed.is
     (ap good c.new-in-Preprocessed.ensures
-    ∙ variable_faults _ _ _ _ (column_fits) refl refl (le-ltb _ _ c.if-offset-gt15-2.false))
+    ∙ variable_faults _ _ _ _ column_fits refl refl (le-ltb _ _ c.if-offset-gt15-2.false))
 
 pub returns-in-Public : goal.returns-in-Public
 returns-in-Public c =
     let column_fits : ltb 65535 c.args.var.index ≡ false =
     le-ltb _ _ c.if-var-gt65535.false in
     entry_packs _ (Var c.new-in-Public.result) c.in-Public.is
-    (ap good c.new-in-Public.ensures ∙ variable_faults _ _ _ _ (column_fits) refl refl refl)
+    (ap good c.new-in-Public.ensures ∙ variable_faults _ _ _ _ column_fits refl refl refl)
 
 pub returns-in-Challenge : goal.returns-in-Challenge
 returns-in-Challenge c =
     let column_fits : ltb 65535 c.args.var.index ≡ false =
     le-ltb _ _ c.if-var-gt65535.false in
     entry_packs _ c.refused-in-Challenge.result c.in-Challenge.is
-    (ap packed_answer c.refused-in-Challenge.ensures ∙ variable_faults _ _ _ _ (column_fits) refl refl refl)
+    (ap packed_answer c.refused-in-Challenge.ensures ∙ variable_faults _ _ _ _ column_fits refl refl refl)

@@ -29,7 +29,7 @@ returns-then-s-first c =
     let is-kind : leb 1 c.wide-kind.result && leb c.wide-kind.result 9 ≡ true =
     sym c.is_kind.ensures ∙ c.if-not-is_kind.false in
     let a = c.args in
-    (record_short prime a.own c.args.s.now a.at (omega arith) c.wide-kind.result c.wide-kind.ensures (is-kind) c.if-s-first.true, tt)
+    (record_short prime a.own c.args.s.now a.at (omega arith) c.wide-kind.result c.wide-kind.ensures is-kind c.if-s-first.true, tt)
 
 pub returns : goal.returns
 returns c =
