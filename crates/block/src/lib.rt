@@ -2,7 +2,6 @@
 #![tactic(auto)]
 
 ghost use Rattle.std.specs.Prelude.{◌≡◌};
-ghost use Rattle.slices.specs.Lent.{old};
 ghost use Rattle.semantics.specs.Call.{block_check_call};
 ghost use Rattle.block.specs.Checked.{block_outcome};
 

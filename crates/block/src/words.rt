@@ -1,6 +1,5 @@
 // Words and their four bytes, least first, and the check of a block that stands in a longer slice.
 ghost use Rattle.std.specs.Prelude.{◌≡◌, ◌+◌, ◌*◌, ◌≤◌, length, drop};
-ghost use Rattle.slices.specs.Lent.{old};
 ghost use Rattle.semantics.specs.Block.{word_at, word_bytes, words_of, check_word, block_good};
 
 fn wide(x: u8) -> u32

@@ -4,7 +4,7 @@ use mathlib.Core.Bool.{Bool, true, false, true≢false, not, ◌||◌}
 use mathlib.Core.List.{List, [], ◌∷◌, ◌++◌, append_assoc, append-nil}
 use Prim.Native.Nat.{ℕ, zero, suc, ◌+◌, ◌*◌, ◌-◌, ◌/◌, ◌%◌, ◌≤◌, ◌<◌}
 use native.Mathlib.Omega.{arith}
-use native.Mathlib.Nat.{add-zero, sub-zero}
+use native.Mathlib.Nat.{add-zero}
 use native.Mathlib.Numerals.{add-one}
 use lib.Dec.{eqb, ltb}
 use lib.ListN.{length, take, drop, set, length-set}
@@ -60,11 +60,6 @@ module _ {bs o o₀ : List ℕ} {at to i : ℕ} (r : WordsRead bs o o₀ at to i
         (ap (λ (x : ℕ). words_of i (drop at bs) ++ (x ∷ [])) (e ∙ ap word_at (sym (drop-drop (4 * i) at bs))) ∙ sym (words_snoc i (drop at bs)));
   }
 
-  pub words_all : 127 ≤ i → take (to + 127) o ≡ take to o₀ ++ words_of 127 (drop at bs)
-  words_all h =
-      let e : i ≡ 127 = omega arith in
-      rw e at r.front
-
 -- The outcome where `front` is written and the words of `a` are to follow.
 abbrev following : (lent : ℕ) (front : List ℕ) → Answer (List ℕ) → Outcome
 following lent front a = outcome [] (lent ∷ []) (and_then a (λ (ws : List ℕ). result ((front ++ ws) ∷ []) []))
@@ -80,13 +75,6 @@ pub record BlocksRead (bs o o₀ : List ℕ) (n k : ℕ) : Type 0 where
   pub some : k ≤ n
   pub kept : length o ≡ length o₀
   pub follow : following (length o₀) (take (127 * k) o) (read_blocks (n - k) k (drop (512 * k) bs)) ≡ words_outcome (length o₀) (read_blocks n 0 bs)
-
-pub blocks_none : (bs o : List ℕ) (n : ℕ) → BlocksRead bs o o n 0
-blocks_none bs o n = record {
-  some = omega arith;
-  kept = refl;
-  follow = ap (λ (m : ℕ). words_outcome (length o) (read_blocks m 0 bs)) (sub-zero n);
-}
 
 module _ {bs o o₀ : List ℕ} {n k : ℕ} (r : BlocksRead bs o o₀ n k) where
   module _ (h : k < n) where

@@ -2,7 +2,7 @@
 #![tactic(auto)]
 
 ghost use Rattle.std.specs.Prelude.{◌≡◌, ◌++◌, [], ◌∷◌, ◌+◌, ◌*◌, ◌≤◌, length, take, drop};
-ghost use Rattle.slices.specs.Lent.{old, new, lengths};
+ghost use Rattle.slices.specs.Lent.{lengths};
 ghost use Rattle.semantics.specs.Block.{words_of, bad_length, read_blocks};
 ghost use Rattle.semantics.specs.Call.{reader_call, Gives};
 ghost use Rattle.answers.specs.Replies.{rest_zeroed, written_reply};

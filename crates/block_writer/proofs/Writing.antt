@@ -3,11 +3,10 @@ use mathlib.Core.Path.{◌≡◌, refl, sym, ◌∙◌, ap, subst}
 use mathlib.Core.List.{List, [], ◌∷◌, ◌++◌, flat_map, append_assoc, append-nil}
 use Prim.Native.Nat.{ℕ, suc, ◌+◌, ◌*◌, ◌-◌, ◌/◌, ◌≤◌, ◌<◌}
 use native.Mathlib.Omega.{arith}
-use native.Mathlib.Nat.{add-zero, sub-zero}
+use native.Mathlib.Nat.{add-zero}
 use native.Mathlib.Numerals.{add-one}
-use lib.ListN.{length, get_or, take, drop, replicate, set, take-append-drop}
+use lib.ListN.{length, get_or, take, drop, replicate, take-append-drop}
 use lib.Seq.{drop-drop, drop_at, get_or-drop, length-take-le}
-use Rattle.slices.proofs.Puts.{put_front, stores_put}
 use Rattle.slices.proofs.Lists.{flat_append}
 use Rattle.semantics.specs.Answer.{good}
 use Rattle.semantics.specs.Sheet.{Sheet, encode, length_of}
@@ -17,15 +16,6 @@ use Rattle.semantics.proofs.Sorting.{all_append}
 use Rattle.semantics.proofs.Blocks.{Words, words_back, first_length, first_add, written_length}
 use Rattle.sheet.specs.declared.Head.{Head}
 use Rattle.sheet.proofs.Answers.{head_of, words_found}
-
--- Four bytes, one behind the other.
-pub word_put : (w : ℕ) (o bs : List ℕ) (at : ℕ) → at + 4 ≤ length o → bs ≡ word_bytes w
-    → take (at + 4) (set (set (set (set o at (get_or bs 0 0)) (at + 1) (get_or bs 1 0)) (at + 2) (get_or bs 2 0)) (at + 3) (get_or bs 3 0)) ≡ take at o ++ word_bytes w
-unfolding word_bytes
-word_put w o bs at h e =
-    let bytes : List ℕ → List ℕ = λ b. get_or b 0 0 ∷ get_or b 1 0 ∷ get_or b 2 0 ∷ get_or b 3 0 ∷ [] in
-    ap (take (at + 4)) (stores_put o at (get_or bs 0 0) (get_or bs 1 0 ∷ get_or bs 2 0 ∷ get_or bs 3 0 ∷ []) h)
-    ∙ put_front o at (bytes bs) h ∙ ap (λ (b : List ℕ). take at o ++ bytes b) e
 
 first_one : (ws : List ℕ) → first_words 1 ws ≡ get_or ws 0 0 ∷ []
 unfolding first_words
@@ -106,9 +96,6 @@ pub record BlocksPut (ws o o₀ : List ℕ) (n k : ℕ) : Type 0 where
   pub some : k ≤ n
   pub kept : length o ≡ length o₀
   pub follow : take (512 * k) o ++ write_blocks (n - k) k (drop (127 * k) ws) ≡ write_blocks n 0 ws
-
-pub none_put : (ws o : List ℕ) (n : ℕ) → BlocksPut ws o o n 0
-none_put ws o n = record { some = omega arith; kept = refl; follow = ap (λ (m : ℕ). write_blocks m 0 ws) (sub-zero n) }
 
 module _ {ws o o₀ : List ℕ} {n k : ℕ} (r : BlocksPut ws o o₀ n k) where
   pub one_put : (o' : List ℕ) → k < n → length o' ≡ length o

@@ -3,7 +3,7 @@
 
 ghost use Rattle.std.specs.Prelude.{◌≡◌, ◌+◌, ◌*◌, ◌≤◌, ◌<◌, length, get_or, take, drop};
 ghost use mathlib.Core.List.{◌++◌, flat_map, [], ◌∷◌};
-ghost use Rattle.slices.specs.Lent.{old, new, lengths};
+ghost use Rattle.slices.specs.Lent.{lengths};
 ghost use Rattle.semantics.specs.Check.{prime_of};
 ghost use Rattle.semantics.specs.Block.{words_of, word_bytes, first_words, block_bytes, write_blocks};
 ghost use Rattle.semantics.specs.Call.{writer_call, Gives};

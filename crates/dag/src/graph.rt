@@ -1,6 +1,5 @@
 // The graph of a checked sheet.
 ghost use Rattle.std.specs.Prelude.{◌≡◌, length};
-ghost use Rattle.slices.specs.Lent.{old, new};
 ghost use Rattle.graph_lists.specs.Lists.{graph_out, graph_length};
 ghost use Rattle.dag.specs.Calls.{Starting};
 

@@ -3,7 +3,7 @@
 
 ghost use Rattle.std.specs.Prelude.{◌≡◌, length, [], ◌∷◌};
 ghost use Rattle.answers.specs.Replies.{written_reply};
-ghost use Rattle.slices.specs.Lent.{old, new, lengths};
+ghost use Rattle.slices.specs.Lent.{lengths};
 ghost use Rattle.semantics.specs.Check.{prime_of};
 ghost use Rattle.semantics.specs.Call.{builder_call, zeros, Gives};
 ghost use Rattle.dag.specs.Calls.{built_outcome, Clear};

@@ -3,7 +3,6 @@
 
 ghost use Rattle.std.specs.Prelude.{[], ◌∷◌};
 ghost use Rattle.answers.specs.Replies.{written_reply};
-ghost use Rattle.slices.specs.Lent.{old, new};
 ghost use Rattle.semantics.specs.Check.{prime_of};
 ghost use Rattle.semantics.specs.Call.{builder_call, constraint_call, interaction_call, Gives, outcome_of};
 ghost use Rattle.expansion.specs.Answers.{constraint_reply, interaction_reply};

@@ -33,11 +33,6 @@ module _ {ws : List ℕ} {at count : ℕ} {work₀ pool₀ : List ℕ} {used₀ 
   naming_none = record { j_le = omega arith; far = far_none ws work₀ pool₀ used₀ p }
 
   module _ {work pool : List ℕ} {used j : ℕ} (h : Naming ws at count work₀ pool₀ used₀ work pool used j) where
-    pub naming_done : count ≤ j → Roots ws (words_from at count ws) pool₀ used₀ pool (Used used)
-    naming_done l =
-        let e : j ≡ count = omega (arith, h.j_le) in
-        subst (λ (k : ℕ). Roots ws (words_from at k ws) pool₀ used₀ pool (Used used)) e h.far.walks
-
     module _ (l : j < count) {r : ℕ} (e : r ≡ get_or ws (at + j) 0) where
       inside : r < length (records_of ws)
       inside = subst (λ (x : ℕ). x < length (records_of ws)) (sym e) (named.below j l)

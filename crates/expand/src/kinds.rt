@@ -1,6 +1,5 @@
 // The list of a record, made in the work from its children's lists, by the record's kind.
 ghost use Rattle.std.specs.Prelude.{◌≡◌, [], ◌++◌, map, ℕ, ◌+◌, ◌*◌, ◌≤◌, ◌<◌, length, get_or};
-ghost use Rattle.slices.specs.Lent.{old, new};
 ghost use Rattle.semantics.specs.Arithmetic.{prime};
 ghost use Rattle.semantics.specs.Sheet.{GoodRecord};
 ghost use Rattle.semantics.specs.Packing.{pack_fault};

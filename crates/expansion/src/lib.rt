@@ -2,7 +2,6 @@
 #![tactic(auto)]
 
 ghost use Rattle.std.specs.Prelude.{◌≡◌, [], ◌∷◌};
-ghost use Rattle.slices.specs.Lent.{old};
 ghost use Rattle.semantics.specs.Check.{prime_of};
 ghost use Rattle.semantics.specs.Call.{constraint_call, interaction_call, Gives, constraints_of, interactions_of};
 ghost use Rattle.constraint_lists.specs.Lists.{ConstraintsAre, on_words};

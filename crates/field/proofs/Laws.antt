@@ -2,7 +2,7 @@
 use mathlib.Core.Path.{◌≡◌, refl, sym, subst, ◌∙◌}
 use Prim.Native.Nat.{ℕ, suc, ◌+◌, ◌*◌, ◌-◌, ◌/◌, ◌%◌, ◌<◌, ◌≤◌, ◌^◌}
 use native.Mathlib.Omega.{arith}
-use native.Mathlib.Nat.{mod-lt, mod-eq_of_lt, mul-le-mul}
+use native.Mathlib.Nat.{mod-lt, mod-eq_of_lt}
 use lib.Dec.{ltb}
 use lib.IntN.{ℤ, pos, ◌-ℤ◌}
 use mir.Syntax.{w64}
@@ -45,15 +45,6 @@ module _ (p a : ℕ) {r : ℕ} (m : Modulus p) (e : r ≡ a % p) where
     pub mul_rests : (r * s) % p ≡ mul_m p a b
     unfolding mul_m
     mul_rests = rw (e, f) (simp mods)
-
-    pub product_low : r * s < p * p
-    product_low = omega (arith, mul-le-mul (low p a m e) (low p b m f))
-
-    pub product_fits : r * s < 2 ^ 64
-    product_fits = omega (arith, product_low, mul-le-mul m.half m.half)
-
-    pub sum_fits : r + s < 2 ^ 32
-    sum_fits = omega (arith, low p a m e, low p b m f)
 
     pub add_low : r + s < p → r + s ≡ add_m p a b
     add_low h = remainder p (r + s) (r + s) 0 0 h refl ∙ add_rests

@@ -4,14 +4,14 @@ use mathlib.Core.List.{List, [], ◌∷◌, ◌++◌, append_assoc, append-nil, 
 use Prim.Native.Nat.{ℕ, suc, pred, ◌+◌, ◌-◌, ◌%◌, ◌≤◌, ◌<◌}
 use native.Mathlib.Omega.{arith}
 use native.Mathlib.Nat.{mod-eq_of_lt}
-use lib.ListN.{length, get_or, set, length-append, length-set, length-map}
+use lib.ListN.{length, get_or, set, length-append, length-map}
 use lib.Seq.{sets}
 use Rattle.records.specs.declared.Interaction.{Interaction}
 use Rattle.records.specs.Access.{words_from, message_length, interaction_from, each_words}
 use Rattle.records.proofs.Parts.{part_more, part_length}
 use Rattle.slices.specs.Putting.{put, Puts}
 use Rattle.graph_lists.specs.Lists.{node_numbers, marks_of, NodesNamed, NamedInteraction, NamedInteractions, renamed_words, renamed_all}
-use Rattle.slices.proofs.Puts.{put_none, put_length, put_behind, set_behind, sets_put}
+use Rattle.slices.proofs.Puts.{put_length, put_behind, set_behind, sets_put}
 
 numbers_length : (ws : List ℕ) (at j : ℕ) (f : ℕ → ℕ) → at + j ≤ length ws → length (node_numbers f (words_from at j ws)) ≡ j
 numbers_length ws at j f h = length-map (words_from at j ws) (λ (x : ℕ). pred (f x)) ∙ part_length ws at j h
@@ -24,14 +24,8 @@ module _ {ws : List ℕ} {at count : ℕ} {s : List ℕ} (h : NodesNamed ws at c
 
     -- What `node_number` asks and hands back of it, where x is the name.
     module _ {x : ℕ} (e : x ≡ get_or ws (at + j) 0) where
-      pub number_asks : (x < length s) × (0 < get_or s x 0 % 65536)
-      number_asks = subst (λ (y : ℕ). (y < length s) × (0 < get_or s y 0 % 65536)) (sym e) ((h.named j l).0, omega (arith, plain_mark, (h.named j l).1))
-
       pub number_is : {node : ℕ} → node ≡ pred (get_or s x 0 % 65536) → node ≡ pred (marks_of s (get_or ws (at + j) 0))
       number_is q = q ∙ ap (λ (y : ℕ). pred (get_or s y 0 % 65536)) e ∙ ap pred plain_mark
-
-      pub number_small : {node : ℕ} → node ≡ pred (get_or s x 0 % 65536) → node < 4294967296
-      number_small q = omega (arith, number_is q, h.small (get_or ws (at + j) 0) (h.named j l).0)
 
     pub naming_more : (out₀ : List ℕ) (to : ℕ) {out : List ℕ} {node : ℕ} → to + count ≤ length out₀ → out ≡ put out₀ to (node_numbers (marks_of s) (words_from at j ws))
         → node ≡ pred (marks_of s (get_or ws (at + j) 0))
@@ -97,48 +91,22 @@ module _ {ws : List ℕ} {at : ℕ} {s out : List ℕ} {to : ℕ} {x y : Interac
   y_is : y ≡ interaction_from to (message_length ws at)
   y_is = p.y_from ∙ ap (λ (z : Interaction). interaction_from to z.message) p.x_is
 
-  at_places : (P : Interaction → Interaction → Type 0) → P (interaction_from at (message_length ws at)) (interaction_from to (message_length ws at)) → P x y
-  at_places P f =
-      subst (P x) (sym y_is) (subst (λ (u : Interaction). P u (interaction_from to (message_length ws at))) (sym p.x_is) f)
-
   pub next_place : y.next ≡ to + (4 + message_length ws at)
   next_place = ap (λ (z : Interaction). z.next) y_is
 
   module _ {o₂ : List ℕ} (e₂ : o₂ ≡ sets out to (front h)) where
-    length_two : length o₂ ≡ length out
-    length_two = ap length (e₂ ∙ sets_put out to (front h) (omega (arith, p.room))) ∙ put_length out to (front h) (omega (arith, p.room))
-
-    pub count_asks : NodesNamed ws x.count 1 s × (y.count + 1 ≤ length o₂)
-    count_asks = at_places (λ u v. NodesNamed ws u.count 1 s × (v.count + 1 ≤ length o₂)) (h.count, omega (arith, length_two, p.room))
-
     module _ {o₃ : List ℕ} (e₃ : o₃ ≡ put o₂ y.count (node_numbers (marks_of s) (words_from x.count 1 ws))) where
       three_is : o₃ ≡ put o₂ (to + 2) (count_nodes h)
       three_is = e₃ ∙ λ i. put o₂ (y_is i).count (node_numbers (marks_of s) (words_from (p.x_is i).count 1 ws))
 
-      length_three : length o₃ ≡ length out
-      length_three = ap length three_is ∙ put_length o₂ (to + 2) (count_nodes h) (omega (arith, one_count h, length_two, p.room)) ∙ length_two
-
-      pub length_fits : (x.length < length ws) × (y.length < length o₃)
-      length_fits =
-          at_places (λ u v. (u.length < length ws) × (v.length < length o₃))
-          (omega (arith, h.inside), omega (arith, length_three, p.room))
-
       abbrev o₄ : List ℕ
       o₄ = set o₃ y.length (get_or ws x.length 0)
-
-      pub message_asks : NodesNamed ws x.fields x.message s × (y.fields + x.message ≤ length o₄)
-      message_asks =
-          let l : length o₄ ≡ length out = length-set o₃ y.length (get_or ws x.length 0) ∙ length_three in
-          at_places (λ u v. NodesNamed ws u.fields u.message s × (v.fields + u.message ≤ length o₄)) (h.message, omega (arith, l, p.room))
 
       module _ {o₅ : List ℕ} (e₅ : o₅ ≡ put o₄ y.fields (node_numbers (marks_of s) (words_from x.fields x.message ws))) where
         pub interaction_put : o₅ ≡ put out to (renamed_words ws s at)
         interaction_put =
             all_put h out to p.room o₂ o₃ o₅ e₂ three_is
             (e₅ ∙ λ i. put (set o₃ (y_is i).length (get_or ws (p.x_is i).length 0)) (y_is i).fields (node_numbers (marks_of s) (words_from (p.x_is i).fields (p.x_is i).message ws)))
-
-        pub interaction_length : length o₅ ≡ length out
-        interaction_length = ap length interaction_put ∙ put_length out to (renamed_words ws s at) (omega (arith, renamed_length h, p.room))
 
 -- The loop over the interactions: what is written and what is left make the whole.
 pub record Written (ws s : List ℕ) (at count : ℕ) (out₀ : List ℕ) (to : ℕ) (out : List ℕ) (from next i : ℕ) : Type 0 where
@@ -148,19 +116,6 @@ pub record Written (ws s : List ℕ) (at count : ℕ) (out₀ : List ℕ) (to : 
   pub next_is : next ≡ to + length words
   pub whole : words ++ renamed_all ws s from (count - i) ≡ renamed_all ws s at count
   pub left : NamedInteractions ws s from (count - i)
-
-pub written_none : (ws s : List ℕ) (at count : ℕ) (out₀ : List ℕ) (to : ℕ) → NamedInteractions ws s at count → Written ws s at count out₀ to out₀ at to 0
-written_none ws s at count out₀ to named = record {
-  words = [];
-  i_le = omega arith;
-  out_is = sym (put_none out₀ to);
-  next_is = omega arith;
-  whole = ap (renamed_all ws s at) (omega arith);
-  left = subst (NamedInteractions ws s at) (z count) named;
-}
-  where
-    z : (n : ℕ) → n ≡ n - 0
-    z n = omega arith
 
 module _ {ws s : List ℕ} {at count : ℕ} {out₀ : List ℕ} {to : ℕ} {out : List ℕ} {from next i : ℕ} (h : Written ws s at count out₀ to out from next i)
     (room : to + length (renamed_all ws s at count) ≤ length out₀) where

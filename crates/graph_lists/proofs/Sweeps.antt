@@ -14,7 +14,7 @@ use Rattle.semantics.specs.Graph.{set_num}
 use Rattle.semantics.specs.Call.{zeros, padded}
 use Rattle.nodes.specs.Memory.{tabulate}
 use Rattle.nodes.proofs.Marks.{tabulate_length, tabulate_from, tabulate_same, tabulate_set}
-use Rattle.slices.specs.Putting.{put, Puts}
+use Rattle.slices.specs.Putting.{put}
 use Rattle.graph_lists.specs.Lists.{plain_word, plain_below, one_if, Wanted, flagged_among, marks_of}
 use Rattle.slices.proofs.Puts.{put_none, put_length, put_behind}
 use Rattle.graph_lists.proofs.Flags.{table_of}
@@ -92,17 +92,6 @@ module _ {s₀ out₀ : List ℕ} {at nodes : ℕ} {s out : List ℕ} {next node
     ap length h.scratch_is ∙ tabulate_length 0 (length s₀) (plain_below node s₀),
     ap length h.out_is ∙ put_length out₀ at (flagged_among 0 node s₀) (omega (arith, among_le s₀ node nodes 0 h.node_le)),
   )
-
-  -- All entries are done.
-  pub swept_done : nodes ≤ node → (s ≡ tabulate 0 (length s₀) (plain_below nodes s₀)) × Puts out₀ at (flagged_among 0 nodes s₀) out next
-  swept_done l =
-      let e : node ≡ nodes = omega (arith, h.node_le) in (
-        h.scratch_is ∙ ap (λ (k : ℕ). tabulate 0 (length s₀) (plain_below k s₀)) e,
-        record {
-          out_is = h.out_is ∙ ap (λ (k : ℕ). put out₀ at (flagged_among 0 k s₀)) e;
-          next_is = h.next_is ∙ ap (λ (k : ℕ). at + length (flagged_among 0 k s₀)) e;
-        },
-      )
 
   module _ (l : node < nodes) where
     swept_room : at + length (flagged_among 0 node s₀) + length (one_if (leb 65536 (marks_of s₀ node)) node) ≤ length out₀

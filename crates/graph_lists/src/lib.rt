@@ -2,7 +2,6 @@
 #![tactic(auto)]
 
 ghost use Rattle.std.specs.Prelude.{◌≡◌, pred, ◌+◌, ◌%◌, ◌≤◌, ◌<◌, leb, length, get_or, set};
-ghost use Rattle.slices.specs.Lent.{old, new};
 ghost use Rattle.records.specs.Access.{words_from, message_length};
 ghost use Rattle.nodes.specs.Memory.{tabulate};
 ghost use Rattle.slices.specs.Putting.{put, Puts};

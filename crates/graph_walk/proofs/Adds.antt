@@ -8,7 +8,6 @@ use lib.Dec.{eqb}
 use lib.ListN.{length}
 use borrow.Author.Tests.{eq-eqb}
 use Rattle.semantics.specs.Arithmetic.{prime}
-use Rattle.semantics.specs.Answer.{good}
 use Rattle.semantics.specs.Sheet.{Record, place, Each, GoodRecord}
 use Rattle.semantics.specs.Value.{node_of}
 use Rattle.semantics.specs.Walk.{children, member}

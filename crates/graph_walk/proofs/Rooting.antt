@@ -10,7 +10,6 @@ use Rattle.records.specs.Access.{records_of, words_from, message_length, count_l
 use Rattle.records.specs.Orders.{Order}
 use Rattle.records.proofs.Rooting.{order_walk, visiting_none, visiting_both, visiting_name, references_below, references_fewer, roots_below, Passed, passed_none, passed_done, passed_next, passed_more}
 use Rattle.nodes.specs.Memory.{GraphHolds}
-use Rattle.nodes.proofs.States as states
 use Rattle.graph_walk.specs.Walking.{AddReady, AddWalking, State, Walks}
 
 -- What one interaction names: its fields, then its count.
@@ -40,9 +39,6 @@ module _ (ws : List ℕ) where
   unfoldable pub ready_root : (r : ℕ) → r < E → (s o : List ℕ) (n : ℕ) → AddWalking ws s o n → AddReady ws r s o n
   ready_root r l s o n p = record { checked = p.checked; inside = l; room = p.room; done = p.done; order = p.order; holds = p.holds }
 
-  pub walking_length : (s o : List ℕ) (n : ℕ) → AddWalking ws s o n → length s ≡ E
-  walking_length s o n p = states.scratch_length ws p.done s o n p.holds
-
 -- What holds while the records of a part are added.
 pub record Naming (ws : List ℕ) (at count : ℕ) (s₀ o₀ : List ℕ) (n : ℕ) (s o : List ℕ) (u j : ℕ) : Type 0 where
   pub j_le : j ≤ count
@@ -60,16 +56,8 @@ module _ {ws : List ℕ} {at count : ℕ} {s₀ o₀ : List ℕ} {n : ℕ} (p : 
     naming_walking : AddWalking ws s o u
     naming_walking = walking_after ws (words_from at j ws) so_far s₀ o₀ n s o u p h.out_length h.walks
 
-    pub naming_length : length s ≡ length s₀
-    naming_length = walking_length ws s o u naming_walking ∙ sym (walking_length ws s₀ o₀ n p)
-
     pub naming_ready : j < count → (r : ℕ) → r ≡ get_or ws (at + j) 0 → AddReady ws r s o u
     naming_ready l r e = ready_root ws r (subst (λ (x : ℕ). x < length (records_of ws)) (sym e) (named.below j l)) s o u naming_walking
-
-    pub naming_done : count ≤ j → Walks ws (words_from at count ws) s₀ o₀ n s o u
-    naming_done l =
-        let e : j ≡ count = omega (arith, h.j_le) in
-        subst (λ (k : ℕ). Walks ws (words_from at k ws) s₀ o₀ n s o u) e h.walks
 
     pub naming_more : j < count → (r : ℕ) → r ≡ get_or ws (at + j) 0 → (s₁ o₁ : List ℕ) (u₁ : ℕ) → length o₁ ≡ length o
         → ((done : List ℕ) → Order ws done → GraphHolds ws done s o u → GraphHolds ws (visit (children_at (records_of ws)) (suc r) done r) s₁ o₁ u₁)
@@ -99,9 +87,6 @@ module _ {ws : List ℕ} {at count : ℕ} {s₀ o₀ : List ℕ} {n : ℕ} (p : 
   module _ {s o : List ℕ} {u from i : ℕ} (h : Rooting ws at count s₀ o₀ n s o u from i) where
     pub rooting_walking : AddWalking ws s o u
     rooting_walking = walking_after ws h.roots h.passed.below s₀ o₀ n s o u p h.out_length h.walks
-
-    pub rooting_length : length s ≡ length s₀
-    rooting_length = walking_length ws s o u rooting_walking ∙ sym (walking_length ws s₀ o₀ n p)
 
     pub rooting_done : count ≤ i → Walks ws (root_words ws at count) s₀ o₀ n s o u
     rooting_done l = subst (λ (xs : List ℕ). Walks ws xs s₀ o₀ n s o u) (passed_done (roots_at ws) ws at count from i h.roots h.passed l) h.walks

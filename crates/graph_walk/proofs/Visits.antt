@@ -25,7 +25,7 @@ use Rattle.records.proofs.Rooting.{visiting_none, visiting_one, visiting_both}
 use Rattle.records.proofs.Visited.{visiting_again, children_below, children_new, all_there, visits_seen, visits_new}
 use Rattle.nodes.proofs.States as states
 use Rattle.graph_walk.specs.Walking.{AddReady, Adding, AddWalking, State, Walks, child_of}
-use Rattle.graph_walk.proofs.Rooting.{walking_after, ready_root, walking_length}
+use Rattle.graph_walk.proofs.Rooting.{walking_after, ready_root}
 
 -- The first i children to which the loop goes.
 abbrev pub first_of : Record → (i : ℕ) → List ℕ
@@ -117,9 +117,6 @@ module _ {ws : List ℕ} {r : ℕ} {s₀ o₀ : List ℕ} {n : ℕ} (p : AddRead
 
     walking_now : AddWalking ws s o u
     walking_now = walking_after ws (first_of (node_in ws r) i) first_below s₀ o₀ n s o u walking h.out_length h.visits
-
-    pub scratch_kept : length s ≡ length s₀
-    scratch_kept = walking_length ws s o u walking_now ∙ sym (walking_length ws s₀ o₀ n walking)
 
     -- The next one.
     module _ {c : ℕ} (e : c ≡ child_of (node_in ws r) i) where

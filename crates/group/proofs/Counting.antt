@@ -104,11 +104,6 @@ module _ (v : List ℕ) (gs : List Tally) where
           go (inl e) = subst (λ (j : ℕ). before_vars (get_or gs j none).vars v ≡ true) (sym e) k
           go (inr e) = before_vars_trans (get_or gs i none).vars (get_or gs mid none).vars v (ascends_at gs i mid a e (omega (arith, b.1))) k
 
-  pub between_none : (low high : ℕ) → Between v gs low high → high ≤ low → Spot v gs (Missing low)
-  between_none low high b h =
-      let e : high ≡ low = omega (arith, b.0) in
-      (omega (arith, b.1), b.2, subst (λ (j : ℕ). (i : ℕ) → j ≤ i → i < length gs → before_vars v (get_or gs i none).vars ≡ true) e b.3)
-
 -- The tally of variables that are found, and of variables that are not.
 pub tally_there : (v : List ℕ) (gs : List Tally) (k : ℕ) → Ascends gs → k < length gs → (get_or gs k none).vars ≡ v
     → tally v gs ≡ set gs k (again (get_or gs k none))

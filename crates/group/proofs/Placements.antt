@@ -233,15 +233,6 @@ pub record Going (b : Bool) (n : ℕ) (P H₀ T₀ : List ℕ) (all : List Item)
   pub placing : (gs : List Tally) → (done : List Item) → Placing b gs n H₀ P T₀ done → RoomForTerms gs (done ++ all) → Placing b gs n H P T (done ++ front)
 
 module _ (b : Bool) (n : ℕ) (P H₀ T₀ : List ℕ) (all : List Item) where
-  pub going_start : (rest : List Item) → rest ≡ all → Going b n P H₀ T₀ all H₀ T₀ rest
-  going_start rest e = record {
-    long = refl;
-    terms_long = refl;
-    front = [];
-    whole = e;
-    placing = λ gs done x y. subst (λ (l : List Item). Placing b gs n H₀ P T₀ l) (sym (append-nil done)) x;
-  }
-
   module _ (H T : List ℕ) (rest here rest' : List Item) (e : rest ≡ here ++ rest') (g : Going b n P H₀ T₀ all H T rest) where
     next_items : (g.front ++ here) ++ rest' ≡ all
     next_items = append_assoc g.front here rest' ∙ ap (λ (l : List Item). g.front ++ l) (sym e) ∙ g.whole
@@ -284,15 +275,6 @@ pub record Listing (b : Bool) (n : ℕ) (P : List ℕ) (index field at count : �
   pub going : Going b n P H₀ T₀ (items_at index field (list_in P at count)) H T (items_at index field (list_in P place (count - i)))
 
 module _ {b : Bool} {n : ℕ} {P : List ℕ} {index field at count : ℕ} {H₀ T₀ : List ℕ} where
-  pub listing_start : Standing count P at → Listing b n P index field at count H₀ T₀ H₀ T₀ at 0
-  listing_start s =
-      let e : count - 0 ≡ count = omega arith in
-      record {
-        upto = omega arith;
-        standing = subst (λ (m : ℕ). Standing m P at) (sym e) s;
-        going = going_start b n P H₀ T₀ (items_at index field (list_in P at count)) _ (ap (λ (m : ℕ). items_at index field (list_in P at m)) e);
-      }
-
   module _ {H T : List ℕ} {place i : ℕ} (g : Listing b n P index field at count H₀ T₀ H T place i) (h : i < count) where
     next_list : items_at index field (list_in P place (count - i))
         ≡ items_at index field (read_monomial (drop place P) ∷ []) ++ items_at index field (list_in P (place + 2 + get_or P place 0) (count - (i + 1)))

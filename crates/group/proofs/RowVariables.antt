@@ -4,40 +4,11 @@ use mathlib.Core.List.{List, [], ◌∷◌, ◌++◌, flat_map, append_assoc, ap
 use Prim.Native.Nat.{ℕ, ◌+◌, ◌*◌, ◌-◌, ◌≤◌, ◌<◌}
 use native.Mathlib.Numerals.{add-one}
 use native.Mathlib.Omega.{arith}
-use lib.ListN.{length, get_or, take, drop, length-append, length-drop, take-append-drop, drop_of_length-le}
+use lib.ListN.{length, get_or, take, drop, length-append, length-drop, take-append-drop}
 use lib.Seq.{drop-drop, take_all, take_at, take-suc, drop-append-add, length-take-le}
 use Rattle.slices.proofs.Lists.{flat_append}
 use Rattle.group.specs.Grouped.{Tally, tallied, none, Rows, vars_in}
 use Rattle.group.proofs.Headers.{vars_at_lem, inside_at}
-
--- A part of the pool copied into the tail of a slice.
-pub copied_part : (U P Y : List ℕ) (at from count : ℕ) → from + count ≤ length P → at + count ≤ length U
-    → Y ≡ take (length (take (length U - at) (drop at U))) (take (from + count - from) (drop from P))
-    ++ drop (length (take (from + count - from) (drop from P))) (take (length U - at) (drop at U))
-    → take at U ++ (Y ++ drop (length U - at) (drop at U)) ≡ take at U ++ (take count (drop from P) ++ drop (at + count) U)
-copied_part U P Y at from count h l e =
-    let d : length (drop at U) ≡ length U - at = length-drop at U in
-    let c : from + count - from ≡ count = omega arith in
-    let L : List ℕ = take count (drop from P) in
-    let f : length (drop from P) ≡ length P - from = length-drop from P in
-    let k : length L ≡ count = length-take-le count (drop from P) (omega arith) in
-    let a : take (length U - at) (drop at U) ≡ drop at U = take_all (length U - at) (drop at U) (omega arith) in
-    let z : drop (length U - at) (drop at U) ≡ [] = drop_of_length-le (drop at U) {i = length U - at} (omega arith) in
-    let y : Y ≡ L ++ drop (at + count) U =
-    e ∙ ap (λ (x : List ℕ). take (length x) (take (from + count - from) (drop from P)) ++ drop (length (take (from + count - from) (drop from P))) x) a
-    ∙ ap (λ (x : ℕ). take (length (drop at U)) (take x (drop from P)) ++ drop (length (take x (drop from P))) (drop at U)) c
-    ∙ ap (λ (x : List ℕ). x ++ drop (length L) (drop at U)) (take_all (length (drop at U)) L (omega arith))
-    ∙ ap (λ (x : ℕ). L ++ drop x (drop at U)) k ∙ ap (λ (x : List ℕ). L ++ x) (drop-drop count at U) in
-    ap (λ (x : List ℕ). take at U ++ (Y ++ x)) z ∙ ap (λ (x : List ℕ). take at U ++ x) (append-nil Y ∙ y)
-
-pub copied_row : (U P Y : List ℕ) (at x x' y y' : ℕ) → x ≡ x' → y ≡ y' → x' + 2 + y' ≤ length P → at + y' ≤ length U
-    → Y ≡ take (length (take (length U - at) (drop at U))) (take (x + 2 + y - (x + 2)) (drop (x + 2) P))
-    ++ drop (length (take (x + 2 + y - (x + 2)) (drop (x + 2) P))) (take (length U - at) (drop at U))
-    → take at U ++ (Y ++ drop (length U - at) (drop at U)) ≡ take at U ++ (take y' (drop (x' + 2) P) ++ drop (at + y') U)
-copied_row U P Y at x x' y y' e f h l q =
-    copied_part U P Y at (x + 2) y (omega arith) (omega arith) q
-    ∙ ap (λ (i : ℕ). take at U ++ (take y (drop (i + 2) P) ++ drop (at + y) U)) e
-    ∙ ap (λ (i : ℕ). take at U ++ (take i (drop (x' + 2) P) ++ drop (at + i) U)) f
 
 pub vars_cons : (g : Tally) (gs : List Tally) → vars_in (g ∷ gs) ≡ g.vars ++ vars_in gs
 unfolding vars_in flat_map

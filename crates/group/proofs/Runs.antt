@@ -6,7 +6,7 @@ use native.Mathlib.Omega.{arith}
 use lib.ListN.{length, get_or, take, drop}
 use Rattle.monomial.specs.Words.{read_monomial, list_in}
 use Rattle.group.specs.declared.Tallied.TheVariants.{Headers, Full}
-use Rattle.group.specs.declared.pending.Next.TheVariants.{Taken, Stopped}
+use Rattle.group.specs.declared.pending.Next.TheVariants.{Taken}
 use Rattle.group.specs.declared.pending.Run.{Run}
 use Rattle.group.specs.Grouped.{Tally, tally_all, tallied_total, tallied, Rows, CountedMore, non_zero, Standing}
 use Rattle.group.specs.Waiting.{PlaceInside, pool_vars, Batch, batched, Nexts, Ran}
@@ -84,33 +84,6 @@ module _ {n : ℕ} {P : List ℕ} {at count : ℕ} {H₀ pl₀ fr₀ H pl fr : L
             ∙ left_next count i place P (batched n b H P pl) h ∙ g.left;
       }
 
-  -- The run ends before the list does, or with it.
-  pub run_stop : (H' pl' fr' : List ℕ) → Nexts n b (non_zero (read_monomial (drop place P) ∷ [])) (batched n b H P pl) H' P pl' fr' Stopped
-      → Ran n P at count (tallied n H₀ P) H' pl' fr' (record { done = i; place = place; pending = b })
-  run_stop H' pl' fr' k =
-      let f = g.few in
-      let l = k.0 in
-      let q = g.grown in
-      let e = ap tallied_total k.2 in
-      record {
-        some = λ _. omega arith;
-        upto = g.upto;
-        batch = k.1;
-        standing = g.standing;
-        grown = omega arith;
-        left = ap (tally_all (non_zero (list_in P place (count - i)))) k.2 ∙ g.left;
-      }
-
-  pub run_done : count ≤ i → Ran n P at count (tallied n H₀ P) H pl fr (record { done = i; place = place; pending = b })
-  run_done h = record {
-    some = λ l. omega arith;
-    upto = g.upto;
-    batch = g.batch;
-    standing = g.standing;
-    grown = g.grown;
-    left = g.left;
-  }
-
 -- Between runs: i monomials are counted.
 pub record Tallying (H₀ : List ℕ) (n : ℕ) (P : List ℕ) (at count : ℕ) (H : List ℕ) (rows place i : ℕ) : Type 0 where
   pub upto : i ≤ count
@@ -119,19 +92,6 @@ pub record Tallying (H₀ : List ℕ) (n : ℕ) (P : List ℕ) (at count : ℕ) 
   pub small : tallied_total (tallied rows H P) + (count - i) ≤ 4294967295
   pub long : length H ≡ length H₀
   pub left : tally_all (non_zero (list_in P place (count - i))) (tallied rows H P) ≡ tally_all (non_zero (list_in P at count)) (tallied n H₀ P)
-
-pub tallying_start : (H : List ℕ) (n : ℕ) (P : List ℕ) (at count : ℕ) → Rows n H P → Standing count P at
-    → tallied_total (tallied n H P) + count ≤ 4294967295 → Tallying H n P at count H n at 0
-tallying_start H n P at count r s t =
-    let e : count - 0 ≡ count = omega arith in
-    record {
-      upto = omega arith;
-      rows_are = r;
-      standing = subst (λ (m : ℕ). Standing m P at) (sym e) s;
-      small = omega arith;
-      long = refl;
-      left = ap (λ (m : ℕ). tally_all (non_zero (list_in P at m)) (tallied n H P)) e;
-    }
 
 module _ {H₀ : List ℕ} {n : ℕ} {P : List ℕ} {at count : ℕ} {H : List ℕ} {rows place i : ℕ} (g : Tallying H₀ n P at count H rows place i) where
   -- A run, and those that waited put in.
@@ -145,27 +105,6 @@ module _ {H₀ : List ℕ} {n : ℕ} {P : List ℕ} {at count : ℕ} {H : List �
     whole : tally_all rest gs ≡ tally_all (non_zero (list_in P at count)) (tallied n H₀ P)
     unfolding gs rest
     whole = a.left ∙ g.left
-
-    pub tallying_step : (k : ℕ) → length H' ≡ length H → CountedMore H' P (batched rows r.pending H₁ P pl) (Headers k)
-        → Tallying H₀ n P at count H' k r.place (i + r.done)
-    unfolding gs rest
-    tallying_step k z c =
-        let d : count - i - r.done ≡ count - (i + r.done) = omega arith in
-        let u = a.upto in
-        let v = g.upto in
-        let s = g.small in
-        let q = a.grown in
-        let t = ap tallied_total c.1 in
-        record {
-          upto = omega arith;
-          rows_are = c.0;
-          standing = subst (λ (m : ℕ). Standing m P r.place) d a.standing;
-          small = omega arith;
-          long = z ∙ g.long;
-          left =
-              ap (λ (m : ℕ). tally_all (non_zero (list_in P r.place m)) (tallied k H' P)) (sym d)
-              ∙ ap (tally_all rest) c.1 ∙ whole;
-        }
 
     pub tallying_full : CountedMore H' P (batched rows r.pending H₁ P pl) Full → CountedMore H' P (tally_all (non_zero (list_in P at count)) (tallied n H₀ P)) Full
     unfolding gs rest

@@ -2,7 +2,6 @@
 #![tactic(auto)]
 
 ghost use Rattle.std.specs.Prelude.{◌+◌, ◌≤◌, length};
-ghost use Rattle.slices.specs.Lent.{old, new};
 ghost use Rattle.monomial.specs.Words.{list_in};
 ghost use Rattle.group.specs.Grouped.{Rows, tallied, tally_all, tallied_total, CountedMore, non_zero, ToCount, list_of, InPool};
 

@@ -1,7 +1,6 @@
 // Monomials that have no row yet: they wait, in ascending order, until a run ends, and are then put in among the rows together.
 ghost use Rattle.std.specs.Prelude.{◌≡◌, [], ◌∷◌, ℕ, ◌+◌, ◌*◌, ◌-◌, ◌≤◌, ◌<◌, length, get_or};
 ghost use Rattle.std.proofs.lemmas.List.Edits.{sets};
-ghost use Rattle.slices.specs.Lent.{old, new};
 ghost use Rattle.group.specs.Grouped.{tallied, tallied_total, CountedMore, non_zero, monomial_in, ToCount};
 ghost use Rattle.group.specs.Waiting.{PlaceInside, pool_vars, Batch, batched, MayFollow, Nexts, Ran};
 

@@ -1,7 +1,6 @@
 // Placing the terms of monomials into their groups, and writing the groups' variables.
 ghost use Rattle.std.specs.Prelude.{◌≡◌, [], ◌∷◌, ◌++◌, ◌+◌, ◌*◌, ◌≤◌, ◌<◌, length, get_or, take, drop};
 ghost use Rattle.std.proofs.lemmas.List.Edits.{sets};
-ghost use Rattle.slices.specs.Lent.{old, new};
 ghost use Rattle.semantics.specs.Group.{Item};
 ghost use Rattle.monomial.specs.Words.{list_in};
 ghost use Rattle.group.specs.Grouped.{Rows, tallied, row_place, row_size, row_vars, monomial_in, MonomialInside, Standing};

@@ -1,6 +1,5 @@
 // Where the variables of a monomial in the pool stand among the rows.
 ghost use Rattle.std.specs.Prelude.{◌≡◌, ◌+◌, ◌*◌, ◌≤◌, ◌<◌, length};
-ghost use Rattle.slices.specs.Lent.{old};
 ghost use Rattle.monomial.specs.Orders.{order_of};
 ghost use Rattle.group.specs.Grouped.{Rows, tallied, row_place, row_size, row_vars, Spot, Between, MonomialInside};
 ghost use Rattle.group.specs.Waiting.{pool_vars};

@@ -1,6 +1,5 @@
 // Totals over the rows of the headers.
 ghost use Rattle.std.specs.Prelude.{◌≡◌, ◌+◌, ◌*◌, ◌≤◌, ◌<◌, length, drop};
-ghost use Rattle.slices.specs.Lent.{old, new};
 ghost use Rattle.slices.specs.Rows.{rows};
 ghost use Rattle.group.specs.Grouped.{column, sum, totalled};
 

@@ -214,14 +214,6 @@ pub zeros_again : (T : List ℕ) (k : ℕ) → T ≡ replicate k 0 → T ≡ zer
 unfolding zeros
 zeros_again T k e = e ∙ ap (λ (n : ℕ). replicate n 0) (sym (ap length e ∙ length-replicate {A = ℕ} k 0))
 
--- A product by a width stays small.
-pub width_small : (w t : ℕ) → w ≤ 3 → t ≤ 16777216 → w * t ≤ 50331648
-width_small zero t h l = omega arith
-width_small (suc zero) t h l = omega arith
-width_small (suc (suc zero)) t h l = omega arith
-width_small (suc (suc (suc zero))) t h l = omega arith
-width_small (suc (suc (suc (suc w)))) t h l = absurd (omega arith)
-
 -- Words that were written to the front of a slice.
 pub written_starts : (ws s s' : List ℕ) → length ws ≤ length s → length s' ≡ length s → s' ≡ ws ++ drop (length ws) s
     → (length ws ≤ length s') × (take (length ws) s' ≡ ws)

@@ -1,5 +1,5 @@
 -- Counting the lists of records that words name: what is left to count gives the whole.
-use mathlib.Core.Path.{◌≡◌, refl, sym, ap, subst, ◌∙◌}
+use mathlib.Core.Path.{◌≡◌, sym, ap, subst, ◌∙◌}
 use mathlib.Core.List.{List, [], ◌∷◌, ◌++◌, flat_map, append-nil}
 use Prim.Native.Nat.{ℕ, suc, ◌+◌, ◌*◌, ◌-◌, ◌≤◌, ◌<◌}
 use native.Mathlib.Omega.{arith}
@@ -13,7 +13,7 @@ use Rattle.records.specs.Access.{words_from, each_words, RootsInside, AllRootsIn
 use Rattle.records.proofs.Takings.{Taken, taken_words, taken_references}
 use Rattle.group.specs.declared.Tallied.{Tallied}
 use Rattle.group.specs.declared.Tallied.TheVariants.{Headers, Full}
-use Rattle.group.specs.Grouped.{tally_all, tallied_total, tallied, Rows, CountedMore, non_zero, list_of, InPool, vars_named}
+use Rattle.group.specs.Grouped.{tally_all, tallied_total, tallied, CountedMore, non_zero, list_of, InPool, vars_named}
 use Rattle.grouping.specs.Families.{ToTally, interaction_in}
 use Rattle.group.proofs.Tallies.{tally_all_append, tally_all_grows, total_all}
 use Rattle.group.proofs.PoolLists.{non_zero_length}
@@ -28,12 +28,6 @@ part_next ws at count j h l =
     ∙ ap (take (suc (count - (j + 1)))) (drop-cons ws (at + j) 0 (omega arith))
     ∙ ap (λ (n : ℕ). get_or ws (at + j) 0 ∷ take (count - (j + 1)) (drop n ws)) e
 
-pub part_first : (ws : List ℕ) (at count : ℕ) → words_from (at + 0) (count - 0) ws ≡ words_from at count ws
-part_first ws at count =
-    let a : at + 0 ≡ at = omega arith in
-    let b : count - 0 ≡ count = omega arith in
-    λ i. words_from (a i) (b i) ws
-
 pub part_one : (ws : List ℕ) (at : ℕ) → at < length ws → words_from at 1 ws ≡ get_or ws at 0 ∷ []
 part_one ws at h = ap (take 1) (drop-cons ws at 0 h)
 
@@ -44,11 +38,6 @@ part_end ws at count j h = let z : count - j ≡ 0 = omega arith in ap (λ (n : 
 pub record Rest (ws : List ℕ) (count from i : ℕ) : Type 0 where
   pub upto : i ≤ count
   pub inside : AllRootsInside ws from (count - i)
-
-pub rest_start : {ws : List ℕ} {at count : ℕ} → AllRootsInside ws at count → Rest ws count at 0
-rest_start {ws} {at} {count} h =
-    let b : count - 0 ≡ count = omega arith in
-    record { upto = omega arith; inside = subst (AllRootsInside ws at) (sym b) h }
 
 module _ {ws : List ℕ} {count from i : ℕ} (g : Rest ws count from i) (h : i < count) where
   now : AllRootsInside ws from (suc (count - (i + 1)))
@@ -70,9 +59,6 @@ unfolding each_words
 each_next one ws from count i from' h e =
     let k : count - i ≡ suc (count - (i + 1)) = omega arith in
     ap (each_words one ws from) k ∙ ap (λ (a : ℕ). one from ++ each_words one ws a (count - (i + 1))) (sym e)
-
-pub each_first : (one : ℕ → List ℕ) (ws : List ℕ) (at count : ℕ) → each_words one ws at (count - 0) ≡ each_words one ws at count
-each_first one ws at count = let b : count - 0 ≡ count = omega arith in ap (each_words one ws at) b
 
 pub each_end : (one : ℕ → List ℕ) (ws : List ℕ) (from count i : ℕ) → count ≤ i → each_words one ws from (count - i) ≡ []
 unfolding each_words
@@ -102,9 +88,6 @@ pub record NamesLeft (H₀ : List ℕ) (n : ℕ) (P references H : List ℕ) (ro
   pub ready : ToTally rows H P left
   pub long : length H ≡ length H₀
   pub same : tally_all (vars_named P left) (tallied rows H P) ≡ tally_all (vars_named P references) (tallied n H₀ P)
-
-pub references_start : {H : List ℕ} {n : ℕ} {P references left : List ℕ} → ToTally n H P references → left ≡ references → NamesLeft H n P references H n left
-references_start {H} {n} {P} {references} t e = subst (NamesLeft H n P references H n) (sym e) (record { ready = t; long = refl; same = refl })
 
 module _ {H₀ : List ℕ} {n : ℕ} {P references H : List ℕ} {rows : ℕ} {left : List ℕ} (g : NamesLeft H₀ n P references H rows left) where
   pub references_done : left ≡ [] → CountedMore H P (tally_all (vars_named P references) (tallied n H₀ P)) (Headers rows)
@@ -155,9 +138,6 @@ pub record NamesAt (ws : List ℕ) (at count : ℕ) (H₀ : List ℕ) (n : ℕ) 
   pub upto : j ≤ count
   pub left : NamesLeft H₀ n P (words_from at count ws) H rows (words_from (at + j) (count - j) ws)
 
-pub at_start : {ws : List ℕ} {at count : ℕ} {H : List ℕ} {n : ℕ} {P : List ℕ} → ToTally n H P (words_from at count ws) → NamesAt ws at count H n P H n 0
-at_start {ws} {at} {count} t = record { upto = omega arith; left = references_start t (part_first ws at count) }
-
 module _ {ws : List ℕ} {at count : ℕ} {H₀ : List ℕ} {n : ℕ} {P H : List ℕ} {rows j : ℕ} (g : NamesAt ws at count H₀ n P H rows j) where
   pub at_done : count ≤ j → CountedMore H P (tally_all (vars_named P (words_from at count ws)) (tallied n H₀ P)) (Headers rows)
   at_done h = references_done g.left (part_end ws at count j h)
@@ -168,13 +148,6 @@ module _ {ws : List ℕ} {at count : ℕ} {H₀ : List ℕ} {n : ℕ} {P H : Lis
 
     next_is : words_from (at + j) (count - j) ws ≡ (r ∷ []) ++ rest
     next_is = part_next ws at count j h l ∙ ap (λ (x : ℕ). x ∷ rest) (sym e)
-
-    pub at_ready : Rows rows H P × InPool P r × (tallied_total (tallied rows H P) + length (list_of P r) ≤ 4294967295)
-    at_ready =
-        let t = references_next g.left (r ∷ []) rest next_is in
-        let s = t.small in
-        let f = t.lists.0.few in
-        (t.rows_are, t.lists.0, omega arith)
 
     module _ (H' : List ℕ) (u : Tallied) (c : CountedMore H' P (tally_all (non_zero (list_of P r)) (tallied rows H P)) u) where
       named : CountedMore H' P (tally_all (vars_named P (r ∷ [])) (tallied rows H P)) u
@@ -190,10 +163,6 @@ module _ {ws : List ℕ} {at count : ℕ} {H₀ : List ℕ} {n : ℕ} {P H : Lis
 pub record EachAt (one : ℕ → List ℕ) (ws : List ℕ) (at count : ℕ) (H₀ : List ℕ) (n : ℕ) (P H : List ℕ) (rows from i : ℕ) : Type 0 where
   pub rest : Rest ws count from i
   pub left : NamesLeft H₀ n P (each_words one ws at count) H rows (each_words one ws from (count - i))
-
-pub each_start : {one : ℕ → List ℕ} {ws : List ℕ} {at count : ℕ} {H : List ℕ} {n : ℕ} {P : List ℕ}
-    → AllRootsInside ws at count → ToTally n H P (each_words one ws at count) → EachAt one ws at count H n P H n at 0
-each_start {one} {ws} {at} {count} h t = record { rest = rest_start h; left = references_start t (each_first one ws at count) }
 
 module _ {one : ℕ → List ℕ} {ws : List ℕ} {at count : ℕ} {H₀ : List ℕ} {n : ℕ} {P H : List ℕ} {rows from i : ℕ} (g : EachAt one ws at count H₀ n P H rows from i) where
   pub each_done : count ≤ i → CountedMore H P (tally_all (vars_named P (each_words one ws at count)) (tallied n H₀ P)) (Headers rows)

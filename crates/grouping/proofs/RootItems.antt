@@ -19,7 +19,6 @@ use Rattle.records.specs.declared.Interaction as places
 use Rattle.records.specs.Access.{constraints_at, interactions_at, words_from, count_list_at, fields_at, count_words, field_words, RootsInside, AllRootsInside}
 use Rattle.records.proofs.Reading.{count_word, message_is, next_stands, first_stands, counts_small, constraints_are, constraints_inside, interactions_stand}
 use Rattle.records.proofs.Reading.{interactions_inside, counts_are, fields_are}
-use Rattle.records.proofs.Steps.{inside}
 use Rattle.semantics.proofs.Demands as demands
 use Rattle.group.specs.Grouped.{RoomForTerms, list_of, InPool, items_at, Placing, ToPlace, Places, vars_named}
 use Rattle.grouping.specs.declared.families.Family.{Family}
@@ -29,7 +28,7 @@ use Rattle.group.proofs.Tallies.{vars_of}
 use Rattle.group.proofs.Placements.{room_front}
 use Rattle.group.proofs.PoolLists.{items_vars}
 use Rattle.grouping.proofs.Finished.{items_label}
-use Rattle.grouping.proofs.NamedLists.{part_next, part_first, part_one, part_end, Rest, rest_start, rest_next, rest_more}
+use Rattle.grouping.proofs.NamedLists.{part_next, part_one, part_end, Rest, rest_next, rest_more}
 use Rattle.records.proofs.Takings.{Taken, count_taken, fields_taken, taken_words, taken_references}
 
 module _ (list : ℕ → List Monomial) where
@@ -49,10 +48,6 @@ items_named P (r ∷ rs) =
     map-append (λ (t : Item). t.vars) (items_of r (list_of P r.node)) (items (list_of P) rs)
     ∙ (λ i. items_vars r (list_of P r.node) i ++ items_named P rs i)
 
--- One list of items after another.
-pub places_none : (b : Bool) (n : ℕ) (P H T : List ℕ) → Places b n P H T H T []
-places_none b n P H T gs done p r = subst (Placing b gs n H P T) (sym (append-nil done)) p
-
 pub places_both : (b : Bool) (n : ℕ) (P H T H' T' H'' T'' : List ℕ) (ts us : List Item) → Places b n P H T H' T' ts → Places b n P H' T' H'' T'' us
     → Places b n P H T H'' T'' (ts ++ us)
 places_both b n P H T H' T' H'' T'' ts us f g gs done p r =
@@ -68,11 +63,6 @@ pub record RootsLeft (b : Bool) (n : ℕ) (P H₀ T₀ : List ℕ) (roots : List
   pub whole : passed ++ items (list_of P) left ≡ items (list_of P) roots
   pub headers_long : length H ≡ length H₀
   pub terms_long_lem : length T ≡ length T₀
-
-pub roots_start : {b : Bool} {n : ℕ} {P H T : List ℕ} {roots left : List Root} → ToPlaceRoots b n H P T roots → left ≡ roots → RootsLeft b n P H T roots H T left
-roots_start {b} {n} {P} {H} {T} {roots} t e =
-    subst (RootsLeft b n P H T roots H T) (sym e)
-    (record { ready = t; passed = []; places = places_none b n P H T; whole = refl; headers_long = refl; terms_long_lem = refl })
 
 module _ {b : Bool} {n : ℕ} {P H₀ T₀ : List ℕ} {roots : List Root} {H T : List ℕ} {left : List Root} (g : RootsLeft b n P H₀ T₀ roots H T left) where
   pub roots_done : left ≡ [] → Places b n P H₀ T₀ H T (items (list_of P) roots)
@@ -129,13 +119,6 @@ module _ {b : Bool} {n : ℕ} {P H₀ T₀ : List ℕ} {roots : List Root} {H T 
 pub record RootsAt (f : ℕ → ℕ → Root) (b : Bool) (ws : List ℕ) (at count n : ℕ) (P H₀ T₀ H T : List ℕ) (j : ℕ) : Type 0 where
   pub upto : j ≤ count
   pub left : RootsLeft b n P H₀ T₀ (labelled (λ i c. f i c ∷ []) 0 (words_from at count ws)) H T (labelled (λ i c. f i c ∷ []) j (words_from (at + j) (count - j) ws))
-
-pub roots_at_start : {f : ℕ → ℕ → Root} {b : Bool} {ws : List ℕ} {at count n : ℕ} {P H T : List ℕ}
-    → ToPlaceRoots b n H P T (labelled (λ i c. f i c ∷ []) 0 (words_from at count ws)) → RootsAt f b ws at count n P H T H T 0
-roots_at_start {f} {b} {ws} {at} {count} t = record {
-  upto = omega arith;
-  left = roots_start t (ap (labelled (λ i c. f i c ∷ []) 0) (part_first ws at count));
-}
 
 module _ {f : ℕ → ℕ → Root} {b : Bool} {ws : List ℕ} {at count n : ℕ} {P H₀ T₀ H T : List ℕ} {j : ℕ} (g : RootsAt f b ws at count n P H₀ T₀ H T j) where
   abbrev roots_from : ℕ → List ℕ → List Root
@@ -194,12 +177,6 @@ field_roots_taken ws = record { references = fields_at ws; taken = fields_taken 
 pub record EachRoots (one : ℕ → ℕ → List Root) (b : Bool) (ws : List ℕ) (at count n : ℕ) (P H₀ T₀ H T : List ℕ) (from i : ℕ) : Type 0 where
   pub rest : Rest ws count from i
   pub left : RootsLeft b n P H₀ T₀ (each_roots one ws 0 at count) H T (each_roots one ws i from (count - i))
-
-pub each_roots_start : {one : ℕ → ℕ → List Root} {b : Bool} {ws : List ℕ} {at count n : ℕ} {P H T : List ℕ}
-    → AllRootsInside ws at count → ToPlaceRoots b n H P T (each_roots one ws 0 at count) → EachRoots one b ws at count n P H T H T at 0
-each_roots_start {one} {b} {ws} {at} {count} h t =
-    let z : count - 0 ≡ count = omega arith in
-    record { rest = rest_start h; left = roots_start t (ap (each_roots one ws 0 at) z) }
 
 module _ {one : ℕ → ℕ → List Root} {b : Bool} {ws : List ℕ} {at count n : ℕ} {P H₀ T₀ H T : List ℕ} {from i : ℕ}
     (g : EachRoots one b ws at count n P H₀ T₀ H T from i) where

@@ -2,7 +2,6 @@
 #![tactic(auto)]
 
 ghost use Rattle.std.specs.Prelude.{◌*◌, ◌≤◌, length};
-ghost use Rattle.slices.specs.Lent.{old, new};
 ghost use Rattle.semantics.specs.Check.{read_sheet};
 ghost use Rattle.semantics.specs.Group.{constraint_roots, count_roots, field_roots, constraint_term, interaction_term};
 ghost use Rattle.group.specs.Grouped.{tallied, Rows, column, sum, term_of, vars_in, tallied_headers};

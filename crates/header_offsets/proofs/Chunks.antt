@@ -3,7 +3,7 @@ use mathlib.Core.Path.{◌≡◌, refl, sym, ap, ◌∙◌}
 use mathlib.Core.List.{List, ◌++◌, append_assoc}
 use Prim.Native.Nat.{ℕ, ◌+◌, ◌*◌, ◌-◌, ◌≤◌, ◌<◌, ◌^◌, min}
 use native.Mathlib.Omega.{arith}
-use lib.ListN.{length, get_or, take, drop, replicate, length-append, length-drop}
+use lib.ListN.{length, get_or, take, drop, replicate}
 use lib.Seq.{take_at, drop_at, drop-drop}
 use Rattle.header_offsets.specs.declared.MonomialHeader.{MonomialHeader}
 use Rattle.header_offsets.specs.Headers.{num_vars_of, num_terms_of, column_total, with_offsets, no_header, headers_in, header_words, filled_words}
@@ -17,10 +17,6 @@ front i ws = header_words (with_offsets 0 0 (headers_in i ws))
 front_length : (i : ℕ) (ws : List ℕ) → length (front i ws) ≡ 4 * i
 front_length i ws =
     words_length (with_offsets 0 0 (headers_in i ws)) ∙ ap (λ (n : ℕ). 4 * n) (offsets_length 0 0 (headers_in i ws) ∙ in_length i ws)
-
-pub filled_length : (n : ℕ) (ws : List ℕ) → 4 * n ≤ length ws → length (filled_words n ws) ≡ length ws
-unfolding filled_words
-filled_length n ws h = length-append (front n ws) (drop (4 * n) ws) ∙ omega (arith, front_length n ws, length-drop (4 * n) ws)
 
 pub filled_front : (n : ℕ) (ws : List ℕ) → take (4 * n) (filled_words n ws) ≡ header_words (with_offsets 0 0 (headers_in n ws))
 unfolding filled_words
@@ -40,10 +36,6 @@ pub record Filled (ws₀ : List ℕ) (n : ℕ) (ws : List ℕ) (vars terms i : �
 pub filled_none : (ws : List ℕ) (n : ℕ) → Filled ws n ws 0 0 0
 unfolding filled_words headers_in with_offsets header_words column_total
 filled_none ws n = record { upto = omega arith; words_are = refl; vars_are = refl; terms_are = refl }
-
-pub filled_long : {ws₀ : List ℕ} {n : ℕ} {ws : List ℕ} {vars terms i : ℕ} → Filled ws₀ n ws vars terms i → 4 * n ≤ length ws₀
-    → length ws ≡ length ws₀
-filled_long {ws₀} {i = i} g l = let u = g.upto in ap length g.words_are ∙ filled_length i ws₀ (omega arith)
 
 total_in : (number : MonomialHeader → ℕ) (i k : ℕ) (ws : List ℕ)
     → column_total number (headers_in (i + k) ws) ≡ column_total number (headers_in i ws) + column_total number (headers_in k (drop (4 * i) ws))
@@ -136,6 +128,3 @@ module _ {ws₀ : List ℕ} {n : ℕ} {ws : List ℕ} {vars terms i : ℕ} (g : 
     pub filled_next : {ws' : List ℕ} → ws' ≡ take (4 * i) ws ++ (header_words (take k filled) ++ drop (4 * i + 4 * k) ws)
         → Filled ws₀ n ws' (last.var_offset + num_vars_of last) (last.term_offset + num_terms_of last) (i + k)
     filled_next w = record { upto = upto_next; words_are = words_next w; vars_are = vars_next; terms_are = terms_next }
-
-pub filled_all : {ws₀ : List ℕ} {n : ℕ} {ws : List ℕ} {vars terms i : ℕ} → Filled ws₀ n ws vars terms i → n ≤ i → ws ≡ filled_words n ws₀
-filled_all {ws₀} {n} {i = i} g l = let e : i ≡ n = let u = g.upto in omega arith in g.words_are ∙ ap (λ (k : ℕ). filled_words k ws₀) e

@@ -1,7 +1,7 @@
 -- A pass over headers, one turn after another: those before i have their offsets.
-use mathlib.Core.Path.{◌≡◌, refl, sym, ap, ◌∙◌}
+use mathlib.Core.Path.{◌≡◌, sym, ap, ◌∙◌}
 use mathlib.Core.List.{List, [], ◌∷◌, ◌++◌, append_assoc, append-nil}
-use Prim.Native.Nat.{zero-le, ℕ, suc, ◌+◌, ◌≤◌, ◌<◌, ◌^◌}
+use Prim.Native.Nat.{ℕ, suc, ◌+◌, ◌≤◌, ◌<◌, ◌^◌}
 use native.Mathlib.Numerals.{add-one}
 use native.Mathlib.Omega.{arith}
 use lib.ListN.{length, get_or, set, take, drop, length-set, drop_of_length-le}
@@ -40,9 +40,6 @@ unfolding column_total
 total_from number ys i h = ap (column_total number) (drop-cons ys i no_header h)
 
 module _ (hs : List MonomialHeader) (v t : ℕ) where
-  abbrev pub start : v + column_total num_vars_of hs ≤ 4294967295 → t + column_total num_terms_of hs ≤ 4294967295 → Filling hs v t
-  start a b = record { i = 0; ys = hs; vars = v; terms = t; inside = zero-le; len = refl; whole = refl; vars_fit = a; terms_fit = b }
-
   -- Header i, and the same at its offsets.
   abbrev pub here : Filling hs v t → MonomialHeader
   here g = get_or g.ys g.i no_header

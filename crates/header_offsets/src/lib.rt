@@ -2,7 +2,6 @@
 #![tactic(auto)]
 
 ghost use Rattle.std.specs.Prelude.{◌≡◌, ◌+◌, ◌≤◌};
-ghost use Rattle.slices.specs.Lent.{old, new};
 ghost use Rattle.header_offsets.specs.Headers.{num_vars_of, num_terms_of, column_total, with_offsets};
 
 pub mod words;

@@ -1,5 +1,5 @@
 -- The largest message length, from the words.
-use mathlib.Core.Path.{◌≡◌, refl, sym, ap, subst, ◌∙◌}
+use mathlib.Core.Path.{◌≡◌, refl, sym, subst, ◌∙◌}
 use mathlib.Core.List.{List, [], ◌∷◌, ◌++◌, foldr, flat_map}
 use Prim.Native.Nat.{ℕ, suc, ◌+◌, ◌-◌, ◌≤◌, ◌<◌, max}
 use native.Mathlib.Omega.{arith}
@@ -38,15 +38,6 @@ pub record Looking (ws : List ℕ) (at count : ℕ) (most from i : ℕ) : Type 0
   pub whole : max most (longest_from ws from (count - i)) ≡ longest_from ws at count
 
 module _ {ws : List ℕ} {at count : ℕ} where
-  pub looking_none : AllRootsInside ws at count → Looking ws at count 0 at 0
-  looking_none h =
-      let all : count - 0 ≡ count = omega arith in
-      record {
-        i_le = omega arith;
-        left = subst (AllRootsInside ws at) (sym all) h;
-        whole = ap (λ (n : ℕ). max 0 (longest_from ws at n)) all ∙ omega arith;
-      }
-
   module _ {most from i : ℕ} (h : Looking ws at count most from i) where
     pub looking_done : count ≤ i → most ≡ longest_from ws at count
     unfolding longest_from
@@ -62,9 +53,6 @@ module _ {ws : List ℕ} {at count : ℕ} where
 
       now : RootsInside ws from × AllRootsInside ws (from + (4 + message_length ws from)) (count - (i + 1))
       now = subst (AllRootsInside ws from) more h.left
-
-      pub looking_at : RootsInside ws from
-      looking_at = now.0
 
       pub looking_more : (most' from' : ℕ) → most' ≡ max most (message_length ws from) → from' ≡ from + (4 + message_length ws from)
           → Looking ws at count most' from' (i + 1)

@@ -2,7 +2,6 @@
 #![tactic(auto)]
 
 ghost use Rattle.std.specs.Prelude.{◌≡◌, [], ◌∷◌, ◌++◌, ℕ, ◌*◌, ◌≤◌, length};
-ghost use Rattle.slices.specs.Lent.{old, new};
 ghost use Rattle.semantics.specs.Check.{read_sheet};
 ghost use Rattle.semantics.specs.Walk.{order};
 ghost use Rattle.semantics.specs.Group.{count_roots, field_roots};

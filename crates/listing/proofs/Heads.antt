@@ -3,30 +3,14 @@ use mathlib.Core.Path.{◌≡◌, refl, sym, ap, ◌∙◌}
 use mathlib.Core.List.{List, [], ◌∷◌, ◌++◌, map, flat_map}
 use Prim.Native.Nat.{ℕ, ◌+◌, ◌*◌, ◌/◌, ◌≤◌, ◌<◌}
 use native.Mathlib.Omega.{arith}
-use native.Mathlib.Nat.{mul-le-mul}
 use lib.ListN.{length, get_or, take, drop}
-use mir.Syntax.{w64}
-use mir.Val.{Fits}
 use Rattle.slices.specs.Rows.{rows}
 use Rattle.semantics.specs.Group.{listed_at, listed}
 use Rattle.semantics.specs.Sheetlist.{header_lines}
 use Rattle.listing.specs.declared.headers.Family.{Family}
-use Rattle.listing.specs.declared.headers.Family.TheVariants.{Constraints, Numerators, Denominators}
 use Rattle.listing.specs.Families.{letter_of, width_of, line_of, header_line, header_text, family_lines, HeaderInside}
 use Rattle.listing.proofs.Pieces.{word_first, word_at}
 use Rattle.listing.proofs.Rows.{row_lines}
-
--- A term has at most three words.
-width_small : (family : Family) → width_of family ≤ 3
-width_small Constraints = omega arith
-width_small Numerators = omega arith
-width_small Denominators = omega arith
-
-pub first_fits : (family : Family) (w x : ℕ) → w ≡ width_of family → x ≤ 4294967295 → Fits w64 (w * x)
-first_fits family w x e h = record { fits = omega (arith, mul-le-mul (narrow w e) h) }
-  where
-    narrow : (w : ℕ) → w ≡ width_of family → w ≤ 3
-    narrow w e = omega (arith, width_small family)
 
 -- What is read of a header: its letter, where its variables and terms start, and how many there are.
 pub record HeaderRead (family : Family) (hs : List ℕ) (h letter vars first num-vars num-terms : ℕ) : Type 0 where

@@ -1,5 +1,5 @@
 -- Rows of words, one after the other.
-use mathlib.Core.Path.{◌≡◌, refl, sym, ap, subst, ◌∙◌}
+use mathlib.Core.Path.{◌≡◌, refl, ap, ◌∙◌}
 use mathlib.Core.List.{List, [], ◌∷◌, ◌++◌, map, flat_map, append_assoc}
 use Prim.Native.Nat.{ℕ, suc, ◌+◌, ◌*◌, ◌-◌, ◌≤◌, ◌<◌}
 use native.Mathlib.Omega.{arith}
@@ -11,9 +11,8 @@ use Rattle.slices.specs.Rows.{rows}
 use Rattle.semantics.specs.Sheetlist.{line, hex_digits}
 use Rattle.slices.specs.Putting.{Puts}
 use Rattle.listing.specs.Putting.{Room}
-use Rattle.listing.specs.Families.{width_of, line_of, spaced, header_line}
-use Rattle.listing.specs.declared.headers.Family.{Family}
-use Rattle.listing.proofs.Writing.{Done, done_none, done_room, done_more, done_all, done_length}
+use Rattle.listing.specs.Families.{spaced, header_line}
+use Rattle.listing.proofs.Writing.{Done, done_none, done_room, done_more, done_all}
 
 -- A loop over rows: what is put, and the rows that are left.
 abbrev pub row_lines : (width : ℕ) → (List ℕ → List ℕ) → List ℕ → (k n : ℕ) → List ℕ
@@ -45,9 +44,6 @@ module _ {width : ℕ} {g : List ℕ → List ℕ} {ws : List ℕ} {from count :
       less = omega arith
 
   module _ {out' : List ℕ} {next k i : ℕ} (h : RowsDone width g ws from count out at out' next k i) where
-    pub rows_length : length out' ≡ length out
-    rows_length = done_length h.done
-
     pub rows_all : count ≤ i → Puts out at (row_lines width g ws from count) out' next
     rows_all l = done_all h.done (row_none width g ws k (count - i) (omega arith))
 
@@ -96,22 +92,7 @@ vars_next vs from count i l h =
     rw (m, drop-cons vs (from + i) 0 (omega arith), j)
 
 module _ {vs : List ℕ} {from count : ℕ} {out : List ℕ} {at : ℕ} where
-  pub vars_none : Room out at (spaced (take count (drop from vs))) → VarsDone vs from count out at out at 0
-  vars_none room = record {
-    i_le = omega arith;
-    done = done_none out at (λ j. spaced (take (less j) (drop (same j) vs))) room;
-  }
-    where
-      less : count - 0 ≡ count
-      less = omega arith
-
-      same : from + 0 ≡ from
-      same = omega arith
-
   module _ {out' : List ℕ} {next i : ℕ} (h : VarsDone vs from count out at out' next i) where
-    pub vars_length : length out' ≡ length out
-    vars_length = done_length h.done
-
     pub vars_all : count ≤ i → Puts out at (spaced (take count (drop from vs))) out' next
     vars_all l = done_all h.done (vars_end (count - i) (drop (from + i) vs) (omega arith))
 
@@ -134,12 +115,3 @@ line_spaced w (v ∷ vs) =
 
 pub header_pieces : (letter : ℕ) (vs : List ℕ) → (letter ∷ []) ++ (spaced vs ++ (10 ∷ [])) ≡ header_line letter vs
 header_pieces letter vs = line_spaced (letter ∷ []) vs
-
--- The term of a family that is told.
-module _ {f g : Family} (e : f ≡ g) (ts : List ℕ) (k : ℕ) where
-  pub term_is : line_of g (take (width_of g) (drop k ts)) ≡ line_of f (take (width_of f) (drop k ts))
-  term_is = ap (λ (x : Family). line_of x (take (width_of x) (drop k ts))) (sym e)
-
-  pub term_asks : (out : List ℕ) (at : ℕ) → (k + width_of f ≤ length ts) × Room out at (line_of f (take (width_of f) (drop k ts)))
-      → (k + width_of g ≤ length ts) × Room out at (line_of g (take (width_of g) (drop k ts)))
-  term_asks out at h = subst (λ (x : Family). (k + width_of x ≤ length ts) × Room out at (line_of x (take (width_of x) (drop k ts)))) e h

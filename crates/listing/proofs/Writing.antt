@@ -4,23 +4,16 @@ use mathlib.Core.List.{List, [], ◌∷◌, ◌++◌, append_assoc, append-nil}
 use Prim.Native.Nat.{ℕ, ◌+◌, ◌≤◌, ◌<◌}
 use native.Mathlib.Omega.{arith}
 use native.Mathlib.Numerals.{add-one}
-use lib.ListN.{length, get_or, set, drop, length-append}
+use lib.ListN.{length, get_or, drop, length-append}
 use lib.Seq.{drop-cons}
 use Rattle.slices.specs.Putting.{put, Puts}
-use Rattle.slices.proofs.Puts.{put_none, put_length, put_one, put_behind}
+use Rattle.slices.proofs.Puts.{put_none, put_length, put_behind}
 use Rattle.listing.specs.Putting.{Room}
 
 -- Nothing is put.
 pub puts_none : (out : List ℕ) (at : ℕ) → Puts out at [] out at
 puts_none out at = record {
   out_is = sym (put_none out at);
-  next_is = omega arith;
-}
-
--- One byte.
-pub puts_one : (out : List ℕ) (at x : ℕ) → Room out at (x ∷ []) → Puts out at (x ∷ []) (set out at x) (at + 1)
-puts_one out at x h = record {
-  out_is = put_one out at x (omega arith);
   next_is = omega arith;
 }
 
@@ -70,9 +63,6 @@ pub done_none : (out : List ℕ) (at : ℕ) {whole rest : List ℕ} → rest ≡
 done_none out at e room = record { room = room; words = []; puts = puts_none out at; joins = e }
 
 module _ {out : List ℕ} {at : ℕ} {whole rest out' : List ℕ} {next : ℕ} (h : Done out at whole rest out' next) where
-  pub done_length : length out' ≡ length out
-  done_length = let room = h.room in puts_length h.puts (omega (arith, length-append h.words rest, ap length h.joins))
-
   pub done_all : rest ≡ [] → Puts out at whole out' next
   done_all e = puts_is h.puts (sym (append-nil h.words) ∙ ap (λ (l : List ℕ). h.words ++ l) (sym e) ∙ h.joins)
 

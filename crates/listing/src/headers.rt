@@ -1,7 +1,6 @@
 // Headers, each with its terms.
 ghost use Rattle.std.specs.Prelude.{◌≡◌, ◌+◌, ◌*◌, ◌≤◌, length, take, drop};
 ghost use mathlib.Core.List.{flat_map};
-ghost use Rattle.slices.specs.Lent.{old, new};
 ghost use Rattle.slices.specs.Rows.{rows};
 ghost use Rattle.slices.specs.Putting.{Puts};
 ghost use Rattle.listing.specs.Putting.{Room};

@@ -1,6 +1,5 @@
 // The lines that stand alone: words parted by spaces, and the end of the line.
 ghost use Rattle.std.specs.Prelude.{[], ◌∷◌};
-ghost use Rattle.slices.specs.Lent.{old, new};
 ghost use Rattle.semantics.specs.Sheetlist.{decimal, line, dag_text, end_text, refused_text};
 ghost use Rattle.slices.specs.Putting.{Puts};
 ghost use Rattle.listing.specs.Putting.{Room};

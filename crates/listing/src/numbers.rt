@@ -1,6 +1,5 @@
 // Bytes, and numbers as text.
 ghost use Rattle.std.specs.Prelude.{◌≡◌, [], ◌∷◌, ◌+◌, ◌<◌};
-ghost use Rattle.slices.specs.Lent.{old, new};
 ghost use Rattle.semantics.specs.Arithmetic.{prime};
 ghost use Rattle.semantics.specs.Sheetlist.{digits, decimal, hex_digit, hex_digits, signed};
 ghost use Rattle.slices.specs.Putting.{Puts};

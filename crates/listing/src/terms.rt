@@ -1,6 +1,5 @@
 // The lines of terms.
 ghost use Rattle.std.specs.Prelude.{[], ◌∷◌, ◌+◌, ◌≤◌, length, take, drop};
-ghost use Rattle.slices.specs.Lent.{old, new};
 ghost use Rattle.semantics.specs.Arithmetic.{prime};
 ghost use Rattle.semantics.specs.Sheetlist.{signed, line, t_line, u_line, w_line};
 ghost use Rattle.slices.specs.Putting.{Puts};

@@ -157,12 +157,6 @@ module _ (vs us : List PackedVar) (i n j m : ℕ) (es : length vs ≡ 14) (ed : 
 abbrev pub Merging : (r : List ℕ) (vs us : List PackedVar) (i n j m : ℕ) → Type 0
 Merging r vs us i n j m = take (i + j) r ++ merged_rest vs i n us j m ≡ merged (take n (nums vs)) (take m (nums us))
 
-pub merging_none : (r : List ℕ) (vs us : List PackedVar) (n m : ℕ) → Merging r vs us 0 n 0 m
-merging_none r vs us n m =
-    let a : n - 0 ≡ n = omega arith in
-    let b : m - 0 ≡ m = omega arith in
-    λ t. merged (take (a t) (nums vs)) (take (b t) (nums us))
-
 pub merging_more : (r : List ℕ) (vs us : List PackedVar) (i n j m v l : ℕ) → i + j < length r → l ≤ 1 → Merging r vs us i n j m → Takes vs us i n j m v l
     → Merging (set r (i + j) v) vs us (i + l) n (j + (1 - l)) m
 merging_more r vs us i n j m v l h k e q =

@@ -5,7 +5,7 @@ use Prim.Native.Nat.{ℕ, ◌+◌, ◌*◌, ◌-◌, ◌≤◌, ◌<◌, min}
 use native.Mathlib.Numerals.{add-one}
 use native.Mathlib.Omega.{arith}
 use lib.ListN.{length, get_or, take, drop, set, length-set, length-take, length-drop}
-use lib.Seq.{take_at, drop_at, drop-drop, take-add, get_or-drop, get_or-take, drop-append-add, paste, paste-zero, paste-suc}
+use lib.Seq.{take_at, drop_at, drop-drop, take-add, get_or-drop, get_or-take, drop-append-add, paste, paste-suc}
 use Rattle.slices.proofs.Lists.{take_min, get_d_front}
 use Rattle.semantics.specs.Monomial.{Monomial}
 use Rattle.semantics.specs.Expand.{list_size}
@@ -20,9 +20,6 @@ pub record Copying (list : List ℕ) (from n : ℕ) (out₀ : List ℕ) (at : �
   pub out_is : out ≡ paste out₀ at (drop from list) i
 
 module _ (list : List ℕ) (from n : ℕ) (out₀ : List ℕ) (at : ℕ) where
-  pub copying_none : Copying list from n out₀ at out₀ 0
-  copying_none = record { i_le = omega arith; length_is = refl; out_is = paste-zero out₀ at (drop from list) }
-
   pub copying_more : (out : List ℕ) (i : ℕ) → from + n ≤ length list → at + n ≤ length out₀ → Copying list from n out₀ at out i → i < n
       → Copying list from n out₀ at (set out (at + i) (get_or list (from + i) 0)) (i + 1)
   copying_more out i l r g h =
@@ -35,11 +32,6 @@ module _ (list : List ℕ) (from n : ℕ) (out₀ : List ℕ) (at : ℕ) where
             ∙ ap (λ (x : List ℕ). set x (at + i) (get_or (drop from list) i 0)) g.out_is
             ∙ paste-suc out₀ at (drop from list) i 0 (omega arith) d ∙ ap (paste out₀ at (drop from list)) (sym (add-one i));
       }
-
-  pub copying_done : (out : List ℕ) (i : ℕ) → Copying list from n out₀ at out i → n ≤ i → out ≡ take at out₀ ++ (take n (drop from list) ++ drop (at + n) out₀)
-  copying_done out i g h =
-      let e : i ≡ n = omega (arith, g.i_le) in
-      g.out_is ∙ ap (paste out₀ at (drop from list)) e ∙ append_assoc (take at out₀) (take n (drop from list)) (drop (at + n) out₀)
 
 -- The words of a row's monomial.
 row_vars_lem : (work : List ℕ) (k s : ℕ) → 16 * k + 16 ≤ length work → s ≡ min (get_or work (16 * k) 0) 14 → (row_of work k).vars ≡ take s (drop (16 * k + 2) work)
@@ -125,8 +117,3 @@ module _ (work : List ℕ) (count : ℕ) (out₀ : List ℕ) (inside : 16 * coun
             ∙ ap (λ (x : List ℕ). W ++ (monomial_words (row_of work k) ++ x)) back
             ∙ sym (append_assoc W (monomial_words (row_of work k)) (drop (at + 2 + s) out₀))
             ∙ ap (λ (x : List ℕ). x ++ drop (at + 2 + s) out₀) (sym words)
-
-  pub written_done : (out : List ℕ) (at k : ℕ) → Written work count out₀ out at k → count ≤ k → out ≡ list_words (held count work) ++ drop (list_size (held count work)) out₀
-  written_done out at k g h =
-      let e : k ≡ count = omega (arith, g.k_le) in
-      g.out_is ∙ ap (λ (n : ℕ). list_words (held k work) ++ drop n out₀) g.at_is ∙ ap (λ (n : ℕ). list_words (held n work) ++ drop (list_size (held n work)) out₀) e

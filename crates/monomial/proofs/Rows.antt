@@ -1,23 +1,15 @@
 -- The rows of the work list, and a monomial's words.
-use mathlib.Core.Path.{◌≡◌, refl, sym, ap, ◌∙◌}
-use mathlib.Core.List.{List, [], ◌∷◌, ◌++◌, map, append_assoc, map-append}
+use mathlib.Core.Path.{◌≡◌, ap, ◌∙◌}
+use mathlib.Core.List.{List, [], ◌∷◌, ◌++◌, map, map-append}
 use Prim.Native.Nat.{ℕ, suc, ◌+◌, ◌*◌, ◌≤◌, ◌<◌}
 use native.Mathlib.Omega.{arith}
 use lib.ListN.{length, get_or, take, drop, set, length-map}
-use lib.Seq.{take_all, paste, paste-suc}
+use lib.Seq.{paste, paste-suc}
 use Rattle.slices.specs.Rows.{rows}
-use Rattle.slices.proofs.Lists.{sets_front, sets_behind}
 use Rattle.slices.proofs.Rows.{rows_length, rows_at, rows_split, rows_after, rows_cons}
 use Rattle.semantics.specs.Monomial as semantics
 use Rattle.semantics.proofs.Lists.{get_d_map}
-use Rattle.packed_var.specs.contracts.PackedVar as packed
-use Rattle.packed_var.specs.declared.PackedVar.{PackedVar}
-use Rattle.slices.proofs.Puts.{stores_run}
 use Rattle.monomial.specs.Words.{read_monomial, held}
-
--- The variables of a monomial by value stand in fourteen places.
-pub fourteen : (vs : List PackedVar) → length (map (packed.the_type).to vs) ≡ 14 → length vs ≡ 14
-fourteen vs e = sym (length-map vs (packed.the_type).to) ∙ e
 
 -- A list stored in place: one more element.
 pub stored : (ws vs us : List ℕ) (at i v : ℕ) → us ≡ paste ws at vs i → v ≡ get_or vs i 0 → at + i < length ws → i < length vs
@@ -25,24 +17,6 @@ pub stored : (ws vs us : List ℕ) (at i v : ℕ) → us ≡ paste ws at vs i �
 stored ws vs us at i v e q h k =
     let n : suc i ≡ i + 1 = omega arith in
     (λ t. set (e t) (at + i) (q t)) ∙ paste-suc ws at vs i 0 h k ∙ ap (paste ws at vs) n
-
--- Two words stored, and a list behind them.
-pub head_copied : (out out₁ vs : List ℕ) (at v w n : ℕ) → at + 1 < length out
-    → out₁ ≡ take (at + 2) (set (set out at v) (at + 1) w) ++ (vs ++ drop (at + 2 + n) (set (set out at v) (at + 1) w))
-    → out₁ ≡ take at out ++ ((v ∷ w ∷ vs) ++ drop (at + 2 + n) out)
-head_copied out out₁ vs at v w n h e =
-    let two : List ℕ = v ∷ w ∷ [] in
-    let l : at + 2 ≤ length out = omega arith in
-    e ∙ (λ t. take (at + 2) (stores_run out at v (w ∷ []) t) ++ (vs ++ drop (at + 2 + n) (stores_run out at v (w ∷ []) t)))
-    ∙ (λ t. sets_front out at two l t ++ (vs ++ sets_behind out at two l n t))
-    ∙ append_assoc (take at out) two (vs ++ drop (at + 2 + n) out)
-
-pub two_and_more : (ws vs : List ℕ) (at n c x : ℕ) → length vs ≡ n → at + 2 + n ≤ length ws
-    → paste (set (set ws at c) (at + 1) x) (at + 2) vs n ≡ take at ws ++ ((c ∷ x ∷ vs) ++ drop (at + 2 + n) ws)
-two_and_more ws vs at n c x e h =
-    let two : List ℕ = set (set ws at c) (at + 1) x in
-    ap (λ (l : List ℕ). take (at + 2) two ++ l ++ drop (at + 2 + n) two) (take_all n vs (omega arith))
-    ∙ append_assoc (take (at + 2) two) vs (drop (at + 2 + n) two) ∙ head_copied ws _ vs at c x n (omega arith) refl
 
 -- The work list, row by row.
 pub held_length : (n : ℕ) (ws : List ℕ) → length (held n ws) ≡ n

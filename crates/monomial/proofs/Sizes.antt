@@ -11,7 +11,7 @@ use Rattle.semantics.specs.Monomial.{Monomial}
 use Rattle.semantics.specs.Expand.{list_size}
 use Rattle.monomial.specs.Words.{read_monomial, list_in, longest_of, longest_in, held, ListFits}
 use Rattle.monomial.proofs.Rows.{held_split}
-use Rattle.monomial.proofs.ListLaws.{size_nil, size_cons, size_append, vars_in, left_cons, left_rest, left_all, none_left}
+use Rattle.monomial.proofs.ListLaws.{size_nil, size_cons, size_append, vars_in, left_cons, left_rest, none_left}
 
 pub longest_cons : (m : Monomial) (ms : List Monomial) → longest_of (m ∷ ms) ≡ max (length m.vars) (longest_of ms)
 unfolding longest_of
@@ -35,11 +35,6 @@ pub record Longest (pool : List ℕ) (at n most from i : ℕ) : Type 0 where
   pub most_is : max most (longest_in pool from (n - i)) ≡ longest_in pool at n
 
 module _ (pool : List ℕ) (at n : ℕ) where
-  pub longest_none : ListFits pool at n → Longest pool at n 0 at 0
-  longest_none l =
-      let z : n - 0 ≡ n = omega arith in
-      record { i_le = omega arith; left = left_all pool at n l; most_is = omega (arith, ap (λ (k : ℕ). longest_in pool at k) z) }
-
   pub longest_more : (most from i s next : ℕ) → Longest pool at n most from i → i < n → s ≡ vars_in pool from → next ≡ max most s
       → Longest pool at n next (from + 2 + s) (i + 1)
   longest_more most from i s next l h e f = record {
@@ -105,8 +100,3 @@ sized_more work count total k s z h l e = record {
   total_is = omega (arith, z.total_is, size_more work k s (omega arith) e);
   total_le = omega (arith, z.total_le);
 }
-
-pub sized_done : (work : List ℕ) (count total k : ℕ) → Sized work count total k → count ≤ k → total ≡ list_size (held count work)
-sized_done work count total k z h =
-    let e : k ≡ count = omega (arith, z.k_le) in
-    z.total_is ∙ ap (λ (n : ℕ). list_size (held n work)) e

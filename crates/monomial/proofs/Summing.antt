@@ -66,9 +66,6 @@ signed_map false (m ∷ ms) = ap (λ (l : List Monomial). m ∷ l) (signed_map f
 pub signed_one : (b : Bool) (x m : Monomial) → (x ∷ []) ≡ negated_if b (m ∷ []) → x ≡ sign_of b m
 signed_one b x m e = ap (λ (l : List Monomial). get_or l 0 x) (e ∙ signed_map b (m ∷ []))
 
-pub one_signed : (b s : Bool) (x m : Monomial) → b ≡ s → x ≡ sign_of s m → (x ∷ []) ≡ negated_if b (m ∷ [])
-one_signed b s x m e f = ap (λ (y : Monomial). y ∷ []) (f ∙ ap (λ (t : Bool). sign_of t m) (sym e)) ∙ sym (signed_map b (m ∷ []))
-
 pub fits_sign : (b : Bool) (m : Monomial) → Fits m → Fits (sign_of b m)
 fits_sign true m h = fits_negative m h
 fits_sign false m h = h
@@ -92,18 +89,6 @@ summed_more work work₁ total next y s l h q = record {
 }
 
 module _ (f : Monomial → Monomial) (pool : List ℕ) (at n count : ℕ) (work₀ : List ℕ) where
-  pub adding_none : Summed count work₀ → ListFits pool at n → Adding f pool at n count work₀ work₀ count at 0
-  adding_none s l =
-      let z : n - 0 ≡ n = omega arith in
-      record {
-        i_le = omega arith;
-        length_is = refl;
-        summed = s;
-        few = omega arith;
-        left = left_all pool at n l;
-        all_is = ap (λ (k : ℕ). insert_all (map f (list_in pool at k)) (held count work₀)) z;
-      }
-
   pub adding_more : (work work₁ : List ℕ) (total next from i s : ℕ) (y : Monomial) → Adding f pool at n count work₀ work total from i → i < n
       → s ≡ vars_in pool from → length work₁ ≡ length work → y ≡ f (read_monomial (drop from pool)) → Fits y
       → held next work₁ ≡ insert_monomial prime y (held total work) → next ≤ total + 1

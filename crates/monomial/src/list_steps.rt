@@ -1,6 +1,5 @@
 // Single steps on lists of monomials.
 ghost use Rattle.std.specs.Prelude.{◌≡◌, [], ◌∷◌, ◌++◌, map, ◌+◌, ◌*◌, ◌-◌, ◌≤◌, min, length, get_or, take, drop};
-ghost use Rattle.slices.specs.Lent.{old, new};
 ghost use Rattle.semantics.specs.Arithmetic.{prime};
 ghost use Rattle.semantics.specs.Monomial.{mul_monomial};
 ghost use Rattle.monomial.specs.Words.{monomial_of, read_monomial, held, list_in, longest_in, insert_all, negated_if, Fits, ListFits, Summed};

@@ -1,6 +1,5 @@
 // Lists of monomials: read from the pool, summed or kept in the work list, written to the pool.
 ghost use Rattle.std.specs.Prelude.{◌≡◌, [], ◌∷◌, ◌++◌, map, ◌+◌, ◌*◌, ◌≤◌, length, drop};
-ghost use Rattle.slices.specs.Lent.{old, new};
 ghost use Rattle.semantics.specs.Arithmetic.{prime};
 ghost use Rattle.semantics.specs.Monomial.{neg_monomial, products, insert_monomial};
 ghost use Rattle.semantics.specs.Expand.{list_size};

@@ -1,6 +1,5 @@
 // The work list: sixteen words for each monomial, in ascending order while monomials are summed.
 ghost use Rattle.std.specs.Prelude.{◌≡◌, ◌∷◌, ◌++◌, ◌+◌, ◌*◌, ◌≤◌, ◌<◌, length, get_or, take, drop};
-ghost use Rattle.slices.specs.Lent.{old, new};
 ghost use Rattle.semantics.specs.Arithmetic.{prime};
 ghost use Rattle.semantics.specs.Monomial.{Asc, keep, plus};
 ghost use Rattle.monomial.specs.Words.{nums, monomial_of, held};

@@ -1,6 +1,5 @@
 // The variables of monomials: fourteen places by value.
 ghost use Rattle.std.specs.Prelude.{◌≡◌, ◌∷◌, ◌++◌, ◌+◌, ◌-◌, ◌≤◌, ◌<◌, length, take, drop};
-ghost use Rattle.slices.specs.Lent.{old};
 ghost use Rattle.semantics.specs.Monomial.{sort, above};
 ghost use Rattle.semantics.specs.Lists.{Sorted};
 ghost use Rattle.monomial.specs.Words.{num, nums};

@@ -1,10 +1,9 @@
 -- The nodes in the output, and the search for one.
-use mathlib.Core.Path.{◌≡◌, refl, sym, ◌∙◌, ap, subst}
-use mathlib.Core.Logic.{⊎_elim}
+use mathlib.Core.Path.{◌≡◌, refl, sym, ◌∙◌, ap}
 use mathlib.Core.Bool.{Bool, true, false}
 use mathlib.Core.List.{List, [], ◌∷◌, ◌++◌, flat_map, append_assoc, append-nil}
 use Prim.Native.Nat.{ℕ, zero, suc, ◌+◌, ◌-◌, ◌≤◌, ◌<◌}
-use native.Mathlib.Nat.{eq-or-lt_of_le, add-zero}
+use native.Mathlib.Nat.{add-zero}
 use native.Mathlib.Omega.{arith}
 use lib.Dec.{ltb}
 use lib.ListN.{length, get_or, drop, replicate, length-append, length-replicate}
@@ -88,12 +87,6 @@ find_is q (m ∷ ns) zero h f g = sym (cond-true (equal_records q m) 0 (suc (fin
 find_is q (m ∷ ns) (suc x) h f g =
     ap suc (find_is q ns x (omega arith) (λ i l. f (suc i) (omega arith)) (λ l. g (omega arith)))
     ∙ sym (cond-false (equal_records q m) 0 (suc (find q ns)) (f 0 (omega arith)))
-
--- A search that passed i.
-pub skips : (P : ℕ → Type 0) (from i : ℕ) → ((k : ℕ) → from ≤ k → k < i → P k) → P i → (k : ℕ) → from ≤ k → k < i + 1 → P k
-skips P from i f h k l m =
-    let n : k ≤ i = omega arith in
-    ⊎_elim (λ (e : k ≡ i). subst P (sym e) h) (λ (o : k < i). f k l o) (eq-or-lt_of_le n)
 
 module _ (ws : List ℕ) (ns : List Record) (e : ws ≡ nodes_out (length ws) ns) (n : ℕ) (z : n ≡ length ns) (from : ℕ) (q : Record) (none : NoneBefore from q ns)
     (x : ℕ) (f : FirstEqual ws n from q x) where

@@ -3,7 +3,7 @@ use mathlib.Core.Path.{◌≡◌, refl, sym, ap, subst, ◌∙◌}
 use mathlib.Core.Bool.{Bool, true, false, cond, true≢false, ◌&&◌, ◌||◌}
 use mathlib.Core.List.{List, [], ◌∷◌, ◌++◌, map}
 use Prim.Native.Nat.{ℕ, zero, suc, ◌+◌, ◌-◌, ◌≤◌, ◌<◌}
-use native.Mathlib.Nat.{add-zero, sub-zero}
+use native.Mathlib.Nat.{add-zero}
 use native.Mathlib.Numerals.{add-one}
 use native.Mathlib.Omega.{arith}
 use lib.Dec.{leb}
@@ -188,13 +188,6 @@ pub record PartsLeft (n : ℕ) (tests : ℕ → List ℕ → List (ℕ → Bool)
   pub goes : scan_parts n tests (count - own) own (reading m (drop m ws)) ≡ whole
   pub inside : m ≤ length ws
 
-pub parts_begin : (n : ℕ) (tests : ℕ → List ℕ → List (ℕ → Bool)) (ws : List ℕ) (count at : ℕ) → at ≤ length ws
-    → PartsLeft n tests ws (scan_parts n tests count 0 (reading at (drop at ws))) count 0 at
-parts_begin n tests ws count at h = record {
-  goes = ap (λ (k : ℕ). scan_parts n tests k 0 (reading at (drop at ws))) (sub-zero count);
-  inside = h;
-}
-
 module _ {n : ℕ} {tests : ℕ → List ℕ → List (ℕ → Bool)} {ws : List ℕ} {whole : Scan} {count own m : ℕ}
     (left : PartsLeft n tests ws whole count own m) where
   -- One of them is judged.
@@ -223,15 +216,6 @@ pub record SameLeft (n : ℕ) (t : ℕ → Bool) (ws : List ℕ) (whole : Scan) 
   pub goes : scan_words n (replicate (count - k) t) (reading i (drop i ws)) ≡ whole
   pub inside : i ≤ length ws
   pub stands : i ≡ base + k
-
-pub same_begin : (n : ℕ) (t : ℕ → Bool) (ws : List ℕ) (count at : ℕ) → at ≤ length ws
-    → SameLeft n t ws (scan_words n (replicate count t) (reading at (drop at ws))) at count 0 at
-same_begin n t ws count at h = record {
-  some = omega arith;
-  goes = ap (λ (k : ℕ). scan_words n (replicate k t) (reading at (drop at ws))) (sub-zero count);
-  inside = h;
-  stands = omega arith;
-}
 
 module _ {n : ℕ} {t : ℕ → Bool} {ws : List ℕ} {whole : Scan} {base count k i : ℕ} (left : SameLeft n t ws whole base count k i) where
   -- One of them is judged.

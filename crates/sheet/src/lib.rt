@@ -2,7 +2,6 @@
 #![tactic(auto)]
 
 ghost use Rattle.std.specs.Prelude.{◌≡◌};
-ghost use Rattle.slices.specs.Lent.{old};
 ghost use Rattle.semantics.specs.Check.{prime_of};
 ghost use Rattle.semantics.specs.Call.{check_call};
 ghost use Rattle.sheet.specs.Replies.{checked_outcome, checked_refusal};

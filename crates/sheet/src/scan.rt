@@ -1,6 +1,5 @@
 // The check from the front: the first word that fails decides.
 ghost use Rattle.std.specs.Prelude.{◌≡◌, [], ◌∷◌, map, true, ◌&&◌, ◌+◌, ◌≤◌, eqb, leb, length, drop, replicate};
-ghost use Rattle.slices.specs.Lent.{old};
 ghost use Rattle.semantics.specs.Arithmetic.{prime};
 ghost use Rattle.semantics.specs.Sheet.{fits, row, record_tests, interaction_tests, head_tests, refers};
 ghost use Rattle.semantics.specs.Check.{prime_of, reading, scan_words, scan_part, scan_parts, scan_spare};

@@ -2,7 +2,7 @@
 #![tactic(auto)]
 
 ghost use Rattle.std.specs.Prelude.{◌≡◌, [], ◌∷◌};
-ghost use Rattle.slices.specs.Lent.{old, new, lengths};
+ghost use Rattle.slices.specs.Lent.{lengths};
 ghost use Rattle.semantics.specs.Check.{prime_of};
 ghost use Rattle.semantics.specs.Call.{max_rotation_call, num_constraints_call, conversion_call, Gives};
 ghost use Rattle.answers.specs.Replies.{rest_zeroed, counted_outcome, written_reply};

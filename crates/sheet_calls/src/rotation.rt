@@ -1,6 +1,5 @@
 // The largest offset.
 ghost use Rattle.std.specs.Prelude.{◌≡◌, cond, ◌≤◌, eqb, length, drop};
-ghost use Rattle.slices.specs.Lent.{old};
 ghost use Rattle.semantics.specs.Sheet.{place};
 ghost use Rattle.semantics.specs.Check.{read_records};
 ghost use Rattle.sheet_calls.specs.Replies.{largest};

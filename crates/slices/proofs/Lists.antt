@@ -6,7 +6,7 @@ use native.Mathlib.Nat.{mul-suc, mul-zero}
 use native.Mathlib.Numerals.{add-one}
 use native.Mathlib.Omega.{arith}
 use lib.ListN.{length, get_or, take, drop, set, length-set, length-append}
-use lib.Seq.{take-nil, take-suc, take-set-le, get_or-drop, get_or-set_same, sets, sets-eq, take_at, drop_at, drop-drop, length-take-le}
+use lib.Seq.{take-nil, take-suc, take-set-le, get_or-drop, get_or-set_same}
 
 pub flat_append : {X Y : Type 0} (f : X → List Y) (us vs : List X) → flat_map f (us ++ vs) ≡ flat_map f us ++ flat_map f vs
 unfolding flat_map
@@ -62,17 +62,3 @@ alike_more s d i h k e q = rw add-one (take-suc s i 0 h ∙ (λ t. e t ++ (q t �
 pub filled_more : (s d : List ℕ) (i v : ℕ) → i < length s → i < length d → take i s ≡ take i d → v ≡ get_or d i 0 → take (i + 1) (set s i v) ≡ take (i + 1) d
 filled_more s d i v h k e q =
     alike_more (set s i v) d i (omega (arith, length-set s i v)) k (take-set-le i s i v (omega arith) ∙ e) (get_or-set_same s i v 0 h ∙ q)
-
--- What stands as far as the elements that were set, and what stands behind them.
-module _ (l : List ℕ) (at : ℕ) (vs : List ℕ) (h : at + length vs ≤ length l) where
-  front_length : length (take at l ++ vs) ≡ at + length vs
-  front_length = length-append (take at l) vs ∙ omega (arith, length-take-le at l (omega arith))
-
-  pub sets_front : take (at + length vs) (sets l at vs) ≡ take at l ++ vs
-  sets_front = ap (take (at + length vs)) (sets-eq vs l at h) ∙ take_at (take at l ++ vs) (drop (at + length vs) l) (at + length vs) front_length
-
-  pub sets_behind : (n : ℕ) → drop (at + length vs + n) (sets l at vs) ≡ drop (at + length vs + n) l
-  sets_behind n =
-      sym (drop-drop n (at + length vs) (sets l at vs))
-      ∙ ap (drop n) (ap (drop (at + length vs)) (sets-eq vs l at h) ∙ drop_at (take at l ++ vs) (drop (at + length vs) l) (at + length vs) front_length)
-      ∙ drop-drop n (at + length vs) l

@@ -50,12 +50,6 @@ module _ (out out' : List ℕ) (at : ℕ) (xs : List ℕ) (e : out' ≡ put out 
   set_behind v h =
       put_one out' k v (omega (arith, ap length e ∙ put_length out at xs (omega arith))) ∙ put_behind (v ∷ []) (omega arith)
 
--- The part up to the end of what is put.
-pub put_front : (out : List ℕ) (at : ℕ) (xs : List ℕ) → at + length xs ≤ length out → take (at + length xs) (put out at xs) ≡ take at out ++ xs
-put_front out at xs h =
-    ap (take (at + length xs)) (sym (append_assoc (take at out) xs (drop (at + length xs) out)))
-    ∙ take_at (take at out ++ xs) (drop (at + length xs) out) (at + length xs) (simp (length-append, length-take) (omega arith))
-
 -- The elements in front of what is put, and behind it.
 module _ (out : List ℕ) (at : ℕ) (xs : List ℕ) (h : at + length xs ≤ length out) where
   pub get_d_before : (k : ℕ) → k < at → get_or (put out at xs) k 0 ≡ get_or out k 0

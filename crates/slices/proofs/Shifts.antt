@@ -3,17 +3,12 @@ use mathlib.Core.Path.{◌≡◌, sym, ap, ◌∙◌}
 use mathlib.Core.List.{List, [], ◌∷◌, ◌++◌, append_assoc}
 use Prim.Native.Nat.{ℕ, suc, ◌+◌, ◌-◌, ◌≤◌, ◌<◌}
 use native.Mathlib.Omega.{arith}
-use lib.ListN.{length, get_or, take, drop, set, length-drop, take-append-drop, get_or-append}
-use lib.Seq.{take-suc, drop-cons, set_at, get_or-take, get_or-drop, length-take-le, paste, paste-zero, paste-suc, drop-paste}
+use lib.ListN.{length, get_or, take, drop, set, length-drop, get_or-append}
+use lib.Seq.{take-suc, drop-cons, set_at, get_or-take, get_or-drop, length-take-le, paste, paste-suc, drop-paste}
 
 -- The words from i to `end` stand `by` places higher; below i + by all is as it was.
 abbrev pub Raised : (s s₀ : List ℕ) (i end by : ℕ) → Type 0
 Raised s s₀ i end by = s ≡ take (i + by) s₀ ++ (take (end - i) (drop i s₀) ++ drop (end + by) s₀)
-
-pub raised_none : (s : List ℕ) (end by : ℕ) → Raised s s end end by
-raised_none s end by =
-    let z : end - end ≡ 0 = omega arith in
-    sym (ap (λ (n : ℕ). take (end + by) s ++ (take n (drop end s) ++ drop (end + by) s)) z ∙ take-append-drop (end + by) s)
 
 pub raised_more : (s s₀ : List ℕ) (i j end by : ℕ) → i ≡ suc j → i ≤ end → end + by ≤ length s₀ → Raised s s₀ i end by
     → Raised (set s (j + by) (get_or s j 0)) s₀ j end by
@@ -38,9 +33,6 @@ raised_more s s₀ i j end by e h l r =
 -- The words from at + by on stand `by` places lower, as far as i.
 abbrev pub Lowered : (s s₀ : List ℕ) (at i by : ℕ) → Type 0
 Lowered s s₀ at i by = s ≡ paste s₀ at (drop (at + by) s₀) (i - at)
-
-pub lowered_none : (s : List ℕ) (at by : ℕ) → Lowered s s at at by
-lowered_none s at by = let z : 0 ≡ at - at = omega arith in paste-zero s at (drop (at + by) s) ∙ ap (paste s at (drop (at + by) s)) z
 
 module _ (s s₀ : List ℕ) (at i by : ℕ) (h : at ≤ i) (l : i + by ≤ length s₀) (r : Lowered s s₀ at i by) where
   moved : List ℕ
@@ -69,10 +61,3 @@ module _ (s s₀ : List ℕ) (at i by : ℕ) (h : at ≤ i) (l : i + by ≤ leng
       let n : suc (i - at) ≡ i + 1 - at = omega arith in
       (λ t. set (r t) (sym place t) (v t)) ∙ paste-suc s₀ at moved (i - at) 0 (omega arith) (omega (arith, length-drop (at + by) s₀))
       ∙ ap (paste s₀ at moved) n
-
-  pub lowered_all : (end : ℕ) → i + by ≡ end → s ≡ take at s₀ ++ (take (end - (at + by)) (drop (at + by) s₀) ++ drop (end - by) s₀)
-  unfolding moved
-  lowered_all end e =
-      let n : i - at ≡ end - (at + by) = omega arith in
-      let m : at + (i - at) ≡ end - by = omega arith in
-      r ∙ append_assoc (take at s₀) (take (i - at) moved) (drop (at + (i - at)) s₀) ∙ λ t. take at s₀ ++ (take (n t) moved ++ drop (m t) s₀)

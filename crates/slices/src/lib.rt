@@ -2,7 +2,6 @@
 #![tactic(auto)]
 
 ghost use Rattle.std.specs.Prelude.{◌≡◌, ◌++◌, ◌-◌, length, take, drop, replicate};
-ghost use Rattle.slices.specs.Lent.{old, new};
 
 pub mod shift;
 

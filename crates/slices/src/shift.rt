@@ -1,6 +1,5 @@
 // Words moved up or down within a slice.
 ghost use Rattle.std.specs.Prelude.{◌≡◌, ◌++◌, ◌+◌, ◌-◌, ◌≤◌, length, take, drop};
-ghost use Rattle.slices.specs.Lent.{old, new};
 
 // The words from `at` to `end` go up by `by` places; the first `by` of them stay also where they were.
 pub fn shift_up(s: &mut [u32], at: usize, end: usize, by: usize)

@@ -1,13 +1,9 @@
 -- What C gets from a call whose outcome is known by an equation: the reply's fields, and the slices.
-use mathlib.Core.Path.{◌≡◌, ap, ◌∙◌}
+use mathlib.Core.Path.{◌≡◌, ap}
 use mathlib.Core.List.{List}
 use Prim.Native.Nat.{ℕ, ◌≤◌}
 use native.Mathlib.Omega.{arith}
-use Rattle.semantics.specs.Call.{Reply, Outcome, Handed}
-
-pub handed : {X : Type 0} (fields : Reply → X) {x : X} {r : Reply} {slices : List (List ℕ)} {o : Outcome}
-    → x ≡ fields r → ◌≡◌ {A = Outcome} (record { reply = r; slices = slices }) o → Handed fields x slices o
-handed fields h e = (h ∙ ap (λ (o : Outcome). fields o.reply) e, ap (λ (o : Outcome). o.slices) e)
+use Rattle.semantics.specs.Call.{Reply, Outcome}
 
 -- A reply whose place is at most 4, or 0: 32 bits hold it.
 module _ {r : Reply} {slices : List (List ℕ)} {o : Outcome} (e : ◌≡◌ {A = Outcome} (record { reply = r; slices = slices }) o) where

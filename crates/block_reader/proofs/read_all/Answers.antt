@@ -4,7 +4,6 @@ use mathlib.Core.Bool.{false}
 use borrow.Author.Rules.{rules}
 use lib.ListN.{length}
 use Rattle.semantics.specs.Block.{bad_length}
-use Rattle.semantics.specs.Call.{result}
 use Rattle.block_reader.proofs.Reading.{blocks_fit, length_bad, output_short, blocks_read}
 use Rattle.block_reader.proofs.read_all.Goals as goal
 

@@ -1,6 +1,5 @@
 -- The blocks are read, and what was not written is zeroed.
 use mathlib.Core.Path.{◌∙◌}
-use Rattle.semantics.specs.Call.{result}
 use Rattle.answers.proofs.Outcomes.{finish}
 use Rattle.block_reader.proofs.read_blocks.Goals as goal
 

@@ -1,6 +1,5 @@
 -- The blocks are written, and what was not written is zeroed.
 use mathlib.Core.Path.{◌∙◌}
-use Rattle.semantics.specs.Call.{result}
 use Rattle.answers.proofs.Outcomes.{finish}
 use Rattle.block_writer.proofs.write_blocks.Goals as goal
 

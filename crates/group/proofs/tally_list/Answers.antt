@@ -1,3 +1,4 @@
+use borrow.Author.Rules.{rules}
 use mathlib.Core.Path.{◌≡◌, subst}
 use Rattle.group.specs.declared.Tallied.{Tallied}
 use Rattle.group.specs.Grouped.{CountedMore}
@@ -15,3 +16,6 @@ returns-in_default c =
 
 pub returns : goal.returns
 returns c = tallying_done c.loop-i.invariant c.loop-i-test.false
+
+pub tally_run-run-requires : goal.tally_run-run-requires
+tally_run-run-requires c = let g = c.loop-i.invariant in ((g.rows_are, g.standing, g.small), search rules, search rules)

@@ -1,5 +1,5 @@
 -- The list is counted in runs; after each, the monomials that wait are put in among the rows. The loop's invariant, `Tallying`: counting what is left of
--- the list into the rows gives what counting the whole list into the first rows gives; `tallying_step` keeps it.
+-- the list into the rows gives what counting the whole list into the first rows gives.
 use Prim.Native.Nat.{◌-◌}
 use Rattle.group.proofs.Runs.{Tallying}
 use Rattle.group.proofs.tally_list.Given as goal

@@ -1,5 +1,5 @@
 use Rattle.std.proofs.Common.{arith}
-use Rattle.header_offsets.proofs.Filling.{Fills, filling, vars_next, terms_next, next, done}
+use Rattle.header_offsets.proofs.Filling.{filling, vars_next, terms_next, next, done}
 use Rattle.header_offsets.proofs.fill_offsets.Goals as goal
 
 pub overflow_add-vars : goal.overflow_add-vars

@@ -1,6 +1,6 @@
 -- In each turn header i gets its offsets, and its two numbers are added to the totals. The loop's invariant: the headers before `i` with what the
 -- headers from `i` on would get from these totals are all the offsets (`Filling`), and the totals with all that is left fit.
-use Rattle.std.proofs.Common.{◌≡◌, length, ◌-◌}
+use Rattle.std.proofs.Common.{length, ◌-◌}
 use Rattle.header_offsets.proofs.Filling.{Fills}
 use Rattle.header_offsets.proofs.fill_offsets.Given as goal
 

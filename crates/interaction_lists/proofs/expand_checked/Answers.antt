@@ -10,7 +10,7 @@ use Rattle.semantics.specs.Walk.{order}
 use Rattle.records.specs.Access.{counts_of, fields_of, records_of}
 use Rattle.records.proofs.Reading.{counts_small}
 use Rattle.expand.specs.declared.Expanded.{Expanded}
-use Rattle.expand.specs.Walking.{PoolHolds, Expands}
+use Rattle.expand.specs.Walking.{Expands}
 use Rattle.interaction_lists.proofs.Walked.{counts_grouping, fields_grouping}
 use Rattle.interaction_lists.proofs.Steps.{work_refused, pool_refused, interactions_refused, interactions_walked}
 use Rattle.interaction_lists.proofs.expand_checked.Goals as goal

@@ -6,10 +6,8 @@ use Prim.Native.Nat.{ℕ, ◌*◌}
 use native.Mathlib.Omega.{arith}
 use lib.ListN.{length, take, drop, length-take}
 use Rattle.semantics.specs.Check.{read_sheet}
-use Rattle.semantics.specs.Walk.{order}
-use Rattle.records.specs.Access.{counts_of, fields_of, records_of, AllRootsInside}
+use Rattle.records.specs.Access.{counts_of, fields_of, AllRootsInside}
 use Rattle.records.specs.Orders.{Visiting}
-use Rattle.expand.specs.declared.Expanded.{Expanded}
 use Rattle.expand.specs.Walking.{PoolHolds, Expands, ExpandWalking}
 use Rattle.constraint_lists.specs.Lists.{CheckedSheet}
 use Rattle.constraint_lists.proofs.Walked.{walk_starts, walk_ends}

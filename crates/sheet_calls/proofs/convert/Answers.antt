@@ -1,6 +1,5 @@
 -- The words are copied, and what was not written is zeroed.
 use mathlib.Core.Path.{◌∙◌}
-use Rattle.semantics.specs.Call.{result}
 use Rattle.answers.proofs.Outcomes.{finish}
 use Rattle.sheet_calls.proofs.convert.Goals as goal
 

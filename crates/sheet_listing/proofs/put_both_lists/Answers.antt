@@ -3,7 +3,7 @@ use mathlib.Core.Path.{refl}
 use mathlib.Core.List.{[], ◌∷◌, ◌++◌}
 use Rattle.semantics.specs.Sheetlist.{line, end_text}
 use Rattle.listing.specs.declared.headers.Family.TheVariants.{Numerators, Denominators}
-use Rattle.listing.proofs.Writing.{Done, done_none, done_more, done_last}
+use Rattle.listing.proofs.Writing.{done_none, done_more, done_last}
 use Rattle.sheet_listing.specs.Fronts.{front_lines}
 use Rattle.sheet_listing.proofs.put_both_lists.Goals as goal
 

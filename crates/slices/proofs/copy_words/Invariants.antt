@@ -1,3 +1,4 @@
+-- Words are copied one by one until the list or the slice ends. The loop's invariant: the slice has the list's first `i` words and then its own (`Copied`).
 use Rattle.std.proofs.Common.{length, ◌-◌}
 use Rattle.slices.proofs.Laws.{Copied}
 use Rattle.slices.proofs.copy_words.Given as goal

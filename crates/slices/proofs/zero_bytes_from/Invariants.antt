@@ -1,5 +1,4 @@
--- A loop writes zeros from `k` on. Its invariant: the first `i` bytes are the first `k` as they were and then zeros (`Zeroed`); `zero_more` keeps it as
--- one more is written, and at the end `zero_done` gives the whole slice.
+-- A loop writes zeros from `k` on. Its invariant: the first `i` bytes are the first `k` as they were and then zeros (`Zeroed`).
 use Rattle.std.proofs.Common.{length, ◌-◌}
 use Rattle.slices.proofs.Laws.{Zeroed}
 use Rattle.slices.proofs.zero_bytes_from.Given as goal

@@ -1,5 +1,5 @@
 -- Monomials are taken one by one. The loop's invariant, `Running`: counting what is left of the list into the rows and those that wait gives what
--- counting the whole list gives. `run_step` keeps it; a run ends where a monomial cannot wait (`run_stop`) or with the list (`run_done`).
+-- counting the whole list gives. `run_step` keeps it; a run ends where a monomial cannot wait, or with the list.
 use Prim.Native.Nat.{◌-◌}
 use Rattle.group.proofs.Runs.{Running}
 use Rattle.group.proofs.pending.tally_run.Given as goal

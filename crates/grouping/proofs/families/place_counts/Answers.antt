@@ -1,4 +1,3 @@
-use mathlib.Core.Bool.{true}
 use native.Mathlib.Omega.{arith}
 use Rattle.grouping.proofs.RootItems.{count_root_taken, each_roots_done, each_roots_ready, each_roots_more}
 use Rattle.grouping.proofs.families.place_counts.Goals as goal

@@ -1,9 +1,7 @@
 -- Where the family's words start, and how many there are, is read of the sheet; then the terms of the records that they name are placed.
 use mathlib.Core.Path.{◌≡◌, ap}
 use Rattle.semantics.specs.Check.{read_sheet}
-use Rattle.semantics.specs.Group.{labelled}
-use Rattle.records.specs.Access.{words_from}
-use Rattle.grouping.specs.Families.{is_interaction, roots_of, constraint_root, each_roots, count_root_at, field_roots_at}
+use Rattle.grouping.specs.Families.{is_interaction, roots_of, each_roots, count_root_at, field_roots_at}
 use Rattle.grouping.proofs.RootItems.{constraint_span, constraint_labelled, interaction_span, count_labelled, field_labelled, named_ready, named_placed}
 use Rattle.grouping.proofs.families.place_family.Goals as goal
 

@@ -1,5 +1,4 @@
 use mathlib.Core.Path.{sym, subst}
-use mathlib.Core.Bool.{true}
 use Prim.Native.Nat.{◌≤◌}
 use native.Mathlib.Omega.{arith}
 use Rattle.records.specs.declared.Interaction.{Interaction}

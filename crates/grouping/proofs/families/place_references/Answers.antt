@@ -1,4 +1,3 @@
-use mathlib.Core.Bool.{true}
 use Rattle.grouping.proofs.RootItems.{roots_at_done, roots_at_ready, roots_at_more}
 use Rattle.grouping.proofs.families.place_references.Goals as goal
 

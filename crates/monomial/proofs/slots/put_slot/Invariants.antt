@@ -1,5 +1,5 @@
 -- The count and the coefficient are stored, then the fourteen variables one by one. The loop's invariant: the first i variables stand behind the
--- two words, kept by `stored`. With all fourteen the slot is the sixteen words: `two_and_more`.
+-- two words, kept by `stored`. With all fourteen the slot is the sixteen words.
 use mathlib.Core.Path.{◌≡◌}
 use Prim.Native.Nat.{◌+◌, ◌-◌, ◌≤◌}
 use lib.ListN.{length}
