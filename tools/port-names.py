@@ -14,7 +14,7 @@ edits = sorted(glob.glob('crates/*/must-fail/*.edit'))
 
 
 def snake(n):
-    n = n.replace('-', '_')
+    n = n.replace('getD', 'get_or').replace('-', '_')
     n = re.sub(r'(?<=[a-z0-9₀-₉])([A-Z])', lambda m: '_' + m.group(1).lower(), n)
     return n
 
@@ -26,7 +26,7 @@ def old_style(n):
 declared = {}
 for f in specs + lemmas:
     for line in open(f).read().split('\n'):
-        m = re.match(r'^\s*((?:abbrev|unfoldable|pub|mutual|ruleset|data|record) )*(' + NAME + r') :(?=\s|$)', line)
+        m = re.match(r'^\s*((?:abbrev|unfoldable|pub|mutual|ruleset|data|record) )*(' + NAME + r')(?: \{[^}]*\})? :(?=\s|$)', line)
         if m and not re.match(r'^\s*(data|record|pub data|pub record) ', line):
             for n in [m.group(2)]:
                 if old_style(n):
@@ -48,6 +48,7 @@ LEMMAS = 'block-check flat-map items-of value-at word-bytes'.split()
 TURNED = 'first_short hands_out insert_all list_at node_in numbers_of offset_at one_by_one'.split()
 new.update({n: snake(n) + '_lem' for n in LEMMAS})
 new.update({n: n + '_lem' for n in TURNED})
+new.update({n: n.replace('get_d', 'get_or') for n in ('get_d_after', 'get_d_front', 'get_d_map')})
 new.update({'countAt': 'count_list_at', 'maxFieldsLen': 'max_fields_len_of', 'numTerms': 'num_terms_of', 'numVars': 'num_vars_of'})
 if len(set(new.values())) != len(new):
     sys.exit('names fall together')

@@ -14,7 +14,7 @@ use Rattle.semantics.specs.Answer.{Answer, good, refused, and_then}
 use Rattle.semantics.specs.Block.{word_at, words_of, block_good, bad_length, read_blocks}
 use Rattle.semantics.specs.Call.{Result, Outcome, outcome, result, reader_call}
 use Rattle.semantics.proofs.Blocks.{reader_is}
-use Rattle.semantics.proofs.Basics.{cond-true, cond-false}
+use Rattle.semantics.proofs.Basics.{cond_true, cond_false}
 use Rattle.semantics.proofs.Calls.{needs_short}
 use Rattle.answers.specs.declared.Written.{Written}
 use Rattle.answers.specs.declared.Written.TheVariants.{Words, Refused}
@@ -87,7 +87,7 @@ module _ {bs o o₀ : List ℕ} {n k : ℕ} (r : BlocksRead bs o o₀ n k) where
     block_bad g =
         let e : read_blocks (n - k) k (drop (512 * k) bs) ≡ refused 2 k =
         ap (λ (m : ℕ). read_blocks m k (drop (512 * k) bs)) left
-        ∙ cond-false (block_good (suc k) (drop (512 * k) bs)) _ _ (ap (λ (m : ℕ). block_good m (drop (512 * k) bs)) (sym (add-one k)) ∙ sym g) in
+        ∙ cond_false (block_good (suc k) (drop (512 * k) bs)) _ _ (ap (λ (m : ℕ). block_good m (drop (512 * k) bs)) (sym (add-one k)) ∙ sym g) in
         refused_outcome o r.kept (record { number = 2; place = k })
         ∙ ap (following (length o₀) (take (127 * k) o)) (sym e) ∙ r.follow
 
@@ -101,7 +101,7 @@ module _ {bs o o₀ : List ℕ} {n k : ℕ} (r : BlocksRead bs o o₀ n k) where
         let d : drop (512 * (k + 1)) bs ≡ drop 512 bs₁ = ap (λ (m : ℕ). drop m bs) m ∙ sym (drop-drop 512 (512 * k) bs) in
         let e : read_blocks (n - k) k bs₁ ≡ and_then a (λ (ws : List ℕ). good (words_of 127 bs₁ ++ ws)) =
         ap (λ (m : ℕ). read_blocks m k bs₁) left
-        ∙ cond-true (block_good (suc k) bs₁) _ _ (ap (λ (m : ℕ). block_good m bs₁) (sym (add-one k)) ∙ sym g)
+        ∙ cond_true (block_good (suc k) bs₁) _ _ (ap (λ (m : ℕ). block_good m bs₁) (sym (add-one k)) ∙ sym g)
         ∙ (λ i. and_then (read_blocks (n - (k + 1)) (sym (add-one k) i) (sym d i)) (λ (ws : List ℕ). good (words_of 127 bs₁ ++ ws))) in
         let j : 127 * (k + 1) ≡ 127 * k + 127 = omega arith in
         let q : take (127 * (k + 1)) o' ≡ take (127 * k) o ++ words_of 127 bs₁ = ap (λ (m : ℕ). take m o') j ∙ f in
@@ -140,7 +140,7 @@ module _ (bs o : List ℕ) {lent : ℕ} (l : length o ≡ lent) where
 
   pub length_bad : true ≡ bad_length (length bs) → rest_zeroed (Refused (record { number = 1; place = 0 })) o ≡ reader_call bs (lent ∷ [])
   unfolding reader_call
-  length_bad b = refused_outcome o l _ ∙ ap (outcome [] (lent ∷ [])) (sym (cond-true (bad_length (length bs)) _ _ (sym b)))
+  length_bad b = refused_outcome o l _ ∙ ap (outcome [] (lent ∷ [])) (sym (cond_true (bad_length (length bs)) _ _ (sym b)))
 
   module _ (b : false ≡ bad_length (length bs)) where
     pub output_short : lent < 127 * (length bs / 512)
@@ -148,7 +148,7 @@ module _ (bs o : List ℕ) {lent : ℕ} (l : length o ≡ lent) where
     unfolding reader_call
     output_short h =
         refused_outcome o l _
-        ∙ ap (outcome [] (lent ∷ [])) (needs_short 15 _ lent reads h ∙ sym (cond-false (bad_length (length bs)) _ _ (sym b)))
+        ∙ ap (outcome [] (lent ∷ [])) (needs_short 15 _ lent reads h ∙ sym (cond_false (bad_length (length bs)) _ _ (sym b)))
 
     pub blocks_read : (r : Written) → 127 * (length bs / 512) ≤ lent → rest_zeroed r o ≡ words_outcome lent (read_blocks (length bs / 512) 0 bs)
         → rest_zeroed r o ≡ reader_call bs (lent ∷ [])

@@ -14,7 +14,7 @@ use Rattle.semantics.specs.Walk.{order}
 use Rattle.semantics.specs.Expand.{expand_all}
 use Rattle.semantics.specs.Group.{Root, Item, Group, constraint_roots, constraint_term, headers, variables, terms, layout}
 use Rattle.semantics.specs.Call.{Result, needs, result, fitted, first_short, family, constraint_outputs, expansion_of, constraints_of}
-use Rattle.semantics.proofs.Basics.{cond-true, cond-false, by-test}
+use Rattle.semantics.proofs.Basics.{cond_true, cond_false, by_test}
 use Rattle.semantics.proofs.Calls.{needs_met, needs_short}
 use Rattle.semantics.proofs.Demands.{constraint_nodes}
 use Rattle.records.specs.Access.{records_of}
@@ -37,7 +37,7 @@ first_bound k [] ns = omega arith
 first_bound k (w ∷ ws) [] = omega arith
 first_bound k (w ∷ ws) (n ∷ ns) =
     let ih = first_bound (suc k) ws ns in
-    by-test (λ (x : ℕ). x ≤ k + suc (length ws)) (leb (length w) n) (λ e. omega (arith, ih)) (λ e. omega arith)
+    by_test (λ (x : ℕ). x ≤ k + suc (length ws)) (leb (length w) n) (λ e. omega (arith, ih)) (λ e. omega arith)
 
 pub short_few : (term : Item → List ℕ) (gs : List Group) (h v t : List ℕ) (g : Grouped) → Laid term gs h v t g → ShortFew g
 unfolding layout
@@ -86,14 +86,14 @@ module _ (outputs : List (List ℕ)) (lent numbers : List ℕ) where
   pub fits : first_short 1 outputs lent ≡ 0 → good (record { outputs = outputs; numbers = numbers }) ≡ fitted outputs lent numbers
   unfolding fitted result
   fits e =
-      sym (cond-true (eqb (first_short 1 outputs lent) 0) (result outputs numbers) (refused 17 (first_short 1 outputs lent))
+      sym (cond_true (eqb (first_short 1 outputs lent) 0) (result outputs numbers) (refused 17 (first_short 1 outputs lent))
       (eq-eqb (first_short 1 outputs lent) 0 e))
 
   pub short : (k : ℕ) → first_short 1 outputs lent ≡ k → (k ≡ 0 → ⊥) → refused 17 k ≡ fitted outputs lent numbers
   unfolding fitted
   short k e n =
       ap (refused 17) (sym e)
-      ∙ sym (cond-false (eqb (first_short 1 outputs lent) 0) (result outputs numbers) (refused 17 (first_short 1 outputs lent))
+      ∙ sym (cond_false (eqb (first_short 1 outputs lent) 0) (result outputs numbers) (refused 17 (first_short 1 outputs lent))
       (ne_eqb (first_short 1 outputs lent) 0 (λ q. n (sym e ∙ q))))
 
 pub front_take : (k : ℕ) (words slice : List ℕ) → Front words slice → k ≡ length words → take k slice ≡ words

@@ -13,7 +13,7 @@ use Rattle.semantics.specs.Sheet.{Sheet, encode, length_of}
 use Rattle.semantics.specs.Check.{read_sheet, check}
 use Rattle.semantics.specs.Graph.{graph_of}
 use Rattle.semantics.specs.Call.{Result, outcome, needs, result, builder_call, check_call, zeros, padded_all}
-use Rattle.semantics.proofs.Basics.{cond-true, cond-false}
+use Rattle.semantics.proofs.Basics.{cond_true, cond_false}
 use Rattle.answers.specs.declared.Refusal.{Refusal}
 use Rattle.sheet.specs.declared.Checked.{Checked}
 use Rattle.sheet.specs.declared.Checked.TheVariants as checked
@@ -81,14 +81,14 @@ module _ {ws : List ℕ} {records words : ℕ} {scratch out : List ℕ} (h : Cle
       refused_clear (record { number = 14; place = records })
       ∙ ap (outcome (lent ∷ []) (n ∷ []))
       (ap (refused 14) h.records_are
-      ∙ sym (cond-false (leb (length s.records) lent) after (refused 14 (length s.records))
+      ∙ sym (cond_false (leb (length s.records) lent) after (refused 14 (length s.records))
       (lt-leb (length s.records) lent (omega (arith, h.records_are))))
       ∙ on_found prime ws (rest ws lent n) h.checked)
 
   enough : records ≤ lent → after ≡ rest ws lent n s
   unfolding needs
   enough l =
-      sym (cond-true (leb (length s.records) lent) after (refused 14 (length s.records))
+      sym (cond_true (leb (length s.records) lent) after (refused 14 (length s.records))
       (le-leb (length s.records) lent (omega (arith, h.records_are))))
 
   pub out_short : records ≤ lent → n < words
@@ -98,7 +98,7 @@ module _ {ws : List ℕ} {records words : ℕ} {scratch out : List ℕ} (h : Cle
       refused_clear (record { number = 15; place = words })
       ∙ ap (outcome (lent ∷ []) (n ∷ []))
       (ap (refused 15) h.words_are
-      ∙ sym (cond-false (leb (length_of s) n) (result (encode (graph_of prime s) ∷ []) []) (refused 15 (length_of s))
+      ∙ sym (cond_false (leb (length_of s) n) (result (encode (graph_of prime s) ∷ []) []) (refused 15 (length_of s))
       (lt-leb (length_of s) n (omega (arith, h.words_are))))
       ∙ enough l ∙ on_found prime ws (rest ws lent n) h.checked)
 
@@ -108,7 +108,7 @@ module _ {ws : List ℕ} {records words : ℕ} {scratch out : List ℕ} (h : Cle
   graph_built l k written out' eo ew =
       (λ i. record { reply = record { number = 0; place = 0; counts = ew i ∷ []; numbers = [] }; slices = zeros lent ∷ eo i ∷ [] })
       ∙ ap (outcome (lent ∷ []) (n ∷ []))
-      (sym (cond-true (leb (length_of s) n) (result (encode (graph_of prime s) ∷ []) []) (refused 15 (length_of s))
+      (sym (cond_true (leb (length_of s) n) (result (encode (graph_of prime s) ∷ []) []) (refused 15 (length_of s))
       (le-leb (length_of s) n (omega (arith, h.words_are))))
       ∙ enough l ∙ on_found prime ws (rest ws lent n) h.checked)
 

@@ -16,7 +16,7 @@ use Rattle.semantics.specs.Value.{Node, add, sub, neg, mul, node_of, record_at}
 use Rattle.semantics.specs.Walk.{Mem, children_at, member}
 use Rattle.semantics.specs.Monomial.{Monomial, neg_monomial, products, combine, working, finished, record_list, list_at}
 use Rattle.semantics.specs.Expand.{work_fault, record_fault}
-use Rattle.semantics.proofs.Basics.{by-test, cond-true}
+use Rattle.semantics.proofs.Basics.{by_test, cond_true}
 use Rattle.semantics.proofs.Expansions.{list_at_lem}
 use Rattle.records.specs.declared.Record as declared
 use Rattle.records.specs.Access.{five_words, node_in, records_of}
@@ -96,7 +96,7 @@ module _ {ws : List ℕ} {r : ℕ} {work pool : List ℕ} {used : ℕ} (p : Fini
   -- A record that is no leaf is refused for its working list only, and its list is finished from that.
   fault_is : (k : Node) → node_of R ≡ k → pack_fault R ≡ 0 → work_fault (working prime R k lists) ≡ record_fault prime (records_of ws) r
   unfolding record_fault
-  fault_is k e z = ap (λ (n : Node). work_fault (working prime R n lists)) (sym e) ∙ sym (cond-true (eqb (pack_fault R) 0) _ (pack_fault R) (eq-eqb (pack_fault R) 0 z))
+  fault_is k e z = ap (λ (n : Node). work_fault (working prime R n lists)) (sym e) ∙ sym (cond_true (eqb (pack_fault R) 0) _ (pack_fault R) (eq-eqb (pack_fault R) 0 z))
 
   list_is : (k : Node) → node_of R ≡ k → finished prime k (working prime R k lists) ≡ lists r
   list_is k e = ap (λ (n : Node). finished prime n (working prime R n lists)) (sym e) ∙ sym (list_at_lem prime (records_of ws) (lows ws checked) r l ∙ unfold record_list in refl)
@@ -138,7 +138,7 @@ module _ {ws : List ℕ} {r : ℕ} {work pool : List ℕ} {used : ℕ} (p : Fini
     finishes_leaf h work' u m =
         let low : R.kind ≤ 5 = omega (arith, kind) in
         makes_same work' u (pack_fault (five_words q)) (record_fault prime (records_of ws) r) (record_list prime (five_words q) (λ c. [])) (lists r)
-        (ap pack_fault words ∙ by-test (λ (n : ℕ). pack_fault R ≡ n) (eqb (pack_fault R) 0) (λ t. eqb-true (pack_fault R) 0 t ∙ sym (flat_fault R low lists)) (λ t. refl))
+        (ap pack_fault words ∙ by_test (λ (n : ℕ). pack_fault R ≡ n) (eqb (pack_fault R) 0) (λ t. eqb-true (pack_fault R) 0 t ∙ sym (flat_fault R low lists)) (λ t. refl))
         (ap (λ (z : Record). record_list prime z (λ c. [])) words ∙ flat_list R low (λ c. []) lists ∙ sym (list_at_lem prime (records_of ws) (lows ws checked) r l))
         m
 

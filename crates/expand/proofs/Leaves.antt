@@ -17,7 +17,7 @@ use Rattle.semantics.specs.Value.{Node, node_of}
 use Rattle.semantics.specs.Monomial.{Monomial, working, finished, record_list, above}
 use Rattle.semantics.specs.Expand.{longer, work_fault}
 use Rattle.semantics.specs.Lists.{All, Sorted}
-use Rattle.semantics.proofs.Basics.{by-test, and_true, true_and}
+use Rattle.semantics.proofs.Basics.{by_test, and_true, true_and}
 use Rattle.semantics.proofs.Records.{fits_row, is_kind, kind_good, words_fit}
 use Rattle.packed_var.specs.declared.Packed.{Packed}
 use Rattle.packed_var.specs.declared.Packed.TheVariants.{Var, Refused}
@@ -58,7 +58,7 @@ Told fault number (refused n k) = (fault ≡ n) × (n ≡ 0 → ⊥)
 record_told : (r : Record) → Told (pack_fault r) (packed r) (pack_record r)
 unfolding pack_record
 record_told r =
-    by-test (Told (pack_fault r) (packed r)) (eqb (pack_fault r) 0) (λ e. (eqb-true (pack_fault r) 0 e, refl)) (λ e. (refl, eqb-false (pack_fault r) 0 e))
+    by_test (Told (pack_fault r) (packed r)) (eqb (pack_fault r) 0) (λ e. (eqb-true (pack_fault r) 0 e, refl)) (λ e. (refl, eqb-false (pack_fault r) 0 e))
 
 one_fits : (m : Monomial) → length m.vars ≤ 1 → Sorted above m.vars → m.coef < prime → All Fits (m ∷ [])
 one_fits m l s c = (record { few = omega arith; sorted = s; small = c }, tt)
@@ -91,7 +91,7 @@ pub flat_fault : (r : Record) → r.kind ≤ 5 → (f : ℕ → List Monomial) �
 unfolding node_of working work_fault longer
 flat_fault r h f =
     let P : Node → Type 0 = λ k. work_fault (working prime r k f) ≡ 0 in
-    by-test P (eqb r.kind 5) (λ e. refl)
+    by_test P (eqb r.kind 5) (λ e. refl)
     (λ e. rw (ne_eqb r.kind 6 (omega arith), ne_eqb r.kind 7 (omega arith), ne_eqb r.kind 8 (omega arith), ne_eqb r.kind 9 (omega arith)))
 
 module _ (own : ℕ) (r : Record) (ok : GoodRecord prime own r) where

@@ -16,7 +16,7 @@ use Rattle.semantics.specs.Walk.{member}
 use Rattle.semantics.specs.Monomial.{Monomial, list_at}
 use Rattle.semantics.specs.Expand.{list_size, record_fault, expand_record, expand_all}
 use Rattle.semantics.specs.Lists.{All}
-use Rattle.semantics.proofs.Basics.{by-test, not-both}
+use Rattle.semantics.proofs.Basics.{by_test, not_both}
 use Rattle.semantics.proofs.Members.{mem_cases}
 use Rattle.semantics.proofs.Orders.{distinct_length}
 use Rattle.records.specs.Access.{records_of}
@@ -120,7 +120,7 @@ module _ (ws done : List ℕ) (pool r used : ℕ) (e : expand_all prime (records
 
 not_here : (i r : ℕ) (done : List ℕ) → member i (r ∷ done) ≡ false → (i ≡ r → ⊥) × (member i done ≡ false)
 unfolding member
-not_here i r done = by-test (λ (t : Bool). t ≡ false → (i ≡ r → ⊥) × (member i done ≡ false)) (eqb i r) (λ e h. not-both refl h) (λ e h. (eqb-false i r e, h))
+not_here i r done = by_test (λ (t : Bool). t ≡ false → (i ≡ r → ⊥) × (member i done ≡ false)) (eqb i r) (λ e h. not_both refl h) (λ e h. (eqb-false i r e, h))
 
 module _ (ws done pool : List ℕ) (used : ℕ) (h : PoolHolds ws done pool used) (o : Order ws done) (r : ℕ) (lr : r < length (records_of ws)) (new : member r done ≡ false) where
   abbrev L : List Monomial
@@ -159,7 +159,7 @@ module _ (ws done pool : List ℕ) (used : ℕ) (h : PoolHolds ws done pool used
       below = o.below i m
 
       other : i ≡ r → ⊥
-      other e = not-both (subst (λ (j : ℕ). member j done ≡ true) e m) new
+      other e = not_both (subst (λ (j : ℕ). member j done ≡ true) e m) new
 
       start_old : get_or Q (2 * i) 0 ≡ get_or pool (2 * i) 0
       start_old =

@@ -11,7 +11,7 @@ use mir.Facts.{to_z_pos, to_z-of_z}
 use borrow.Author.Tests.{le-leb, lt-leb}
 use Rattle.semantics.specs.Arithmetic.{add_m, sub_m, mul_m, neg_m, signed_of, SignedRange}
 use Rattle.field.specs.Modulus.{Modulus}
-use Rattle.semantics.proofs.Basics.{by-test}
+use Rattle.semantics.proofs.Basics.{by_test}
 use Rattle.semantics.proofs.Arithmetic.{mods, same_mod}
 use Rattle.semantics.proofs.Signs.{signed_range}
 
@@ -61,7 +61,7 @@ module _ (p a : ℕ) {r : ℕ} (m : Modulus p) (e : r ≡ a % p) where
 -- a value less its modulus has room in 64 signed bits
 difference_fits : (q x : ℕ) → x ≤ q → q < 2 ^ 31 → SFits w64 (pos x -ℤ pos (suc q))
 difference_fits q x l s =
-    by-test (SFits w64) (ltb x (suc q)) (λ t. record { sfits = omega arith }) (λ t. record { sfits = omega arith })
+    by_test (SFits w64) (ltb x (suc q)) (λ t. record { sfits = omega arith }) (λ t. record { sfits = omega arith })
 
 -- the signed reading of a word c, of which x is the remainder
 module _ (p c : ℕ) {x : ℕ} (m : Modulus p) (e : x ≡ c % p) where

@@ -10,8 +10,8 @@ use Rattle.semantics.specs.Sheet.{Sheet, interaction_words, length_of, place}
 use Rattle.semantics.specs.Check.{read_sheet}
 use Rattle.semantics.specs.Walk.{Mem, Below, member}
 use Rattle.semantics.specs.Graph.{Built, built, graph_roots, graph_of, sorted_once, renamed}
-use Rattle.semantics.proofs.Basics.{by-test}
-use Rattle.semantics.proofs.Members.{mem_right, mem_get_d, map_below}
+use Rattle.semantics.proofs.Basics.{by_test}
+use Rattle.semantics.proofs.Members.{mem_right, mem_get_or, map_below}
 use Rattle.semantics.proofs.Places.{place_head}
 use Rattle.semantics.proofs.Encoding.{sheet_length}
 use Rattle.semantics.proofs.Access.{constraint_word, words_count}
@@ -89,7 +89,7 @@ module _ {ws scratch out : List ℕ} {n : ℕ} (f : ToWriteLists ws scratch out 
   marks_small i l =
       subst (λ (k : ℕ). k < 65536)
       (sym (states.scratch_at ws (all_added ws) scratch out n f.holds i (omega (arith, states.scratch_length ws (all_added ws) scratch out n f.holds))))
-      (by-test (λ (k : ℕ). k < 65536) (member i (all_added ws))
+      (by_test (λ (k : ℕ). k < 65536) (member i (all_added ws))
       (λ e. omega (arith, states.num_small ws f.checked (all_added ws) ordered i e, few_records ws f.checked)) (λ e. omega arith))
 
   interaction_root : (c : ℕ) → Mem c (references s.interactions) → Mem c (graph_roots s)
@@ -104,7 +104,7 @@ module _ {ws scratch out : List ℕ} {n : ℕ} (f : ToWriteLists ws scratch out 
     named = λ j l.
         let w : get_or ws (at + j) 0 ≡ get_or s.constraints j 0 = ap (λ (a : ℕ). get_or ws (a + j) 0) e ∙ constraint_word prime ws s f.checked j (omega arith) in
         subst (λ (c : ℕ). (c < length scratch) × (0 < marks_of scratch c) × (marks_of scratch c ≤ length scratch)) (sym w)
-        (root_named (get_or s.constraints j 0) (constraint_root_lem s (get_or s.constraints j 0) (mem_get_d s.constraints j (omega arith))));
+        (root_named (get_or s.constraints j 0) (constraint_root_lem s (get_or s.constraints j 0) (mem_get_or s.constraints j (omega arith))));
   }
 
   abbrev nums : List ℕ

@@ -7,7 +7,7 @@ use lib.ListN.{length, get_or, drop, length-map}
 use Rattle.semantics.specs.Sheet.{Interaction, interaction_words}
 use Rattle.semantics.specs.Graph.{renamed}
 use Rattle.semantics.specs.Walk.{Mem}
-use Rattle.semantics.proofs.Members.{mem_here, mem_there, mem_left, mem_right, mem_get_d}
+use Rattle.semantics.proofs.Members.{mem_here, mem_there, mem_left, mem_right, mem_get_or}
 use Rattle.records.specs.Access.{message_length, each_words}
 use Rattle.records.proofs.Reading.{references, bus_is, weight_is, count_word, count_is, length_is, message_is, next_stands, interaction_inside, field_word, first_stands}
 use Rattle.graph_lists.specs.Lists.{node_numbers, marks_of, NamedInteraction, NamedInteractions, renamed_words, renamed_all}
@@ -51,7 +51,7 @@ module _ (ws : List ℕ) (at : ℕ) (x : Interaction) (tail : List ℕ) (e : dro
       small = s;
       inside = omega (arith, interaction_inside ws at x tail e);
       named = λ j l. subst (Marked scratch) (sym (field_word ws at x tail e j l))
-          (h (get_or x.message j 0) (mem_left (get_or x.message j 0) x.message (x.count ∷ []) (mem_get_d x.message j (omega (arith, length_is ws at x tail e)))));
+          (h (get_or x.message j 0) (mem_left (get_or x.message j 0) x.message (x.count ∷ []) (mem_get_or x.message j (omega (arith, length_is ws at x tail e)))));
     };
   }
     where

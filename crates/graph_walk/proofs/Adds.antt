@@ -13,7 +13,7 @@ use Rattle.semantics.specs.Value.{node_of}
 use Rattle.semantics.specs.Walk.{children, member}
 use Rattle.semantics.specs.Graph as graph
 use Rattle.semantics.specs.Graph.{Built, set_num, take_in, add_record, build, find, intern}
-use Rattle.semantics.proofs.Basics.{cond-true}
+use Rattle.semantics.proofs.Basics.{cond_true}
 use Rattle.semantics.proofs.Members.{mem_here}
 use Rattle.semantics.proofs.Places.{place_most}
 use Rattle.semantics.proofs.Records.{LowRecord, each_low}
@@ -30,11 +30,11 @@ use Rattle.graph_walk.specs.Walking.{Adding, pick_of_record}
 module _ (b : Built) (r : ℕ) where
   num_present : (k : ℕ) → (take_in b r (graph.present k)).num r ≡ k
   unfolding take_in set_num
-  num_present k = cond-true (eqb r r) k (b.num r) (eq-eqb r r refl)
+  num_present k = cond_true (eqb r r) k (b.num r) (eq-eqb r r refl)
 
   num_made : (q : Record) → (take_in b r (graph.make q)).num r ≡ find q b.nodes
   unfolding take_in set_num
-  num_made q = cond-true (eqb r r) (find q b.nodes) (b.num r) (eq-eqb r r refl)
+  num_made q = cond_true (eqb r r) (find q b.nodes) (b.num r) (eq-eqb r r refl)
 
 -- A record whose children are added.
 module _ {ws : List ℕ} {r : ℕ} {scratch out : List ℕ} {n : ℕ} (p : Adding ws r scratch out n) where

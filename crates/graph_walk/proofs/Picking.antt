@@ -15,7 +15,7 @@ use Rattle.semantics.specs.Value.{Node, node_of, record_at}
 use Rattle.semantics.specs.Walk.{Mem, children_at}
 use Rattle.semantics.specs.Graph as graph
 use Rattle.semantics.specs.Graph.{Built, node_for, pick, add_rule, sub_rule, neg_rule, mul_rule}
-use Rattle.semantics.proofs.Basics.{by-test}
+use Rattle.semantics.proofs.Basics.{by_test}
 use Rattle.semantics.proofs.Places.{place_below}
 use Rattle.semantics.proofs.Orders.{distinct_length}
 use Rattle.records.specs.declared.Record as declared
@@ -37,11 +37,11 @@ module _ (p : ℕ) (b : Built) (r : Record) where
   unfolding node_of pick
   flat_pick h =
       let P : Node → Type 0 = λ k. pick p b r k ≡ graph.make r in
-      by-test P (eqb r.kind 5) (λ e. refl)
-      (λ _. by-test P (eqb r.kind 6) (λ e. absurd (omega (arith, eqb-true r.kind 6 e)))
-      (λ _. by-test P (eqb r.kind 7) (λ e. absurd (omega (arith, eqb-true r.kind 7 e)))
-      (λ _. by-test P (eqb r.kind 8) (λ e. absurd (omega (arith, eqb-true r.kind 8 e)))
-      (λ _. by-test P (eqb r.kind 9) (λ e. absurd (omega (arith, eqb-true r.kind 9 e))) (λ _. refl)))))
+      by_test P (eqb r.kind 5) (λ e. refl)
+      (λ _. by_test P (eqb r.kind 6) (λ e. absurd (omega (arith, eqb-true r.kind 6 e)))
+      (λ _. by_test P (eqb r.kind 7) (λ e. absurd (omega (arith, eqb-true r.kind 7 e)))
+      (λ _. by_test P (eqb r.kind 8) (λ e. absurd (omega (arith, eqb-true r.kind 8 e)))
+      (λ _. by_test P (eqb r.kind 9) (λ e. absurd (omega (arith, eqb-true r.kind 9 e))) (λ _. refl)))))
 
   neg_pick : r.kind ≡ 8 → pick p b r (node_of r) ≡ neg_rule p (b.num r.a) (node_for b r.a) r.c
   unfolding node_of pick
@@ -56,11 +56,11 @@ module _ (p : ℕ) (b : Built) (r : Record) where
   two_pick l h n =
       let R : graph.Pick = two_rule r.kind (b.num r.a) (b.num r.b) (node_for b r.a) (node_for b r.b) r.c in
       let P : Node → Type 0 = λ k. pick p b r k ≡ R in
-      by-test P (eqb r.kind 5) (λ e. absurd (omega (arith, eqb-true r.kind 5 e)))
-      (λ _. by-test P (eqb r.kind 6) (λ e. rw e)
-      (λ e₆. by-test P (eqb r.kind 7) (λ e. rw (e₆, e))
-      (λ e₇. by-test P (eqb r.kind 8) (λ e. absurd (n (eqb-true r.kind 8 e)))
-      (λ _. by-test P (eqb r.kind 9) (λ e. rw (e₆, e₇))
+      by_test P (eqb r.kind 5) (λ e. absurd (omega (arith, eqb-true r.kind 5 e)))
+      (λ _. by_test P (eqb r.kind 6) (λ e. rw e)
+      (λ e₆. by_test P (eqb r.kind 7) (λ e. rw (e₆, e))
+      (λ e₇. by_test P (eqb r.kind 8) (λ e. absurd (n (eqb-true r.kind 8 e)))
+      (λ _. by_test P (eqb r.kind 9) (λ e. rw (e₆, e₇))
       (λ e₉. absurd (omega (arith, eqb-false r.kind 6 e₆, eqb-false r.kind 7 e₇, n, eqb-false r.kind 9 e₉)))))))
 
 -- The rules over what the code reads of the children.

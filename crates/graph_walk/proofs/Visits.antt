@@ -15,7 +15,7 @@ use Rattle.semantics.specs.Answer.{good}
 use Rattle.semantics.specs.Sheet.{Record}
 use Rattle.semantics.specs.Check.{read_sheet, check}
 use Rattle.semantics.specs.Walk.{Mem, children_at, member}
-use Rattle.semantics.proofs.Basics.{by-test}
+use Rattle.semantics.proofs.Basics.{by_test}
 use Rattle.semantics.proofs.Members.{mem_here, mem_there, mem_cases, mem_either, not_in}
 use Rattle.records.specs.Access.{node_in, records_of}
 use Rattle.records.specs.Orders.{Visiting, Visits, Finishes}
@@ -48,8 +48,8 @@ module _ (ws : List ℕ) (checked : check prime ws ≡ good (read_sheet ws)) (r 
 
   child_in : (i : ℕ) → Mem (child_of (node_in ws r) i) (ch r)
   child_in i =
-      by-test (λ (c : ℕ). Mem c (ch r)) (eqb i 0) (λ _. left_in)
-      (λ _. by-test (λ (c : ℕ). Mem c (ch r)) (eqb (node_in ws r).kind 8) (λ _. left_in)
+      by_test (λ (c : ℕ). Mem c (ch r)) (eqb i 0) (λ _. left_in)
+      (λ _. by_test (λ (c : ℕ). Mem c (ch r)) (eqb (node_in ws r).kind 8) (λ _. left_in)
       (λ e. subst (Mem y) (sym (two_read ws checked r l x refl k (eqb-false _ _ e) y refl)) (mem_there y x (y ∷ []) (mem_here y []))))
 
   first_in : (i c : ℕ) → Mem c (first_of (node_in ws r) i) → Mem c (ch r)
@@ -63,7 +63,7 @@ module _ (ws : List ℕ) (checked : check prime ws ≡ good (read_sheet ws)) (r 
   -- When the loop was at both, all children are visited.
   all_visited : (P Q : List ℕ → Type 0) → Visiting ws (first_of (node_in ws r) 2) P Q → Visiting ws (ch r) P Q
   all_visited P Q =
-      by-test (λ (c : ℕ). Visiting ws (x ∷ c ∷ []) P Q → Visiting ws (ch r) P Q) (eqb (node_in ws r).kind 8)
+      by_test (λ (c : ℕ). Visiting ws (x ∷ c ∷ []) P Q → Visiting ws (ch r) P Q) (eqb (node_in ws r).kind 8)
       (λ e f. subst (λ (cs : List ℕ). Visiting ws cs P Q) (sym (one_read ws checked r l x refl (eqb-true _ _ e)))
       (visiting_again ws checked P Q x (child_inside ws checked r l x left_in) f))
       (λ e f. subst (λ (cs : List ℕ). Visiting ws cs P Q) (sym (two_read ws checked r l x refl k (eqb-false _ _ e) y refl)) f)

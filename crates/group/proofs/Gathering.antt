@@ -7,7 +7,7 @@ use Prim.Native.Nat.{ℕ}
 use Rattle.semantics.specs.Monomial.{before_vars, insert_sorted, sort}
 use Rattle.semantics.specs.Group.{Item, later, Group, push, split}
 use Rattle.semantics.specs.Lists.{All}
-use Rattle.semantics.proofs.Basics.{not-both, cond-true, cond-false}
+use Rattle.semantics.proofs.Basics.{not_both, cond_true, cond_false}
 use Rattle.semantics.proofs.Order.{before_vars_irrefl, before_vars_trans, before_vars_total, before_vars_asym}
 use Rattle.semantics.proofs.Sorting.{sort_all, insert_by, insert_nil, sort_nil, sort_cons}
 use Rattle.semantics.proofs.Grouping.{later_asym, later_vars}
@@ -28,17 +28,17 @@ side v w = go (before_vars v w) (before_vars w v) refl refl
 module _ {X : Type 0} (v w : List ℕ) (a b c : X) where
   pub less_is : before_vars v w ≡ true → by_order v w a b c ≡ a
   unfolding by_order
-  less_is h = cond-true (before_vars v w) a (cond (before_vars w v) b c) h
+  less_is h = cond_true (before_vars v w) a (cond (before_vars w v) b c) h
 
   pub more_is : before_vars w v ≡ true → by_order v w a b c ≡ b
   unfolding by_order
-  more_is h = cond-false (before_vars v w) a (cond (before_vars w v) b c) (before_vars_asym w v h) ∙ cond-true (before_vars w v) b c h
+  more_is h = cond_false (before_vars v w) a (cond (before_vars w v) b c) (before_vars_asym w v h) ∙ cond_true (before_vars w v) b c h
 
   pub same_is : v ≡ w → by_order v w a b c ≡ c
   unfolding by_order
   same_is e =
-      cond-false (before_vars v w) a (cond (before_vars w v) b c) (subst (λ (z : List ℕ). before_vars v z ≡ false) e (before_vars_irrefl v))
-      ∙ cond-false (before_vars w v) b c (subst (λ (z : List ℕ). before_vars z v ≡ false) e (before_vars_irrefl v))
+      cond_false (before_vars v w) a (cond (before_vars w v) b c) (subst (λ (z : List ℕ). before_vars v z ≡ false) e (before_vars_irrefl v))
+      ∙ cond_false (before_vars w v) b c (subst (λ (z : List ℕ). before_vars z v ≡ false) e (before_vars_irrefl v))
 
 -- A group of one item, and a group with one more item in front.
 abbrev pub alone : Item → Group
@@ -95,7 +95,7 @@ push_first t g gs h = go (side t.vars g.vars)
   where
     go : Side t.vars g.vars → push t (g ∷ gs) ≡ gather t (g ∷ gs)
     go (inl e) = push_less t g gs e ∙ sym (gather_less t g gs e)
-    go (inr (inl e)) = not-both e h
+    go (inr (inl e)) = not_both e h
     go (inr (inr e)) = push_same t g gs e ∙ sym (gather_same t g gs e)
 
 push_front : (t s : Item) (gs : List Group) → before_vars s.vars t.vars ≡ false → push t (push s gs) ≡ gather t (push s gs)
@@ -150,11 +150,11 @@ split_insert t (s ∷ ts) k =
   where
     behind : later t s ≡ true → Side s.vars t.vars → before_vars s.vars t.vars ≡ true
     behind e (inl f) = f
-    behind e (inr (inl f)) = not-both (later_vars s t f) (later_asym t s e)
-    behind e (inr (inr f)) = not-both e (k.0 (sym f))
+    behind e (inr (inl f)) = not_both (later_vars s t f) (later_asym t s e)
+    behind e (inr (inr f)) = not_both e (k.0 (sym f))
 
     ahead : later t s ≡ false → Side s.vars t.vars → before_vars s.vars t.vars ≡ false
-    ahead e (inl f) = not-both (later_vars t s f) e
+    ahead e (inl f) = not_both (later_vars t s f) e
     ahead e (inr (inl f)) = before_vars_asym t.vars s.vars f
     ahead e (inr (inr f)) = subst (λ (v : List ℕ). before_vars s.vars v ≡ false) f (before_vars_irrefl s.vars)
 

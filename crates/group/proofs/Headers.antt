@@ -6,7 +6,7 @@ use native.Mathlib.Omega.{arith}
 use lib.ListN.{length, get_or, take, drop, length-map}
 use Rattle.slices.proofs.Rows.{rows_length, word_at}
 use Rattle.slices.specs.Rows.{rows}
-use Rattle.semantics.proofs.Lists.{get_d_map}
+use Rattle.semantics.proofs.Lists.{get_or_map}
 use Rattle.semantics.proofs.Sorting.{all_within}
 use Rattle.group.specs.Grouped.{Tally, tallied_total, none, tally_row, tallied, RowInside, Rows}
 
@@ -17,7 +17,7 @@ tallied_length n H P = length-map (rows 4 n H) (tally_row P) ∙ rows_length 4 n
 
 pub tallied_at : (n k : ℕ) (H P : List ℕ) → k < n → get_or (tallied n H P) k none ≡ tally_row P (get_or (rows 4 n H) k [])
 unfolding tallied
-tallied_at n k H P h = get_d_map (tally_row P) (rows 4 n H) k [] none (subst (λ (m : ℕ). k < m) (sym (rows_length 4 n H)) h)
+tallied_at n k H P h = get_or_map (tally_row P) (rows 4 n H) k [] none (subst (λ (m : ℕ). k < m) (sym (rows_length 4 n H)) h)
 
 pub vars_at_lem : (n k : ℕ) (H P : List ℕ) → k < n → (get_or (tallied n H P) k none).vars ≡ take (get_or H (4 * k + 2) 0) (drop (get_or H (4 * k) 0 + 2) P)
 unfolding tally_row

@@ -12,7 +12,7 @@ use Rattle.semantics.specs.Monomial.{Asc, Monomial, before, before_vars}
 use Rattle.semantics.specs.Group.{Root, labelled, constraint_roots, count_roots, field_roots, Item, items_of, items, key, later, groups}
 use Rattle.semantics.specs.Lists.{All}
 use Rattle.semantics.proofs.Combining.{Above}
-use Rattle.semantics.proofs.Basics.{by-test, not-both}
+use Rattle.semantics.proofs.Basics.{by_test, not_both}
 use Rattle.semantics.proofs.Order.{lex_head, lex_tail, before_vars_irrefl}
 use Rattle.semantics.proofs.Sorting.{all_append}
 use Rattle.semantics.proofs.Grouping.{later_asym}
@@ -47,7 +47,7 @@ of_all : (P : Item → Type 0) (Q : Monomial → Type 0) (r : Root) → ((m : Mo
     → (ms : List Monomial) → All Q ms → All P (items_of r ms)
 unfolding items_of
 of_all P Q r f [] k = tt
-of_all P Q r f (m ∷ ms) k = let ih = of_all P Q r f ms in by-test (All P) (eqb m.coef 0) (λ e. ih k.1) (λ e. (f m k.0, ih k.1))
+of_all P Q r f (m ∷ ms) k = let ih = of_all P Q r f ms in by_test (All P) (eqb m.coef 0) (λ e. ih k.1) (λ e. (f m k.0, ih k.1))
 
 above_all_lem : (v : List ℕ) (ms : List Monomial) → Above v ms → All (λ (m : Monomial). before_vars v m.vars ≡ true) ms
 above_all_lem v [] k = tt
@@ -62,11 +62,11 @@ unfolding items_of
 of_steady r [] k = tt
 of_steady r (m ∷ ms) k =
     let ih = of_steady r ms in
-    by-test Steady (eqb m.coef 0) (λ e. ih k.1)
+    by_test Steady (eqb m.coef 0) (λ e. ih k.1)
     (λ e. (
       of_all (λ (u : Item). m.vars ≡ u.vars → later (record { vars = m.vars; index = r.index; field = r.field; coef = m.coef }) u ≡ false)
           (λ (n : Monomial). before_vars m.vars n.vars ≡ true) r
-          (λ n h q. not-both (subst (λ (v : List ℕ). before_vars m.vars v ≡ true) (sym q) h) (before_vars_irrefl m.vars))
+          (λ n h q. not_both (subst (λ (v : List ℕ). before_vars m.vars v ≡ true) (sym q) h) (before_vars_irrefl m.vars))
           ms (above_all_lem m.vars ms k.0),
       ih k.1,
     ))

@@ -16,10 +16,10 @@ use Rattle.semantics.specs.Monomial.{Monomial}
 use Rattle.semantics.specs.Group.{Item, items_of, constraint_term, interaction_term}
 use Rattle.semantics.specs.Call.{zeros, padded}
 use Rattle.semantics.specs.Lists.{All}
-use Rattle.semantics.proofs.Basics.{cond-true, cond-false}
+use Rattle.semantics.proofs.Basics.{cond_true, cond_false}
 use Rattle.semantics.proofs.Sorting.{all_within}
 use Rattle.semantics.proofs.Grouping.{constraint_wide, interaction_wide}
-use Rattle.semantics.proofs.Lists.{get_d_map}
+use Rattle.semantics.proofs.Lists.{get_or_map}
 use Rattle.semantics.proofs.Calls.{padded_is, padded_length}
 use Rattle.group.specs.declared.Found.TheVariants.{There, Missing}
 use Rattle.monomial.specs.Words.{read_monomial, list_in, read_list}
@@ -157,7 +157,7 @@ module _ {b : Bool} {gs : List Tally} {n : ℕ} {H P T : List ℕ} {done : List 
   cursor_word : get_or (column 1 n H) k 0 ≡ get_or H (4 * k + 1) 0
   cursor_word =
       ap (λ (l : List ℕ). get_or l k 0) (column_words 1 n H)
-      ∙ get_d_map (λ (row : List ℕ). get_or row 1 0) (rows 4 n H) k [] 0 (subst (λ (i : ℕ). k < i) (sym (rows_length 4 n H)) row_lt)
+      ∙ get_or_map (λ (row : List ℕ). get_or row 1 0) (rows 4 n H) k [] 0 (subst (λ (i : ℕ). k < i) (sym (rows_length 4 n H)) row_lt)
       ∙ word_at 4 n k 1 H row_lt (omega arith)
 
   cursor_spot : get_or H (4 * k + 1) 0 ≡ spot gs k done
@@ -209,11 +209,11 @@ module _ {b : Bool} {gs : List Tally} {n : ℕ} {H P T : List ℕ} {done : List 
 module _ (index field : ℕ) (m : Monomial) where
   pub items_none : m.coef ≡ 0 → items_at index field (m ∷ []) ≡ []
   unfolding items_of
-  items_none e = cond-true (eqb m.coef 0) [] (item_at index field m ∷ []) (eq-eqb m.coef 0 e)
+  items_none e = cond_true (eqb m.coef 0) [] (item_at index field m ∷ []) (eq-eqb m.coef 0 e)
 
   pub items_one : (m.coef ≡ 0 → ⊥) → items_at index field (m ∷ []) ≡ item_at index field m ∷ []
   unfolding items_of
-  items_one e = cond-false (eqb m.coef 0) [] (item_at index field m ∷ []) (ne_eqb m.coef 0 e)
+  items_one e = cond_false (eqb m.coef 0) [] (item_at index field m ∷ []) (ne_eqb m.coef 0 e)
 
   items_cons : (ms : List Monomial) → items_at index field (m ∷ ms) ≡ items_at index field (m ∷ []) ++ items_at index field ms
   unfolding items_of

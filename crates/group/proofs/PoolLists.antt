@@ -8,12 +8,12 @@ use lib.Dec.{eqb}
 use lib.ListN.{length, get_or, take, drop, take-append-drop}
 use lib.Seq.{get_or-drop, drop-drop, take_at, drop_at}
 use borrow.Author.Tests.{eq-eqb, ne_eqb}
-use Rattle.slices.proofs.Lists.{get_d_front}
+use Rattle.slices.proofs.Lists.{get_or_front}
 use Rattle.semantics.specs.Monomial.{Monomial}
 use Rattle.semantics.specs.Expand.{list_size}
 use Rattle.semantics.specs.Group.{Root, items_of}
 use Rattle.semantics.specs.Lists.{All}
-use Rattle.semantics.proofs.Basics.{by-test, cond-true, cond-false}
+use Rattle.semantics.proofs.Basics.{by_test, cond_true, cond_false}
 use Rattle.monomial.specs.Words.{monomial_words, list_words, read_monomial, read_list, list_in, Fits, Stored}
 use Rattle.monomial.proofs.ListLaws.{words_cons, size_cons, one_length, words_length, front_count, stored_list, list_in_suc}
 use Rattle.group.specs.Grouped.{Tally, tally_all, non_zero, MonomialInside, Standing, list_of, InPool}
@@ -27,11 +27,11 @@ read_coef P at = get_or-drop at P 1 0
 module _ (m : Monomial) where
   pub non_zero_none : m.coef ≡ 0 → non_zero (m ∷ []) ≡ []
   unfolding non_zero
-  non_zero_none e = cond-true (eqb m.coef 0) [] (m.vars ∷ []) (eq-eqb m.coef 0 e)
+  non_zero_none e = cond_true (eqb m.coef 0) [] (m.vars ∷ []) (eq-eqb m.coef 0 e)
 
   pub non_zero_kept : (m.coef ≡ 0 → ⊥) → non_zero (m ∷ []) ≡ m.vars ∷ []
   unfolding non_zero
-  non_zero_kept e = cond-false (eqb m.coef 0) [] (m.vars ∷ []) (ne_eqb m.coef 0 e)
+  non_zero_kept e = cond_false (eqb m.coef 0) [] (m.vars ∷ []) (ne_eqb m.coef 0 e)
 
 pub non_zero_cons : (m : Monomial) (ms : List Monomial) → non_zero (m ∷ ms) ≡ non_zero (m ∷ []) ++ non_zero ms
 unfolding non_zero
@@ -43,14 +43,14 @@ non_zero_cons m ms = go (eqb m.coef 0)
 
 pub non_zero_one : (m : Monomial) → length (non_zero (m ∷ [])) ≤ 1
 unfolding non_zero
-non_zero_one m = by-test (λ (l : List (List ℕ)). length l ≤ 1) (eqb m.coef 0) (λ e. omega arith) (λ e. omega arith)
+non_zero_one m = by_test (λ (l : List (List ℕ)). length l ≤ 1) (eqb m.coef 0) (λ e. omega arith) (λ e. omega arith)
 
 pub non_zero_length : (ms : List Monomial) → length (non_zero ms) ≤ length ms
 unfolding non_zero
 non_zero_length [] = omega arith
 non_zero_length (m ∷ ms) =
     let ih = non_zero_length ms in
-    by-test (λ (l : List (List ℕ)). length l ≤ suc (length ms)) (eqb m.coef 0) (λ e. omega arith) (λ e. omega arith)
+    by_test (λ (l : List (List ℕ)). length l ≤ suc (length ms)) (eqb m.coef 0) (λ e. omega arith) (λ e. omega arith)
 
 pub items_vars : (r : Root) (ms : List Monomial) → vars_of (items_of r ms) ≡ non_zero ms
 unfolding items_of non_zero
@@ -99,7 +99,7 @@ module _ (m : Monomial) (ms : List Monomial) (P : List ℕ) (at : ℕ)
       ∙ append_assoc (monomial_words m) (list_words ms) behind
 
   first_is : get_or P at 0 ≡ length m.vars
-  first_is = sym (get_d_front P at) ∙ ap (λ (l : List ℕ). get_or l 0 0) whole ∙ front_count m (list_words ms ++ behind)
+  first_is = sym (get_or_front P at) ∙ ap (λ (l : List ℕ). get_or l 0 0) whole ∙ front_count m (list_words ms ++ behind)
 
   rest_is : take (list_size ms) (drop (at + 2 + get_or P at 0) P) ≡ list_words ms
   rest_is =

@@ -17,7 +17,7 @@ use Rattle.semantics.specs.Check.{read_sheet}
 use Rattle.semantics.specs.Group.{Root, Item, items_of, items, Group, groups, headers, variables, terms, layout}
 use Rattle.semantics.specs.Call.{zeros, padded, first_short}
 use Rattle.semantics.specs.Lists.{All}
-use Rattle.semantics.proofs.Basics.{cond-true, cond-false}
+use Rattle.semantics.proofs.Basics.{cond_true, cond_false}
 use Rattle.semantics.proofs.Sorting.{all_imply, all_map}
 use Rattle.semantics.proofs.Grouping.{headers_length}
 use Rattle.semantics.proofs.HeaderSizes.{constraints_few, counts_few, fields_few}
@@ -70,29 +70,29 @@ terms_count b (g ∷ gs) =
 module _ (term : Item → List ℕ) (gs : List Group) (a b c : ℕ) where
   short_one : a < length (headers 0 0 gs) → first_short 1 (layout term gs) (a ∷ b ∷ c ∷ []) ≡ 1
   unfolding first_short layout
-  short_one h = cond-false (leb (length (headers 0 0 gs)) a) _ 1 (lt-leb (length (headers 0 0 gs)) a h)
+  short_one h = cond_false (leb (length (headers 0 0 gs)) a) _ 1 (lt-leb (length (headers 0 0 gs)) a h)
 
   module _ (h : length (headers 0 0 gs) ≤ a) where
     short_two : b < length (variables gs) → first_short 1 (layout term gs) (a ∷ b ∷ c ∷ []) ≡ 2
     unfolding first_short layout
     short_two k =
-        cond-true (leb (length (headers 0 0 gs)) a) _ 1 (le-leb (length (headers 0 0 gs)) a h)
-        ∙ cond-false (leb (length (variables gs)) b) _ 2 (lt-leb (length (variables gs)) b k)
+        cond_true (leb (length (headers 0 0 gs)) a) _ 1 (le-leb (length (headers 0 0 gs)) a h)
+        ∙ cond_false (leb (length (variables gs)) b) _ 2 (lt-leb (length (variables gs)) b k)
 
     module _ (k : length (variables gs) ≤ b) where
       short_three : c < length (terms term gs) → first_short 1 (layout term gs) (a ∷ b ∷ c ∷ []) ≡ 3
       unfolding first_short layout
       short_three l =
-          cond-true (leb (length (headers 0 0 gs)) a) _ 1 (le-leb (length (headers 0 0 gs)) a h)
-          ∙ cond-true (leb (length (variables gs)) b) _ 2 (le-leb (length (variables gs)) b k)
-          ∙ cond-false (leb (length (terms term gs)) c) _ 3 (lt-leb (length (terms term gs)) c l)
+          cond_true (leb (length (headers 0 0 gs)) a) _ 1 (le-leb (length (headers 0 0 gs)) a h)
+          ∙ cond_true (leb (length (variables gs)) b) _ 2 (le-leb (length (variables gs)) b k)
+          ∙ cond_false (leb (length (terms term gs)) c) _ 3 (lt-leb (length (terms term gs)) c l)
 
       short_none : length (terms term gs) ≤ c → first_short 1 (layout term gs) (a ∷ b ∷ c ∷ []) ≡ 0
       unfolding first_short layout
       short_none l =
-          cond-true (leb (length (headers 0 0 gs)) a) _ 1 (le-leb (length (headers 0 0 gs)) a h)
-          ∙ cond-true (leb (length (variables gs)) b) _ 2 (le-leb (length (variables gs)) b k)
-          ∙ cond-true (leb (length (terms term gs)) c) _ 3 (le-leb (length (terms term gs)) c l)
+          cond_true (leb (length (headers 0 0 gs)) a) _ 1 (le-leb (length (headers 0 0 gs)) a h)
+          ∙ cond_true (leb (length (variables gs)) b) _ 2 (le-leb (length (variables gs)) b k)
+          ∙ cond_true (leb (length (terms term gs)) c) _ 3 (le-leb (length (terms term gs)) c l)
 
 -- No rows yet.
 rows_none : (H P : List ℕ) → H ≡ zeros (length H) → Rows 0 H P × (tallied 0 H P ≡ [])

@@ -15,7 +15,7 @@ use Rattle.semantics.specs.Monomial.{list_at}
 use Rattle.semantics.specs.Group.{Root, Item, Group, constraint_roots, count_roots, field_roots, constraint_term, interaction_term, groups, headers, variables, terms, layout}
 use Rattle.semantics.specs.Call.{Outcome, Result, Accepted, outcome, needs, on_sheet, first_short, fitted, family, handed_back, expansion_of, expansion}
 use Rattle.semantics.specs.Call.{constraint_outputs, constraint_call, interaction_outputs, interaction_numbers, interaction_call}
-use Rattle.semantics.proofs.Basics.{by-test}
+use Rattle.semantics.proofs.Basics.{by_test}
 use Rattle.semantics.proofs.Demands.{Expanded, expanded}
 use Rattle.semantics.proofs.Grouping.{constraint_wide, interaction_wide}
 use Rattle.listing.specs.declared.headers.Family.{Family}
@@ -28,12 +28,12 @@ module _ (scratch lent : List ℕ) where
   needs_passed : (n needed had : ℕ) (rest : Answer Result) → (n ≡ 0 → ⊥) → Accepted (outcome scratch lent (needs n needed had rest)) → Accepted (outcome scratch lent rest)
   unfolding needs outcome
   needs_passed n needed had rest h =
-      by-test (λ (a : Answer Result). Accepted (outcome scratch lent a) → Accepted (outcome scratch lent rest)) (leb needed had) (λ e a. a) (λ e a. absurd (h a))
+      by_test (λ (a : Answer Result). Accepted (outcome scratch lent a) → Accepted (outcome scratch lent rest)) (leb needed had) (λ e a. a) (λ e a. absurd (h a))
 
   fitted_passed : (outputs : List (List ℕ)) (numbers : List ℕ) → Accepted (outcome scratch lent (fitted outputs lent numbers)) → first_short 1 outputs lent ≡ 0
   unfolding fitted outcome
   fitted_passed outputs numbers =
-      by-test (λ (a : Answer Result). Accepted (outcome scratch lent a) → first_short 1 outputs lent ≡ 0) (eqb (first_short 1 outputs lent) 0)
+      by_test (λ (a : Answer Result). Accepted (outcome scratch lent a) → first_short 1 outputs lent ≡ 0) (eqb (first_short 1 outputs lent) 0)
       (λ e a. eqb-true (first_short 1 outputs lent) 0 e) (λ e a. absurd (omega arith))
 
 -- Lists of which none is too long.

@@ -9,7 +9,7 @@ use lib.ListN.{length, get_or, length-append}
 use Rattle.slices.proofs.Lists.{flat_length}
 use Rattle.semantics.specs.Arithmetic.{signed_of}
 use Rattle.semantics.specs.Sheetlist.{digits, decimal, hex_digit, hex_digits, integer, signed, line, t_line, u_line, w_line, dag_text, end_text, refused_text}
-use Rattle.semantics.proofs.Basics.{by-test}
+use Rattle.semantics.proofs.Basics.{by_test}
 use Rattle.listing.specs.Families.{spaced, header_line}
 use Rattle.listing.proofs.Rows.{header_pieces}
 
@@ -19,7 +19,7 @@ unfolding digits
 digits_most zero n = omega arith
 digits_most (suc most) n =
     let ih = digits_most most (n / 10) in
-    by-test (λ (l : List ℕ). length l ≤ suc most) (ltb n 10) (λ e. omega arith) (λ e. omega (arith, length-append (digits most (n / 10)) ((48 + n % 10) ∷ [])))
+    by_test (λ (l : List ℕ). length l ≤ suc most) (ltb n 10) (λ e. omega arith) (λ e. omega (arith, length-append (digits most (n / 10)) ((48 + n % 10) ∷ [])))
 
 pub decimal_most : (n : ℕ) → length (decimal n) ≤ 10
 unfolding decimal

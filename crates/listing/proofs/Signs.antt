@@ -14,7 +14,7 @@ use mir.Facts.{to_z_pos, to_z-of_z}
 use borrow.Author.Tests.{le-leb}
 use Rattle.semantics.specs.Arithmetic.{prime, signed_of, SignedRange}
 use Rattle.semantics.specs.Sheetlist.{decimal, integer, signed}
-use Rattle.semantics.proofs.Basics.{not-both}
+use Rattle.semantics.proofs.Basics.{not_both}
 
 -- A number inside the range of a value is no larger than a word.
 ranged_small : (z : ℤ) → SignedRange prime z → nat_abs z ≤ 4294967295
@@ -34,7 +34,7 @@ pub record Plain (z : ℤ) (whole : List ℕ) : Type 0 where
 plain : (z : ℤ) → nat_abs z ≤ 4294967295 → le_z (pos 0) z ≡ true → {whole : List ℕ} → integer z ≡ whole → Plain z whole
 unfolding integer
 plain (pos n) h t e = record { nonneg = tt; fits = record { fits = omega arith }; text = e }
-plain (negsuc n) h t e = not-both t refl
+plain (negsuc n) h t e = not_both t refl
 
 -- A number below 0: a minus sign, and the number less the sign.
 abbrev pub read_as : ℤ → ℤ
@@ -51,7 +51,7 @@ pub record Minus (z : ℤ) (whole : List ℕ) : Type 0 where
 
 minus : (z : ℤ) → nat_abs z ≤ 4294967295 → le_z (pos 0) z ≡ false → {whole : List ℕ} → integer z ≡ whole → Minus z whole
 unfolding integer
-minus (pos n) h t w = not-both (le-leb 0 n (omega arith)) t
+minus (pos n) h t w = not_both (le-leb 0 n (omega arith)) t
 minus (negsuc n) h t w =
     let e : turned (negsuc n) ≡ pos (suc n) = to_z_pos w64 (omega arith) ∙ ap pos (zero-add (suc n)) in
     record {

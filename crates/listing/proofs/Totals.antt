@@ -8,7 +8,7 @@ use borrow.Author.Tests.{eqb-true}
 use Rattle.semantics.specs.Arithmetic.{prime}
 use Rattle.semantics.specs.Call.{Outcome, Accepted, handed_back, reader_call}
 use Rattle.semantics.specs.Sheetlist.{line, dag_text, end_text, read_text, cons_text, inter_text, step, interaction_lines, constraint_lines, graph_lines, sheet_lines, sheetlist, constraint_step}
-use Rattle.semantics.proofs.Basics.{by-test}
+use Rattle.semantics.proofs.Basics.{by_test}
 use Rattle.listing.specs.declared.headers.Family.TheVariants.{Constraints, Numerators, Denominators}
 use Rattle.listing.specs.Families.{family_lines}
 use Rattle.listing.proofs.Lengths.{dag_most, refused_most, end_length}
@@ -19,7 +19,7 @@ use Rattle.listing.proofs.Handing.{constraints_handed, numerators_handed, denomi
 step_most : (name : List ℕ) (o : Outcome) (rest : List ℕ) (n : ℕ) → 31 + length name ≤ n → (Accepted o → length rest ≤ n) → length (step name o rest) ≤ n
 unfolding step
 step_most name o rest n h k =
-    by-test (λ (l : List ℕ). length l ≤ n) (eqb o.reply.number 0) (λ e. k (eqb-true o.reply.number 0 e))
+    by_test (λ (l : List ℕ). length l ≤ n) (eqb o.reply.number 0) (λ e. k (eqb-true o.reply.number 0 e))
     (λ e. omega (arith, refused_most name o.reply.number o.reply.place))
 
 interactions_most : (graph : List ℕ) → Accepted (expands_interactions graph) → length (interaction_lines prime (expands_interactions graph)) ≤ 20163
@@ -73,6 +73,6 @@ pub sheetlist_most : (bytes : List ℕ) → length (sheetlist prime bytes) ≤ 4
 unfolding sheetlist
 sheetlist_most bytes =
     let r = reader_call bytes (1016 ∷ []) in
-    by-test (λ (l : List ℕ). length l ≤ 42728) (leb (length bytes) 4096)
+    by_test (λ (l : List ℕ). length l ≤ 42728) (leb (length bytes) 4096)
     (λ e. step_most read_text r (sheet_lines prime (handed_back 0 r 0)) 42728 (omega arith) (λ a. sheet_most (handed_back 0 r 0)))
     (λ e. omega (arith, refused_most read_text 1 0))

@@ -14,7 +14,7 @@ use Rattle.slices.proofs.Lists.{map_set, map_take, map_drop, map_insert}
 use Rattle.slices.proofs.Rows.{rows_at, rows_set, rows_insert, rows_remove}
 use Rattle.semantics.specs.Arithmetic.{add_m}
 use Rattle.semantics.specs.Monomial.{Asc, Monomial, before_vars, keep, plus, insert_monomial}
-use Rattle.semantics.proofs.Basics.{cond-true, cond-false}
+use Rattle.semantics.proofs.Basics.{cond_true, cond_false}
 use Rattle.semantics.proofs.Order.{before_vars_irrefl, before_vars_asym}
 use Rattle.monomial.specs.Words.{read_monomial, held}
 use Rattle.monomial.specs.Places.{one, vars_at, FirstBefore, RestAfter}
@@ -24,19 +24,19 @@ use Rattle.monomial.proofs.Searches.{ascending}
 module _ (p : ℕ) (m : Monomial) where
   insert_here : (x : Monomial) (xs : List Monomial) → before_vars m.vars x.vars ≡ true → insert_monomial p m (x ∷ xs) ≡ keep m (x ∷ xs)
   unfolding insert_monomial
-  insert_here x xs h = cond-true (before_vars m.vars x.vars) _ _ h
+  insert_here x xs h = cond_true (before_vars m.vars x.vars) _ _ h
 
   insert_later : (x : Monomial) (xs : List Monomial) → before_vars x.vars m.vars ≡ true → insert_monomial p m (x ∷ xs) ≡ x ∷ insert_monomial p m xs
   unfolding insert_monomial
   insert_later x xs h =
-      cond-false (before_vars m.vars x.vars) _ _ (before_vars_asym x.vars m.vars h) ∙ cond-true (before_vars x.vars m.vars) _ _ h
+      cond_false (before_vars m.vars x.vars) _ _ (before_vars_asym x.vars m.vars h) ∙ cond_true (before_vars x.vars m.vars) _ _ h
 
   insert_sum : (x : Monomial) (xs : List Monomial) → x.vars ≡ m.vars → insert_monomial p m (x ∷ xs) ≡ keep (plus p m x) xs
   unfolding insert_monomial
   insert_sum x xs e =
       let f : before_vars m.vars x.vars ≡ false = ap (before_vars m.vars) e ∙ before_vars_irrefl m.vars in
       let g : before_vars x.vars m.vars ≡ false = ap (λ (v : List ℕ). before_vars v m.vars) e ∙ before_vars_irrefl m.vars in
-      cond-false (before_vars m.vars x.vars) _ _ f ∙ cond-false (before_vars x.vars m.vars) _ _ g
+      cond_false (before_vars m.vars x.vars) _ _ f ∙ cond_false (before_vars x.vars m.vars) _ _ g
 
   -- Where none has its variables.
   pub insert_gap : (ms : List Monomial) (k : ℕ) → k ≤ length ms → FirstBefore m ms k → RestAfter m ms k → insert_monomial p m ms ≡ take k ms ++ keep m (drop k ms)
@@ -65,11 +65,11 @@ module _ (p : ℕ) (m : Monomial) where
 -- Kept, unless the coefficient is 0.
 pub keep_zero : (m : Monomial) (ms : List Monomial) → m.coef ≡ 0 → keep m ms ≡ ms
 unfolding keep
-keep_zero m ms e = cond-true (eqb m.coef 0) _ _ (eq-eqb m.coef 0 e)
+keep_zero m ms e = cond_true (eqb m.coef 0) _ _ (eq-eqb m.coef 0 e)
 
 pub keep_other : (m : Monomial) (ms : List Monomial) → (m.coef ≡ 0 → ⊥) → keep m ms ≡ m ∷ ms
 unfolding keep
-keep_other m ms e = cond-false (eqb m.coef 0) _ _ (ne_eqb m.coef 0 e)
+keep_other m ms e = cond_false (eqb m.coef 0) _ _ (ne_eqb m.coef 0 e)
 
 -- The words of the work list.
 read_coef : (row : List ℕ) (v : ℕ) → 2 ≤ length row → read_monomial (set row 1 v) ≡ record { vars = (read_monomial row).vars; coef = v }

@@ -8,7 +8,7 @@ use borrow.Author.Tests.{leb-true, leb-false}
 use native.Mathlib.Omega.{arith}
 use lib.ListN.{drop_of_length-le, length, get_or, take, drop, length-append, length-take, length-drop, take-append-drop}
 use lib.Seq.{take-append_seam, drop_at, drop-drop}
-use Rattle.slices.proofs.Lists.{flat_append, get_d_front}
+use Rattle.slices.proofs.Lists.{flat_append, get_or_front}
 use Rattle.semantics.specs.Monomial.{Monomial}
 use Rattle.semantics.specs.Expand.{list_size}
 use Rattle.semantics.specs.Lists.{All}
@@ -99,7 +99,7 @@ stored_list pool i ms s = (list_fits_at pool (get_or pool (2 * i) 0) (get_or poo
 -- The first monomial of a list in the words.
 pub list_in_suc : (words : List ℕ) (at n : ℕ) → list_in words at (suc n) ≡ read_monomial (drop at words) ∷ list_in words (at + 2 + get_or words at 0) n
 list_in_suc words at n =
-    let k : at + (2 + get_or (drop at words) 0 0) ≡ at + 2 + get_or words at 0 = omega (arith, get_d_front words at) in
+    let k : at + (2 + get_or (drop at words) 0 0) ≡ at + 2 + get_or words at 0 = omega (arith, get_or_front words at) in
     let d : drop (2 + get_or (drop at words) 0 0) (drop at words) ≡ drop (at + 2 + get_or words at 0) words =
     drop-drop (2 + get_or (drop at words) 0 0) at words ∙ ap (λ (k : ℕ). drop k words) k in
     list_suc n (drop at words) ∙ rw d
@@ -111,7 +111,7 @@ vars_in words at = length (read_monomial (drop at words)).vars
 pub vars_in_is : (words : List ℕ) (at : ℕ) → vars_in words at ≡ min (get_or words at 0) (length words - (at + 2))
 unfolding read_monomial
 vars_in_is words at =
-    omega (arith, length-take (get_or (drop at words) 0 0) (drop 2 (drop at words)), length-drop 2 (drop at words), length-drop at words, get_d_front words at)
+    omega (arith, length-take (get_or (drop at words) 0 0) (drop 2 (drop at words)), length-drop 2 (drop at words), length-drop at words, get_or_front words at)
 
 -- Past the end nothing is left, however far.
 drop_min : (l : List ℕ) (a b : ℕ) → drop (a + b) l ≡ drop (a + min b (length l - a)) l

@@ -10,7 +10,7 @@ use lib.Seq.{drop-cons, take-suc-set}
 use borrow.Author.Tests.{ltb-true, ltb-false, lt-ltb, le-ltb}
 use Rattle.semantics.specs.Monomial.{above, insert_sorted, sort}
 use Rattle.semantics.specs.Lists.{All, Ahead, Sorted}
-use Rattle.semantics.proofs.Basics.{by-test, cond-true, cond-false}
+use Rattle.semantics.proofs.Basics.{by_test, cond_true, cond_false}
 use Rattle.semantics.proofs.Sorting.{all_append, insert_nil, sort_nil, sort_cons, sort_all}
 use Rattle.packed_var.specs.declared.PackedVar.{PackedVar}
 use Rattle.monomial.specs.Words.{num, nums}
@@ -30,10 +30,10 @@ over_lt x y (z ∷ zs) h k = (unfold above in (lt-ltb y z (omega (arith, ltb-tru
 
 insert_front : (x : ℕ) (ys : List ℕ) → Ahead above x ys → insert_sorted above x ys ≡ x ∷ ys
 insert_front x [] h = insert_nil above x
-insert_front x (y ∷ ys) h = unfold insert_sorted in (cond-false (above x y) _ _ h.0)
+insert_front x (y ∷ ys) h = unfold insert_sorted in (cond_false (above x y) _ _ h.0)
 
 insert_past : (x y : ℕ) (ys : List ℕ) → above x y ≡ true → insert_sorted above x (y ∷ ys) ≡ y ∷ insert_sorted above x ys
-insert_past x y ys h = unfold insert_sorted in (cond-true (above x y) _ _ h)
+insert_past x y ys h = unfold insert_sorted in (cond_true (above x y) _ _ h)
 
 sort_sorted : (ys : List ℕ) → Sorted above ys → sort above ys ≡ ys
 sort_sorted [] h = sort_nil above
@@ -51,7 +51,7 @@ merge_step : (x : ℕ) (xs : List ℕ) (y : ℕ) (ys : List ℕ) → Sorted abov
     → merged (x ∷ xs) (y ∷ ys) ≡ sort above ((x ∷ xs) ++ (y ∷ ys))
 unfolding merged
 merge_step x xs y ys h k f g =
-    by-test (λ (l : List ℕ). l ≡ sort above ((x ∷ xs) ++ (y ∷ ys))) (above x y)
+    by_test (λ (l : List ℕ). l ≡ sort above ((x ∷ xs) ++ (y ∷ ys))) (above x y)
     (λ e. ap (λ (t : List ℕ). y ∷ t) g ∙ sym (sort_past y (x ∷ xs) ys (e, over_lt x y xs e h.0) k))
     (λ e. ap (λ (t : List ℕ). x ∷ t) f
     ∙ sym (sort_cons above x (xs ++ (y ∷ ys))
@@ -108,12 +108,12 @@ module _ (vs us : List PackedVar) (i n j m : ℕ) (hs : n ≤ length (nums vs)) 
 
     lower_right : get_or (nums us) j 0 < get_or (nums vs) i 0 → Takes vs us i n j m (get_or (nums us) j 0) 0
     lower_right h =
-        both ∙ unfold merged above in (cond-true (ltb (get_or (nums us) j 0) (get_or (nums vs) i 0)) _ _ (lt-ltb (get_or (nums us) j 0) (get_or (nums vs) i 0) h))
+        both ∙ unfold merged above in (cond_true (ltb (get_or (nums us) j 0) (get_or (nums vs) i 0)) _ _ (lt-ltb (get_or (nums us) j 0) (get_or (nums vs) i 0) h))
         ∙ λ t. get_or (nums us) j 0 ∷ merged ((sym (remaining_cons n i vs k hs) ∙ same_left) t) (remaining us (j + 1) m)
 
     lower_left : get_or (nums vs) i 0 ≤ get_or (nums us) j 0 → Takes vs us i n j m (get_or (nums vs) i 0) 1
     lower_left h =
-        both ∙ unfold merged above in (cond-false (ltb (get_or (nums us) j 0) (get_or (nums vs) i 0)) _ _ (le-ltb (get_or (nums us) j 0) (get_or (nums vs) i 0) h))
+        both ∙ unfold merged above in (cond_false (ltb (get_or (nums us) j 0) (get_or (nums vs) i 0)) _ _ (le-ltb (get_or (nums us) j 0) (get_or (nums vs) i 0) h))
         ∙ λ t. get_or (nums vs) i 0 ∷ merged (remaining vs (i + 1) n) ((sym (remaining_cons m j us l hd) ∙ same_right) t)
 
   -- Each list's next number, where it is not after the other's.

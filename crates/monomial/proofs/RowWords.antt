@@ -6,7 +6,7 @@ use native.Mathlib.Numerals.{add-one}
 use native.Mathlib.Omega.{arith}
 use lib.ListN.{length, get_or, take, drop, set, length-set, length-take, length-drop}
 use lib.Seq.{take_at, drop_at, drop-drop, take-add, get_or-drop, get_or-take, drop-append-add, paste, paste-suc}
-use Rattle.slices.proofs.Lists.{take_min, get_d_front}
+use Rattle.slices.proofs.Lists.{take_min, get_or_front}
 use Rattle.semantics.specs.Monomial.{Monomial}
 use Rattle.semantics.specs.Expand.{list_size}
 use Rattle.monomial.specs.Words.{monomial_words, list_words, read_monomial, held}
@@ -38,7 +38,7 @@ row_vars_lem : (work : List ℕ) (k s : ℕ) → 16 * k + 16 ≤ length work →
 unfolding row_of read_monomial
 row_vars_lem work k s h e =
     let D : List ℕ = drop (16 * k) work in
-    let c : get_or (take 16 D) 0 0 ≡ get_or work (16 * k) 0 = get_or-take 16 D 0 0 (omega arith) ∙ get_d_front work (16 * k) in
+    let c : get_or (take 16 D) 0 0 ≡ get_or work (16 * k) 0 = get_or-take 16 D 0 0 (omega arith) ∙ get_or_front work (16 * k) in
     let t : length (take 2 D) ≡ 2 = omega (arith, length-take 2 D, length-drop (16 * k) work) in
     let d : drop 2 (take 16 D) ≡ take 14 (drop 2 D) = ap (drop 2) (take-add 2 14 D) ∙ drop_at (take 2 D) (take 14 (drop 2 D)) 2 t in
     ap (take (get_or (take 16 D) 0 0)) d ∙ ap (λ (n : ℕ). take n (take 14 (drop 2 D))) c ∙ take_min (get_or work (16 * k) 0) 14 (drop 2 D)

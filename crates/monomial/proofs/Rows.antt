@@ -8,7 +8,7 @@ use lib.Seq.{paste, paste-suc}
 use Rattle.slices.specs.Rows.{rows}
 use Rattle.slices.proofs.Rows.{rows_length, rows_at, rows_split, rows_after, rows_cons}
 use Rattle.semantics.specs.Monomial as semantics
-use Rattle.semantics.proofs.Lists.{get_d_map}
+use Rattle.semantics.proofs.Lists.{get_or_map}
 use Rattle.monomial.specs.Words.{read_monomial, held}
 
 -- A list stored in place: one more element.
@@ -25,7 +25,7 @@ held_length n ws = length-map (rows 16 n ws) read_monomial ∙ rows_length 16 n 
 
 pub held_at : (n k : ℕ) (ws : List ℕ) (d : semantics.Monomial) → k < n → get_or (held n ws) k d ≡ read_monomial (take 16 (drop (16 * k) ws))
 unfolding held
-held_at n k ws d h = get_d_map read_monomial (rows 16 n ws) k [] d (omega (arith, rows_length 16 n ws)) ∙ ap read_monomial (rows_at 16 n k ws h)
+held_at n k ws d h = get_or_map read_monomial (rows 16 n ws) k [] d (omega (arith, rows_length 16 n ws)) ∙ ap read_monomial (rows_at 16 n k ws h)
 
 pub held_split : (k j : ℕ) (ws : List ℕ) → held (k + j) ws ≡ held k ws ++ held j (drop (16 * k) ws)
 unfolding held

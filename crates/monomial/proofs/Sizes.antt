@@ -6,7 +6,7 @@ use native.Mathlib.Omega.{arith}
 use lib.ListN.{length, get_or, take, drop, length-take, length-drop}
 use lib.Seq.{get_or-take}
 use Rattle.slices.specs.Rows.{rows}
-use Rattle.slices.proofs.Lists.{get_d_front}
+use Rattle.slices.proofs.Lists.{get_or_front}
 use Rattle.semantics.specs.Monomial.{Monomial}
 use Rattle.semantics.specs.Expand.{list_size}
 use Rattle.monomial.specs.Words.{read_monomial, list_in, longest_of, longest_in, held, ListFits}
@@ -70,7 +70,7 @@ held_parts count k ws h =
 pub row_count : (work : List ℕ) (k : ℕ) → 16 * k + 16 ≤ length work → length (row_of work k).vars ≡ min (get_or work (16 * k) 0) 14
 unfolding row_of read_monomial
 row_count work k h =
-    let a : get_or (take 16 (drop (16 * k) work)) 0 0 ≡ get_or work (16 * k) 0 = get_or-take 16 (drop (16 * k) work) 0 0 (omega arith) ∙ get_d_front work (16 * k) in
+    let a : get_or (take 16 (drop (16 * k) work)) 0 0 ≡ get_or work (16 * k) 0 = get_or-take 16 (drop (16 * k) work) 0 0 (omega arith) ∙ get_or_front work (16 * k) in
     omega (
       arith,
       length-take (get_or (take 16 (drop (16 * k) work)) 0 0) (drop 2 (take 16 (drop (16 * k) work))),

@@ -13,7 +13,7 @@ use Rattle.semantics.specs.Sheet.{Record, record_of, record_words, place}
 use Rattle.semantics.specs.Value.{node_of, no_record, record_at}
 use Rattle.semantics.specs.Graph.{equal_records, find, intern}
 use Rattle.semantics.specs.Call.{zeros, padded}
-use Rattle.semantics.proofs.Basics.{cond-true, cond-false}
+use Rattle.semantics.proofs.Basics.{cond_true, cond_false}
 use Rattle.semantics.proofs.Places.{place_next, place_word, record_wide, records_end}
 use Rattle.semantics.proofs.Calls.{drop_zeros}
 use Rattle.records.specs.Access.{node_in}
@@ -83,10 +83,10 @@ find_is : (q : Record) (ns : List Record) (x : ℕ) → x ≤ length ns → ((i 
     → (x < length ns → equal_records q (record_at ns x) ≡ true) → x ≡ find q ns
 unfolding find record_at
 find_is q [] x h f g = omega arith
-find_is q (m ∷ ns) zero h f g = sym (cond-true (equal_records q m) 0 (suc (find q ns)) (g (omega arith)))
+find_is q (m ∷ ns) zero h f g = sym (cond_true (equal_records q m) 0 (suc (find q ns)) (g (omega arith)))
 find_is q (m ∷ ns) (suc x) h f g =
     ap suc (find_is q ns x (omega arith) (λ i l. f (suc i) (omega arith)) (λ l. g (omega arith)))
-    ∙ sym (cond-false (equal_records q m) 0 (suc (find q ns)) (f 0 (omega arith)))
+    ∙ sym (cond_false (equal_records q m) 0 (suc (find q ns)) (f 0 (omega arith)))
 
 module _ (ws : List ℕ) (ns : List Record) (e : ws ≡ nodes_out (length ws) ns) (n : ℕ) (z : n ≡ length ns) (from : ℕ) (q : Record) (none : NoneBefore from q ns)
     (x : ℕ) (f : FirstEqual ws n from q x) where
@@ -104,7 +104,7 @@ module _ (ws : List ℕ) (ns : List Record) (e : ws ≡ nodes_out (length ws) ns
   pub is_there : x < n → (x ≡ find q ns) × (ws ≡ nodes_out (length ws) (intern q ns)) × (n ≡ length (intern q ns))
   unfolding intern
   is_there h =
-      let same : ns ≡ intern q ns = sym (cond-true (ltb (find q ns) (length ns)) ns (ns ++ (q ∷ [])) (lt-ltb (find q ns) (length ns) (omega (arith, found_is)))) in
+      let same : ns ≡ intern q ns = sym (cond_true (ltb (find q ns) (length ns)) ns (ns ++ (q ∷ [])) (lt-ltb (find q ns) (length ns) (omega (arith, found_is)))) in
       (found_is, e ∙ ap (nodes_out (length ws)) same, z ∙ ap length same)
 
   -- It is not, and is written behind the others.
@@ -112,7 +112,7 @@ module _ (ws : List ℕ) (ns : List Record) (e : ws ≡ nodes_out (length ws) ns
       → (n ≡ find q ns) × (ws' ≡ nodes_out (length ws) (intern q ns)) × (n + 1 ≡ length (intern q ns))
   unfolding intern
   is_new h room ws' w =
-      let more : ns ++ (q ∷ []) ≡ intern q ns = sym (cond-false (ltb (find q ns) (length ns)) ns (ns ++ (q ∷ [])) (le-ltb (find q ns) (length ns) (omega (arith, found_is)))) in (
+      let more : ns ++ (q ∷ []) ≡ intern q ns = sym (cond_false (ltb (find q ns) (length ns)) ns (ns ++ (q ∷ [])) (le-ltb (find q ns) (length ns) (omega (arith, found_is)))) in (
         omega (arith, found_is, f.inside),
         w ∙ (λ i. sets (e i) (place 5 (z i)) (record_words q))
             ∙ nodes_more (length ws) ns q (omega (arith, ap (λ (k : ℕ). place 5 (k + 1)) z)) ∙ ap (nodes_out (length ws)) more,

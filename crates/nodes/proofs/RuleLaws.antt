@@ -8,7 +8,7 @@ use Rattle.semantics.specs.Arithmetic.{add_m, sub_m, mul_m, neg_m}
 use Rattle.semantics.specs.Sheet.{Record, record_of}
 use Rattle.semantics.specs.Value.{Leaf, Node, leaf, const, add, sub, neg, mul, leaf_of, node_of}
 use Rattle.semantics.specs.Graph.{present, make, if_constants, is_const, if_neg, add_rule, sub_rule, neg_rule, mul_rule}
-use Rattle.semantics.proofs.Basics.{by-test, cond-true, cond-false}
+use Rattle.semantics.proofs.Basics.{by_test, cond_true, cond_false}
 use Rattle.nodes.specs.declared.rules.Option.{Option}
 use Rattle.nodes.specs.declared.rules.Option.TheVariants.{Some, None}
 
@@ -19,11 +19,11 @@ module _ {X : Type 0} (H : Node → X) (x : X) (on-leaf : (v : Leaf) → H (leaf
   unfolding node_of
   by_kind r =
       let P : Node → Type 0 = λ n. H n ≡ cond (eqb r.kind 5) (H (const r.a)) (cond (eqb r.kind 8) (H (neg r.a)) x) in
-      by-test P (eqb r.kind 5) (λ e. rw e)
-      (λ e₅. by-test P (eqb r.kind 6) (λ e. rw (eqb-true r.kind 6 e) (on-add r.a r.b))
-      (λ _. by-test P (eqb r.kind 7) (λ e. rw (eqb-true r.kind 7 e) (on-sub r.a r.b))
-      (λ _. by-test P (eqb r.kind 8) (λ e. rw (e₅, e))
-      (λ e₈. by-test P (eqb r.kind 9) (λ e. rw (eqb-true r.kind 9 e) (on-mul r.a r.b))
+      by_test P (eqb r.kind 5) (λ e. rw e)
+      (λ e₅. by_test P (eqb r.kind 6) (λ e. rw (eqb-true r.kind 6 e) (on-add r.a r.b))
+      (λ _. by_test P (eqb r.kind 7) (λ e. rw (eqb-true r.kind 7 e) (on-sub r.a r.b))
+      (λ _. by_test P (eqb r.kind 8) (λ e. rw (e₅, e))
+      (λ e₈. by_test P (eqb r.kind 9) (λ e. rw (eqb-true r.kind 9 e) (on-mul r.a r.b))
       (λ _. rw (e₅, e₈) (on-leaf (leaf_of r)))))))
 
 pub const_is : (k : ℕ) (m : Record) → is_const k (node_of m) ≡ eqb m.kind 5 && eqb m.a k
@@ -54,7 +54,7 @@ module _ {X : Type 0} where
   both false t y x = refl
 
   second : (k : ℕ) (y x : X) → cond (eqb k 5) x (cond (eqb k 8) y x) ≡ cond (eqb k 8) y x
-  second k y x = by-test (λ (z : X). z ≡ cond (eqb k 8) y x) (eqb k 5) (λ e. rw (eqb-true k 5 e)) (λ e. refl)
+  second k y x = by_test (λ (z : X). z ≡ cond (eqb k 8) y x) (eqb k 5) (λ e. rw (eqb-true k 5 e)) (λ e. refl)
 
   constants_is : (m n : Record) (f : ℕ → ℕ → X) (x : X) → if_constants (node_of m) (node_of n) f x ≡ cond (eqb m.kind 5 && eqb n.kind 5) (f m.a n.a) x
   unfolding if_constants
@@ -165,7 +165,7 @@ view_neg p x m g = simp const_one
 -- A test t that the code makes as b: the first choice, or what follows from the second.
 module _ {X : Type 0} {b t : Bool} (x y : X) (e : b ≡ t) where
   pub chosen : b ≡ true → x ≡ cond t x y
-  chosen h = sym (cond-true t x y (sym e ∙ h))
+  chosen h = sym (cond_true t x y (sym e ∙ h))
 
   pub passed : {z : X} → b ≡ false → z ≡ y → z ≡ cond t x y
-  passed h k = k ∙ sym (cond-false t x y (sym e ∙ h))
+  passed h k = k ∙ sym (cond_false t x y (sym e ∙ h))

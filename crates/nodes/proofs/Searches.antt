@@ -11,7 +11,7 @@ use Rattle.semantics.specs.Sheet.{Record, Each}
 use Rattle.semantics.specs.Value.{node_of, no_record, record_at}
 use Rattle.semantics.specs.Walk.{Mem, children, children_at}
 use Rattle.semantics.specs.Graph.{equal_records, find, intern}
-use Rattle.semantics.proofs.Basics.{by-test}
+use Rattle.semantics.proofs.Basics.{by_test}
 use Rattle.semantics.proofs.Members.{mem_here, mem_there}
 use Rattle.semantics.proofs.Records.{LowRecord}
 use Rattle.semantics.proofs.Orders.{low}
@@ -48,9 +48,9 @@ none_found : (q : Record) (ns : List Record) → NoneBefore (find q ns) q ns
 unfolding find record_at
 none_found q [] i h = absurd (omega arith)
 none_found q (m ∷ ns) zero h =
-    by-test (λ (k : ℕ). 0 < k → equal_records q m ≡ false) (equal_records q m) (λ e l. absurd (omega arith)) (λ e l. e) h
+    by_test (λ (k : ℕ). 0 < k → equal_records q m ≡ false) (equal_records q m) (λ e l. absurd (omega arith)) (λ e l. e) h
 none_found q (m ∷ ns) (suc i) h =
-    by-test (λ (k : ℕ). suc i < k → equal_records q (get_or ns i no_record) ≡ false) (equal_records q m)
+    by_test (λ (k : ℕ). suc i < k → equal_records q (get_or ns i no_record) ≡ false) (equal_records q m)
     (λ e l. absurd (omega arith)) (λ e l. none_found q ns i (omega arith)) h
 
 -- The node that is found, or appended, is the one.
@@ -58,12 +58,12 @@ found_at : (q : Record) (ns : List Record) → record_at (ns ++ (q ∷ [])) (fin
 unfolding find record_at
 found_at q [] = refl
 found_at q (m ∷ ns) =
-    by-test (λ (k : ℕ). get_or (m ∷ (ns ++ (q ∷ []))) k no_record ≡ q) (equal_records q m) (λ e. sym (equal_is q m e)) (λ e. found_at q ns)
+    by_test (λ (k : ℕ). get_or (m ∷ (ns ++ (q ∷ []))) k no_record ≡ q) (equal_records q m) (λ e. sym (equal_is q m e)) (λ e. found_at q ns)
 
 interned_at : (q : Record) (ns : List Record) → record_at (intern q ns) (find q ns) ≡ q
 unfolding intern record_at
 interned_at q ns =
-    by-test (λ (l : List Record). get_or l (find q ns) no_record ≡ q) (ltb (find q ns) (length ns))
+    by_test (λ (l : List Record). get_or l (find q ns) no_record ≡ q) (ltb (find q ns) (length ns))
     (λ e. sym (get_or-append ns (q ∷ []) no_record (find q ns) (ltb-true _ _ e)) ∙ unfold record_at in (found_at q ns))
     (λ e. unfold record_at in (found_at q ns))
 

@@ -13,7 +13,7 @@ use Rattle.semantics.specs.Check.{read_sheet, check}
 use Rattle.semantics.proofs.Places.{place_head, records_end, records_limit}
 use Rattle.semantics.proofs.Encoding.{head_limits, check_sound, sheet_back}
 use Rattle.semantics.proofs.Access.{spare, words_are, words_count, count_words_lem, constraint_word, interactions_from}
-use Rattle.semantics.proofs.Members.{mem_get_d}
+use Rattle.semantics.proofs.Members.{mem_get_or}
 use Rattle.semantics.proofs.GraphSheets.{named_below, interaction_facts}
 use Rattle.records.specs.Access.{counts_of, fields_of, records_of, constraints_at, interactions_at, words_from, message_length, each_words, count_list_at}
 use Rattle.records.specs.Access.{fields_at, root_words, count_words, field_words, ReferencesInside, AllRootsInside}
@@ -129,7 +129,7 @@ roots_inside rest ws at (x ∷ xs) e k g =
         inside = interaction_inside ws at x tail f;
         count = subst (λ (c : ℕ). c < bound) (sym (count_word ws at x tail f)) facts.count;
         message = λ j l. subst (λ (c : ℕ). c < bound) (sym (field_word ws at x tail f j l))
-            (facts.message (get_or x.message j 0) (mem_get_d x.message j (omega (arith, length_is ws at x tail f))));
+            (facts.message (get_or x.message j 0) (mem_get_or x.message j (omega (arith, length_is ws at x tail f))));
       },
       roots_inside rest ws (at + (4 + message_length ws at)) xs (next_stands ws at x tail f) (suc k) g.1,
     )
@@ -169,7 +169,7 @@ module _ (ws : List ℕ) (h : check prime ws ≡ good (read_sheet ws)) where
     below = λ j l.
         let cs : List ℕ = (read_sheet ws).constraints in
         subst (λ (c : ℕ). c < length (records_of ws)) (sym (constraint_word prime ws (read_sheet ws) h j l))
-        (named_below (length (records_of ws)) cs (inside ws h).constraints (get_or cs j 0) (mem_get_d cs j l));
+        (named_below (length (records_of ws)) cs (inside ws h).constraints (get_or cs j 0) (mem_get_or cs j l));
   }
 
   pub interactions_stand : (rest : List ℕ) × (drop (interactions_at ws) ws ≡ flat_map interaction_words (read_sheet ws).interactions ++ rest)

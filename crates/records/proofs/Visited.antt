@@ -12,7 +12,7 @@ use Rattle.semantics.specs.Arithmetic.{prime}
 use Rattle.semantics.specs.Answer.{good}
 use Rattle.semantics.specs.Check.{read_sheet, check}
 use Rattle.semantics.specs.Walk.{Mem, Below, children_at, member, fold_left, visit, Reaches}
-use Rattle.semantics.proofs.Basics.{not-both}
+use Rattle.semantics.proofs.Basics.{not_both}
 use Rattle.semantics.proofs.Walks.{fold_keeps, fold_same, by_seen, visit_has, fold_has, visit_fuel, visit_reach, reach_le}
 use Rattle.semantics.proofs.Orders.{not_mem}
 use Rattle.records.specs.Access.{records_of}
@@ -56,7 +56,7 @@ module _ (ws : List ℕ) where
         again : (d : List ℕ) → Mem x d → visit ch E d x ≡ d
         again d m =
             visit_fuel ch (child_low ws checked) E (suc x) d x l (omega arith)
-            ∙ by_seen (λ (u : List ℕ). u ≡ d) ch x d x (λ _. refl) (λ e. not-both m e)
+            ∙ by_seen (λ (u : List ℕ). u ≡ d) ch x d x (λ _. refl) (λ e. not_both m e)
 
     module _ (r : ℕ) (l : r < E) where
       -- Some of the children, in any order, are visited: the order is one, the record is still not done, and where they are all, all are done.

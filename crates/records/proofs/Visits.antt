@@ -14,7 +14,7 @@ use Rattle.semantics.specs.Sheet.{Record, record_words, place, GoodRecord}
 use Rattle.semantics.specs.Check.{read_sheet, check}
 use Rattle.semantics.specs.Value.{Node, node_of, no_record, record_at}
 use Rattle.semantics.specs.Walk.{Mem, children, children_at}
-use Rattle.semantics.proofs.Basics.{by-test, and_true}
+use Rattle.semantics.proofs.Basics.{by_test, and_true}
 use Rattle.semantics.proofs.Lists.{each_zero}
 use Rattle.semantics.proofs.Members.{mem_here, mem_there}
 use Rattle.semantics.proofs.Records.{is_kind, kind_good}
@@ -29,11 +29,11 @@ pub kind_two : (r : Record) → 6 ≤ r.kind → r.kind ≤ 9 → (r.kind ≡ 8 
 unfolding node_of children
 kind_two r l h n =
     let P : Node → Type 0 = λ k. children k ≡ r.a ∷ r.b ∷ [] in
-    by-test P (eqb r.kind 5) (λ e. absurd (omega (arith, eqb-true r.kind 5 e)))
-    (λ _. by-test P (eqb r.kind 6) (λ e. refl)
-    (λ e₆. by-test P (eqb r.kind 7) (λ e. refl)
-    (λ e₇. by-test P (eqb r.kind 8) (λ e. absurd (n (eqb-true r.kind 8 e)))
-    (λ _. by-test P (eqb r.kind 9) (λ e. refl)
+    by_test P (eqb r.kind 5) (λ e. absurd (omega (arith, eqb-true r.kind 5 e)))
+    (λ _. by_test P (eqb r.kind 6) (λ e. refl)
+    (λ e₆. by_test P (eqb r.kind 7) (λ e. refl)
+    (λ e₇. by_test P (eqb r.kind 8) (λ e. absurd (n (eqb-true r.kind 8 e)))
+    (λ _. by_test P (eqb r.kind 9) (λ e. refl)
     (λ e₉. absurd (omega (arith, eqb-false r.kind 6 e₆, eqb-false r.kind 7 e₇, n, eqb-false r.kind 9 e₉)))))))
 
 pub kind_neg : (r : Record) → r.kind ≡ 8 → children (node_of r) ≡ r.a ∷ []
@@ -46,11 +46,11 @@ kind_flat r h =
     let P : Node → Type 0 = λ k. children k ≡ [] in
     let not : (k : ℕ) → 6 ≤ k → k ≤ 9 → eqb r.kind k ≡ true → ⊥ =
     λ k l m e. absurd (omega (arith, eqb-true r.kind k e, h (omega (arith, eqb-true r.kind k e)))) in
-    by-test P (eqb r.kind 5) (λ e. refl)
-    (λ _. by-test P (eqb r.kind 6) (λ e. absurd (not 6 (omega arith) (omega arith) e))
-    (λ _. by-test P (eqb r.kind 7) (λ e. absurd (not 7 (omega arith) (omega arith) e))
-    (λ _. by-test P (eqb r.kind 8) (λ e. absurd (not 8 (omega arith) (omega arith) e))
-    (λ _. by-test P (eqb r.kind 9) (λ e. absurd (not 9 (omega arith) (omega arith) e)) (λ _. refl)))))
+    by_test P (eqb r.kind 5) (λ e. refl)
+    (λ _. by_test P (eqb r.kind 6) (λ e. absurd (not 6 (omega arith) (omega arith) e))
+    (λ _. by_test P (eqb r.kind 7) (λ e. absurd (not 7 (omega arith) (omega arith) e))
+    (λ _. by_test P (eqb r.kind 8) (λ e. absurd (not 8 (omega arith) (omega arith) e))
+    (λ _. by_test P (eqb r.kind 9) (λ e. absurd (not 9 (omega arith) (omega arith) e)) (λ _. refl)))))
 
 module _ (ws : List ℕ) (checked : check prime ws ≡ good (read_sheet ws)) (r : ℕ) (l : r < length (records_of ws)) where
   pub record_good : GoodRecord prime r (record_at (records_of ws) r)

@@ -18,7 +18,7 @@ use Rattle.semantics.specs.Expand.{longer, work_fault, record_fault, expand_reco
 use Rattle.semantics.specs.Call.{Result, Accepted, outcome, needs, result, first_short, fitted}
 use Rattle.semantics.specs.Refusals.{of_sheet}
 use Rattle.semantics.specs.Lists.{All}
-use Rattle.semantics.proofs.Basics.{by-test, not-both}
+use Rattle.semantics.proofs.Basics.{by_test, not_both}
 use Rattle.semantics.proofs.Encoding.{good_injective, refused≢good}
 
 -- A refusal's number has the property; the property of each number that a step names is then enough.
@@ -37,7 +37,7 @@ module _ (P : ℕ → Type 0) where
   words_sent n h four (t ∷ ts) (reading i []) r = four
   words_sent n h four (t ∷ ts) (reading i (w ∷ ws)) r =
       let ih = words_sent n h four ts (reading (suc i) ws) tt in
-      by-test (Stops P) (t w) (λ e. ih) (λ e. h)
+      by_test (Stops P) (t w) (λ e. ih) (λ e. h)
   words_sent n h four (t ∷ ts) (stopped m k) r = r
 
   -- No word is missing where there are as many as tests.
@@ -47,7 +47,7 @@ module _ (P : ℕ → Type 0) where
   words_there n h (t ∷ ts) i [] l = absurd (omega arith)
   words_there n h (t ∷ ts) i (w ∷ ws) l =
       let ih = words_there n h ts (suc i) ws (omega arith) in
-      by-test (Stops P) (t w) (λ e. ih) (λ e. h)
+      by_test (Stops P) (t w) (λ e. ih) (λ e. h)
 
   part_sent : (n : ℕ) → P n → P 4 → (tests : List ℕ → List (ℕ → Bool)) (s : Scan) → Stops P s → Stops P (scan_part n tests s)
   unfolding scan_part
@@ -66,7 +66,7 @@ module _ (P : ℕ → Type 0) where
   spare_sent h zero (reading i (w ∷ ws)) r = h
   spare_sent h (suc room) (reading i (w ∷ ws)) r =
       let ih = spare_sent h room (reading (suc i) ws) tt in
-      by-test (Stops P) (eqb w 0) (λ e. ih) (λ e. h)
+      by_test (Stops P) (eqb w 0) (λ e. ih) (λ e. h)
   spare_sent h room (stopped m k) r = r
 
   pub judged_sent : {X : Type 0} (s : Scan) (x : X) → Stops P s → Sent P (judged s x)
@@ -92,35 +92,35 @@ module _ (P : ℕ → Type 0) where
 
   pub needs_sent : {X : Type 0} (number needed lent : ℕ) (rest : Answer X) → P number → Sent P rest → Sent P (needs number needed lent rest)
   unfolding needs
-  needs_sent number needed lent rest h r = by-test (Sent P) (leb needed lent) (λ e. r) (λ e. h)
+  needs_sent number needed lent rest h r = by_test (Sent P) (leb needed lent) (λ e. r) (λ e. h)
 
   -- A fault is 0, or a number with the property.
   pub pack_fault_lem : All P (8 ∷ 9 ∷ 10 ∷ 11 ∷ []) → (r : Record) → (pack_fault r ≡ 0 → ⊥) → P (pack_fault r)
   unfolding pack_fault
   pack_fault_lem (eight, (nine, (ten, (eleven, _)))) r =
       let F : ℕ → Type 0 = λ n. (n ≡ 0 → ⊥) → P n in
-      by-test F (eqb r.kind 1)
-      (λ k. by-test F (ltb 65535 r.d) (λ e z. eight) (λ d. by-test F (eqb r.a 2) (λ e z. nine)
-      (λ a. by-test F (ltb 255 r.b) (λ e z. ten) (λ b. by-test F (ltb 15 r.c) (λ e z. eleven) (λ c z. absurd (z refl))))))
+      by_test F (eqb r.kind 1)
+      (λ k. by_test F (ltb 65535 r.d) (λ e z. eight) (λ d. by_test F (eqb r.a 2) (λ e z. nine)
+      (λ a. by_test F (ltb 255 r.b) (λ e z. ten) (λ b. by_test F (ltb 15 r.c) (λ e z. eleven) (λ c z. absurd (z refl))))))
       (λ k z. absurd (z refl))
 
   work_fault_lem : P 12 → P 13 → (ms : List Monomial) → (work_fault ms ≡ 0 → ⊥) → P (work_fault ms)
   unfolding work_fault
   work_fault_lem twelve thirteen ms =
       let F : ℕ → Type 0 = λ n. (n ≡ 0 → ⊥) → P n in
-      by-test F (ltb 256 (length ms)) (λ e z. twelve) (λ e. by-test F (longer 14 ms) (λ f z. thirteen) (λ f z. absurd (z refl)))
+      by_test F (ltb 256 (length ms)) (λ e z. twelve) (λ e. by_test F (longer 14 ms) (λ f z. thirteen) (λ f z. absurd (z refl)))
 
   module _ (packs : All P (8 ∷ 9 ∷ 10 ∷ 11 ∷ [])) (twelve : P 12) (thirteen : P 13) (sixteen : P 16) (p : ℕ) (rs : List Record) (pool : ℕ) where
     record_fault_lem : (i : ℕ) → (record_fault p rs i ≡ 0 → ⊥) → P (record_fault p rs i)
     unfolding record_fault
     record_fault_lem i =
         let F : ℕ → Type 0 = λ n. (n ≡ 0 → ⊥) → P n in
-        by-test F (eqb (pack_fault (record_at rs i)) 0) (λ e. work_fault_lem twelve thirteen _) (λ e. pack_fault_lem packs (record_at rs i))
+        by_test F (eqb (pack_fault (record_at rs i)) 0) (λ e. work_fault_lem twelve thirteen _) (λ e. pack_fault_lem packs (record_at rs i))
 
     expand_sent : (i used : ℕ) → Sent P (expand_record p rs pool i used)
     unfolding expand_record
     expand_sent i used =
-        by-test (Sent P) (eqb (record_fault p rs i) 0) (λ e. by-test (Sent P) (leb _ pool) (λ f. tt) (λ f. sixteen))
+        by_test (Sent P) (eqb (record_fault p rs i) 0) (λ e. by_test (Sent P) (leb _ pool) (λ f. tt) (λ f. sixteen))
         (λ e. record_fault_lem i (eqb-false (record_fault p rs i) 0 e))
 
     pub walk_sent : (s : List ℕ) → Sent P (expand_all p rs pool s)
@@ -130,7 +130,7 @@ module _ (P : ℕ → Type 0) where
 
   pub fitted_sent : P 17 → (outputs : List (List ℕ)) (lent numbers : List ℕ) → Sent P (fitted outputs lent numbers)
   unfolding fitted result
-  fitted_sent h outputs lent numbers = by-test (Sent P) (eqb (first_short 1 outputs lent) 0) (λ e. tt) (λ e. h)
+  fitted_sent h outputs lent numbers = by_test (Sent P) (eqb (first_short 1 outputs lent) 0) (λ e. tt) (λ e. h)
 
 -- One of these numbers.
 abbrev pub Within : List ℕ → {X : Type 0} → Answer X → Type 0
@@ -141,7 +141,7 @@ pub accepted_result : (scratch lent : List ℕ) (ns : List ℕ) (a : Answer Resu
     → Accepted (outcome scratch lent a) → (r : Result) × (a ≡ good r)
 unfolding outcome
 accepted_result scratch lent ns (good r) z h e = (r, refl)
-accepted_result scratch lent ns (refused n k) z h e = not-both (subst (λ (m : ℕ). Mem m ns) e h) z
+accepted_result scratch lent ns (refused n k) z h e = not_both (subst (λ (m : ℕ). Mem m ns) e h) z
 
 pub then_result : {X Y : Type 0} (a : Answer X) (f : X → Answer Y) (y : Y) → and_then a f ≡ good y → (x : X) × (a ≡ good x) × (f x ≡ good y)
 unfolding and_then
@@ -151,11 +151,11 @@ then_result (refused n k) f y e = refused≢good e
 pub needs_result : {X : Type 0} (number needed lent : ℕ) (rest : Answer X) (x : X) → needs number needed lent rest ≡ good x → (needed ≤ lent) × (rest ≡ good x)
 unfolding needs
 needs_result number needed lent rest x =
-    by-test (λ (a : Answer _). a ≡ good x → (needed ≤ lent) × (rest ≡ good x)) (leb needed lent) (λ e h. (leb-true needed lent e, h)) (λ e h. refused≢good h)
+    by_test (λ (a : Answer _). a ≡ good x → (needed ≤ lent) × (rest ≡ good x)) (leb needed lent) (λ e h. (leb-true needed lent e, h)) (λ e h. refused≢good h)
 
 pub fitted_result : (outputs : List (List ℕ)) (lent numbers : List ℕ) (r : Result) → fitted outputs lent numbers ≡ good r
     → r ≡ record { outputs = outputs; numbers = numbers }
 unfolding fitted result
 fitted_result outputs lent numbers r =
-    by-test (λ (a : Answer Result). a ≡ good r → r ≡ record { outputs = outputs; numbers = numbers }) (eqb (first_short 1 outputs lent) 0)
+    by_test (λ (a : Answer Result). a ≡ good r → r ≡ record { outputs = outputs; numbers = numbers }) (eqb (first_short 1 outputs lent) 0)
     (λ e h. sym (good_injective h)) (λ e h. refused≢good h)

@@ -10,13 +10,13 @@ use lib.ListN.{length, get_or, take, drop}
 use lib.Seq.{get_or-drop, drop-drop, drop_at, length-take-le, ext_get_or}
 use borrow.Author.Tests.{eq-eqb, ne_eqb, eqb-true, eqb-false, leb-true, leb-false, ltb-true, ltb-false}
 use Rattle.slices.specs.Putting.{put}
-use Rattle.slices.proofs.Puts.{put_length, get_d_before, get_d_after}
+use Rattle.slices.proofs.Puts.{put_length, get_or_before, get_or_after}
 use Rattle.semantics.specs.Answer.{Answer, good, refused, and_then}
 use Rattle.semantics.specs.Block.{word_bytes, word_at, words_of, weighted, check_word, block_good, block_check, bad_length, read_blocks, block_bytes, first_words, write_blocks}
 use Rattle.semantics.specs.Walk.{member}
 use Rattle.semantics.specs.Call.{Result, Outcome, Accepted, outcome, needs, result, block_check_call, reader_call}
 use Rattle.semantics.specs.BlockCheck.{Bytes, word_in, with_word, swapped, unseen, UnderPlain, sums_agree, says, OtherWord, CheckSees, ReaderSees}
-use Rattle.semantics.proofs.Basics.{cond-true, cond-false}
+use Rattle.semantics.proofs.Basics.{cond_true, cond_false}
 use Rattle.semantics.proofs.Lists.{all_drop, all_at}
 use Rattle.semantics.proofs.Calls.{accepted}
 use Rattle.semantics.proofs.Encoding.{refused≢good}
@@ -108,8 +108,8 @@ module _ (j w : ℕ) (bs : List ℕ) (l : 4 * j + 4 ≤ length bs) where
   byte_other i r n h = go (ltb i j) refl
     where
       go : (b : Bool) → ltb i j ≡ b → get_or (put bs (4 * j) (word_bytes w)) (4 * i + r) 0 ≡ get_or bs (4 * i + r) 0
-      go true b = get_d_before bs (4 * j) (word_bytes w) l (4 * i + r) (omega (arith, ltb-true i j b))
-      go false b = get_d_after bs (4 * j) (word_bytes w) l (4 * i + r) (omega (arith, ltb-false i j b))
+      go true b = get_or_before bs (4 * j) (word_bytes w) l (4 * i + r) (omega (arith, ltb-true i j b))
+      go false b = get_or_after bs (4 * j) (word_bytes w) l (4 * i + r) (omega (arith, ltb-false i j b))
 
   with_other : (i : ℕ) → (i ≡ j → ⊥) → word_in i (with_word j w bs) ≡ word_in i bs
   with_other i n =
@@ -313,7 +313,7 @@ blocks_good (suc n) number bs g = go (blocks_good n (suc number) (drop 512 bs) (
     go : (ws : List ℕ) × (read_blocks n (suc number) (drop 512 bs) ≡ good ws) → (ws : List ℕ) × (read_blocks (suc n) number bs ≡ good ws)
     go (ws, e) = (
       words_of 127 bs ++ ws,
-      cond-true (block_good (suc number) bs) _ _ (sym (good_first number bs) ∙ g 0 (omega arith))
+      cond_true (block_good (suc number) bs) _ _ (sym (good_first number bs) ∙ g 0 (omega arith))
           ∙ ap (λ (a : Answer (List ℕ)). and_then a (λ ws. good (words_of 127 bs ++ ws))) e,
     )
 
@@ -322,11 +322,11 @@ blocks_bad : (n number k : ℕ) (bs : List ℕ) → k < n → ((i : ℕ) → i <
 unfolding read_blocks and_then
 blocks_bad zero number k bs h g f = absurd (omega arith)
 blocks_bad (suc n) number zero bs h g f =
-    cond-false (block_good (suc number) bs) _ _ (sym (good_first number bs) ∙ f) ∙ ap (refused 2) (sym (add-zero number))
+    cond_false (block_good (suc number) bs) _ _ (sym (good_first number bs) ∙ f) ∙ ap (refused 2) (sym (add-zero number))
 blocks_bad (suc n) number (suc k) bs h g f =
     let ih = blocks_bad n (suc number) k (drop 512 bs) (omega arith) (λ i l. good_next number i bs ∙ g (suc i) (omega arith)) (good_next number k bs ∙ f) in
     let e : suc number + k ≡ number + suc k = omega arith in
-    cond-true (block_good (suc number) bs) _ _ (sym (good_first number bs) ∙ g 0 (omega arith))
+    cond_true (block_good (suc number) bs) _ _ (sym (good_first number bs) ∙ g 0 (omega arith))
     ∙ ap (λ (a : Answer (List ℕ)). and_then a (λ ws. good (words_of 127 bs ++ ws))) ih ∙ ap (refused 2) e
 
 -- The reader, of bytes in whole blocks and with room for their words: accepted if all blocks are good, and what it accepted are such.

@@ -15,7 +15,7 @@ use Rattle.semantics.specs.Sheet.{Sheet, Inside, encode, length_of}
 use Rattle.semantics.specs.Check.{check}
 use Rattle.semantics.specs.Call.{Result, Accepted, outcome, handed_back, needs, result, reader_call, on_sheet, writer_call}
 use Rattle.semantics.specs.Block.{word_bytes, word_at, words_of, check_word, block_good, bad_length, read_blocks, block_bytes, first_words, write_blocks, blocks_for}
-use Rattle.semantics.proofs.Basics.{cond-true, cond-false}
+use Rattle.semantics.proofs.Basics.{cond_true, cond_false}
 use Rattle.semantics.proofs.Lists.{all_front, all_drop}
 use Rattle.semantics.proofs.Places.{place_head}
 use Rattle.semantics.proofs.Encoding.{check_sound, check_complete, check_inside, sheet_length, length_limit}
@@ -120,7 +120,7 @@ read_written (suc n) number ws h =
     let e : length us ≡ 127 = first_length 127 ws in
     let g : Words us = words_first 127 ws h in
     let ih = read_written n (suc number) (drop 127 ws) (all_drop (λ (w : ℕ). w < 4294967296) 127 ws h) in
-    cond-true (block_good (suc number) (block_bytes (suc number) us ++ bs)) _ _ (block_good_lem (suc number) us bs e g)
+    cond_true (block_good (suc number) (block_bytes (suc number) us ++ bs)) _ _ (block_good_lem (suc number) us bs e g)
     ∙ (λ i. and_then (read_blocks n (suc number) (block_rest (suc number) 127 us e bs i)) (λ ws. good (block_words (suc number) 127 us e bs g i ++ ws)))
     ∙ ap (λ (a : Answer (List ℕ)). and_then a (λ ws. good (us ++ ws))) ih
     ∙ ap good (sym (first_add 127 (127 * n) ws) ∙ ap (λ (m : ℕ). first_words m ws) (omega arith))
@@ -148,7 +148,7 @@ pub reader_is : (bytes : List ℕ) (out : ℕ) → bad_length (length bytes) ≡
     → reader_call bytes (out ∷ []) ≡ outcome [] (out ∷ []) (and_then (read_blocks (length bytes / 512) 0 bytes) (λ ws. result (ws ∷ []) []))
 unfolding reader_call
 reader_is bytes out b r =
-    ap (outcome [] (out ∷ [])) (cond-false (bad_length (length bytes)) _ _ b ∙ needs_met 15 (127 * (length bytes / 512)) out _ r)
+    ap (outcome [] (out ∷ [])) (cond_false (bad_length (length bytes)) _ _ b ∙ needs_met 15 (127 * (length bytes / 512)) out _ r)
 
 -- What the reader hands back for blocks that read as some words.
 pub reader_reads : (n : ℕ) (bytes ws : List ℕ) (out : ℕ) → length bytes ≡ 512 * n → 1 ≤ n → n ≤ 710 → 127 * n ≤ out

@@ -10,7 +10,7 @@ use lib.Seq.{take-append_seam, get_or-append-add}
 use borrow.Author.Tests.{le-leb, lt-leb}
 use Rattle.semantics.specs.Answer.{Answer, good, refused}
 use Rattle.semantics.specs.Call.{Result, Accepted, zeros, padded, padded_all, outcome, handed_back, needs}
-use Rattle.semantics.proofs.Basics.{cond-true, cond-false}
+use Rattle.semantics.proofs.Basics.{cond_true, cond_false}
 
 -- Zeros, and words padded with them.
 pub zeros_add : (m n : ℕ) → zeros (m + n) ≡ zeros m ++ zeros n
@@ -38,12 +38,12 @@ padded_length ws n h =
 -- A slice long enough is no reason to refuse.
 pub needs_met : {X : Type 0} (number needed lent : ℕ) (rest : Answer X) → needed ≤ lent → needs number needed lent rest ≡ rest
 unfolding needs
-needs_met number needed lent rest h = cond-true (leb needed lent) rest (refused number needed) (le-leb needed lent h)
+needs_met number needed lent rest h = cond_true (leb needed lent) rest (refused number needed) (le-leb needed lent h)
 
 -- Too short a slice is one.
 pub needs_short : {X : Type 0} (number needed lent : ℕ) (rest : Answer X) → lent < needed → refused number needed ≡ needs number needed lent rest
 unfolding needs
-needs_short number needed lent rest h = sym (cond-false (leb needed lent) rest (refused number needed) (lt-leb needed lent h))
+needs_short number needed lent rest h = sym (cond_false (leb needed lent) rest (refused number needed) (lt-leb needed lent h))
 
 padded_at : (ws : List (List ℕ)) (lent : List ℕ) (k : ℕ) → length ws ≤ length lent
     → take (length (get_or ws k [])) (get_or (padded_all ws lent) k []) ≡ get_or ws k []

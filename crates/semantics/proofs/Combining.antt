@@ -8,7 +8,7 @@ use borrow.Author.Tests.{eqb-true, eqb-false}
 use Rattle.semantics.specs.Arithmetic.{add_m}
 use Rattle.semantics.specs.Monomial.{BeforeVars, Asc, Monomial, before_vars, keep, plus, insert_monomial, combine}
 use Rattle.semantics.specs.Lists.{All}
-use Rattle.semantics.proofs.Basics.{by-test}
+use Rattle.semantics.proofs.Basics.{by_test}
 use Rattle.semantics.proofs.Arithmetic.{add_m_lt, zero_add_m, zero_mul_m, add_m_mul_m, sums}
 use Rattle.semantics.proofs.Order.{before_vars_trans, before_vars_total}
 use Rattle.semantics.proofs.Sorting.{all_imply}
@@ -26,14 +26,14 @@ pub by_order : (P : List Monomial → Type 0) (p : ℕ) (m x : Monomial) (xs : L
     → P (insert_monomial p m (x ∷ xs))
 unfolding insert_monomial
 by_order P p m x xs f g h =
-    by-test P (before_vars m.vars x.vars) f
-    (λ e. by-test P (before_vars x.vars m.vars) g (λ k. h (before_vars_total m.vars x.vars e k)))
+    by_test P (before_vars m.vars x.vars) f
+    (λ e. by_test P (before_vars x.vars m.vars) g (λ k. h (before_vars_total m.vars x.vars e k)))
 
 module _ (p : ℕ) (big : 1 < p) (w : List ℕ → ℕ) where
   pub val_keep : (m : Monomial) (xs : List Monomial) → val p w (keep m xs) ≡ add_m p (one p w m) (val p w xs)
   unfolding keep
   val_keep m xs =
-      by-test (λ (l : List Monomial). val p w l ≡ add_m p (one p w m) (val p w xs)) (eqb m.coef 0)
+      by_test (λ (l : List Monomial). val p w l ≡ add_m p (one p w m) (val p w xs)) (eqb m.coef 0)
       (λ e. simp (val_one, eqb-true m.coef 0 e, zero_mul_m, zero_add_m, val_lt)) (λ e. val_cons p w m xs)
 
   pub val_plus : (m n : Monomial) → m.vars ≡ n.vars → one p w (plus p m n) ≡ add_m p (one p w m) (one p w n)
@@ -66,15 +66,15 @@ above_trans u v xs h =
 
 pub above_keep : (v : List ℕ) (m : Monomial) (xs : List Monomial) → before_vars v m.vars ≡ true → Above v xs → Above v (keep m xs)
 unfolding keep
-above_keep v m xs h k = by-test (Above v) (eqb m.coef 0) (λ e. k) (λ e. (h, k))
+above_keep v m xs h k = by_test (Above v) (eqb m.coef 0) (λ e. k) (λ e. (h, k))
 
 pub asc_keep : (m : Monomial) (xs : List Monomial) → Above m.vars xs → Asc xs → Asc (keep m xs)
 unfolding keep
-asc_keep m xs h k = by-test Asc (eqb m.coef 0) (λ e. k) (λ e. (h, k))
+asc_keep m xs h k = by_test Asc (eqb m.coef 0) (λ e. k) (λ e. (h, k))
 
 pub nz_keep : (m : Monomial) (xs : List Monomial) → NoZero xs → NoZero (keep m xs)
 unfolding keep
-nz_keep m xs k = by-test NoZero (eqb m.coef 0) (λ e. k) (λ e. (eqb-false m.coef 0 e, k))
+nz_keep m xs k = by_test NoZero (eqb m.coef 0) (λ e. k) (λ e. (eqb-false m.coef 0 e, k))
 
 pub above_insert : (p : ℕ) (v : List ℕ) (m : Monomial) (xs : List Monomial) → before_vars v m.vars ≡ true → Above v xs → Above v (insert_monomial p m xs)
 unfolding plus
@@ -123,7 +123,7 @@ Small p m = m.coef < p
 module _ (p : ℕ) (P : Monomial → Type 0) (both : (m x : Monomial) → P m → P x → P (plus p m x)) where
   pub all_keep : (m : Monomial) (xs : List Monomial) → P m → All P xs → All P (keep m xs)
   unfolding keep
-  all_keep m xs h k = by-test (All P) (eqb m.coef 0) (λ e. k) (λ e. (h, k))
+  all_keep m xs h k = by_test (All P) (eqb m.coef 0) (λ e. k) (λ e. (h, k))
 
   pub all_insert : (m : Monomial) (xs : List Monomial) → P m → All P xs → All P (insert_monomial p m xs)
   all_insert m [] h = λ k. unfold insert_monomial in (all_keep m [] h k)

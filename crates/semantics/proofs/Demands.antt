@@ -21,7 +21,7 @@ use Rattle.semantics.specs.Refusals.{of_sheet, of_expansion}
 use Rattle.semantics.specs.Demand.{Assignment, product_of, sum_of, of_constraint, of_count, of_field, second, first, Ascending, NonZero, no_interaction}
 use Rattle.semantics.specs.Demand.{constraint_at, interaction_at, field_at, lists_from, GraphRule, ConstraintRule, InteractionRule, GraphConstraintRule, GraphInteractionRule, Demand}
 use Rattle.semantics.specs.Lists.{All}
-use Rattle.semantics.proofs.Members.{mem_left, mem_right, mem_here, mem_get_d, cons_below, append_below, flat_mem, flat_below, not_in}
+use Rattle.semantics.proofs.Members.{mem_left, mem_right, mem_here, mem_get_or, cons_below, append_below, flat_mem, flat_below, not_in}
 use Rattle.semantics.proofs.Orders.{order_closed, order_roots, order_below, order_reached, order_all, order_distinct}
 use Rattle.semantics.proofs.Records.{LowRecord, each_low}
 use Rattle.semantics.proofs.Encoding.{check_inside, check_encode, good_injective}
@@ -86,7 +86,7 @@ module _ (p : ℕ) (s : Sheet) (w : Inside p s) where
 
 constraint_in : (s : Sheet) (j : ℕ) → j < length s.constraints → Mem (constraint_at s j) (nodes (constraint_roots s))
 unfolding constraint_at
-constraint_in s j h = rw (constraint_nodes s) (mem_get_d s.constraints j h)
+constraint_in s j h = rw (constraint_nodes s) (mem_get_or s.constraints j h)
 
 count_in : (s : Sheet) (i : ℕ) → i < length s.interactions → Mem (interaction_at s i).count (nodes (count_roots s ++ field_roots s))
 unfolding interaction_at
@@ -101,7 +101,7 @@ field_in s i f h k =
     let c : ℕ = field_at s i f in
     rw (interaction_nodes s)
     (mem_right c (flat_map (λ (x : Interaction). x.count ∷ []) s.interactions) (flat_map (λ (x : Interaction). x.message) s.interactions)
-    (flat_mem (λ (x : Interaction). x.message) s.interactions no_interaction i c h (mem_get_d (interaction_at s i).message f k)))
+    (flat_mem (λ (x : Interaction). x.message) s.interactions no_interaction i c h (mem_get_or (interaction_at s i).message f k)))
 
 -- What an accepted expansion tells: its sheet, its walk, and the words that it hands back.
 pub record Expanded (p : ℕ) (ws : List ℕ) (pool : ℕ) (roots : Sheet → List Root) (outputs : Sheet → List (List ℕ)) (o : Outcome) : Type 0 where

@@ -14,7 +14,7 @@ use Rattle.semantics.specs.Sheet.{Record, Interaction, Sheet, Inside, Each, Good
 use Rattle.semantics.specs.Sheet.{length_of, place, table, row, fits, record_tests, interaction_tests, head_tests, refers, passes}
 use Rattle.semantics.specs.Check.{Scan, reading, stopped, scan_words, scan_part, scan_parts, scan_spare, scan_sheet, read_record, read_records, read_interaction}
 use Rattle.semantics.specs.Check.{read_interactions, read_sheet, judged, check}
-use Rattle.semantics.proofs.Basics.{and_true, true_and, cond-true, tests}
+use Rattle.semantics.proofs.Basics.{and_true, true_and, cond_true, tests}
 use Rattle.semantics.proofs.Lists.{each_at, one_by_one_lem}
 use Rattle.semantics.proofs.Places.{records_end, records_limit}
 
@@ -43,7 +43,7 @@ scan_words_lem n [] [] vs i h = ap (λ (k : ℕ). reading k vs) (omega arith)
 scan_words_lem n [] (u ∷ us) vs i h = absurd (true≢false (sym h))
 scan_words_lem n (t ∷ ts) [] vs i h = absurd (true≢false (sym h))
 scan_words_lem n (t ∷ ts) (u ∷ us) vs i h =
-    cond-true (t u) _ _ (and_true (t u) (passes ts us) h).0
+    cond_true (t u) _ _ (and_true (t u) (passes ts us) h).0
     ∙ scan_words_lem n ts us vs (suc i) (and_true (t u) (passes ts us) h).1
     ∙ ap (λ (k : ℕ). reading k vs) (omega arith)
 

@@ -16,7 +16,7 @@ use Rattle.semantics.specs.Walk.{Mem, Closed, children, children_at}
 use Rattle.semantics.specs.Monomial.{Monomial, working, finished, record_list, lists, list_at}
 use Rattle.semantics.specs.Expand.{record_fault, expand_record, expand_all}
 use Rattle.semantics.specs.Demand.{product_of}
-use Rattle.semantics.proofs.Basics.{by-test}
+use Rattle.semantics.proofs.Basics.{by_test}
 use Rattle.semantics.proofs.Members.{mem_here, mem_there, mem_cases, not_in}
 use Rattle.semantics.proofs.Arithmetic.{add_m_zero, mul_m_one, one_mul_m, sub_m_add}
 use Rattle.semantics.proofs.Monomials.{one, val, val_append, val_neg, val_mul}
@@ -52,7 +52,7 @@ module _ (p : ℕ) where
 
 -- A record that is not refused can be packed, if it is a leaf.
 first_fault : (a b : ℕ) → cond (eqb a 0) b a ≡ 0 → a ≡ 0
-first_fault a b = by-test (λ (n : ℕ). n ≡ 0 → a ≡ 0) (eqb a 0) (λ e h. eqb-true a 0 e) (λ e h. h)
+first_fault a b = by_test (λ (n : ℕ). n ≡ 0 → a ≡ 0) (eqb a 0) (λ e h. eqb-true a 0 e) (λ e h. h)
 
 module _ (p : ℕ) (rs : List Record) where
   pub packs_fine : (i : ℕ) → record_fault p rs i ≡ 0 → pack_fault (record_at rs i) ≡ 0
@@ -64,7 +64,7 @@ module _ (p : ℕ) (rs : List Record) (pool : ℕ) where
   record_fine : (i used u : ℕ) → expand_record p rs pool i used ≡ good u → record_fault p rs i ≡ 0
   unfolding expand_record
   record_fine i used u =
-      by-test (λ (a : Answer ℕ). a ≡ good u → record_fault p rs i ≡ 0) (eqb (record_fault p rs i) 0) (λ e q. eqb-true _ _ e) (λ e q. refused≢good q)
+      by_test (λ (a : Answer ℕ). a ≡ good u → record_fault p rs i ≡ 0) (eqb (record_fault p rs i) 0) (λ e q. eqb-true _ _ e) (λ e q. refused≢good q)
 
   pub walk_fine : (s : List ℕ) (u : ℕ) → expand_all p rs pool s ≡ good u → (i : ℕ) → Mem i s → record_fault p rs i ≡ 0
   unfolding expand_all

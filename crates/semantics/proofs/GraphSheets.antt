@@ -14,10 +14,10 @@ use Rattle.semantics.specs.Value.{Leaf, value_at}
 use Rattle.semantics.specs.Walk.{Mem, Below, order}
 use Rattle.semantics.specs.Graph.{graph_roots, built, insert_once, sorted_once, renamed, graph_of}
 use Rattle.semantics.specs.Demand.{Assignment, no_interaction, constraint_at, interaction_at, field_at}
-use Rattle.semantics.proofs.Basics.{by-test, and_true, true_and}
-use Rattle.semantics.proofs.Members.{mem_here, mem_there, mem_cases, not_in, mem_left, mem_right, mem_either, mem_get_d, cons_below, append_below}
+use Rattle.semantics.proofs.Basics.{by_test, and_true, true_and}
+use Rattle.semantics.proofs.Members.{mem_here, mem_there, mem_cases, not_in, mem_left, mem_right, mem_either, mem_get_or, cons_below, append_below}
 use Rattle.semantics.proofs.Members.{flat_mem, flat_below, place_of, mem_map, map_below}
-use Rattle.semantics.proofs.Lists.{get_d_map}
+use Rattle.semantics.proofs.Lists.{get_or_map}
 use Rattle.semantics.proofs.Places.{place_most}
 use Rattle.semantics.proofs.Encoding.{sheet_length, head_limits}
 use Rattle.semantics.proofs.Records.{each_low}
@@ -112,8 +112,8 @@ by_once : (P : List ℕ → Type 0) (n x : ℕ) (xs : List ℕ)
     → (n < x → P (n ∷ x ∷ xs)) → (x < n → P (x ∷ insert_once n xs)) → (n ≡ x → P (x ∷ xs)) → P (insert_once n (x ∷ xs))
 unfolding insert_once
 by_once P n x xs f g h =
-    by-test P (ltb n x) (λ e. f (ltb-true n x e))
-    (λ e. by-test P (ltb x n) (λ k. g (ltb-true x n k)) (λ k. h (omega (arith, ltb-false n x e, ltb-false x n k))))
+    by_test P (ltb n x) (λ e. f (ltb-true n x e))
+    (λ e. by_test P (ltb x n) (λ k. g (ltb-true x n k)) (λ k. h (omega (arith, ltb-false n x e, ltb-false x n k))))
 
 insert_length : (n : ℕ) (xs : List ℕ) → length (insert_once n xs) ≤ suc (length xs)
 insert_length n [] = unfold insert_once in (omega arith)
@@ -305,11 +305,11 @@ module _ (p : ℕ) (big : 1 < p) (s : Sheet) (w : Inside p s) where
   constraint_place j h =
       place_of ((built p s).num (get_or s.constraints j 0)) (sorted_once (map (built p s).num s.constraints))
       (sorted_has ((built p s).num (get_or s.constraints j 0)) (map (built p s).num s.constraints)
-      (mem_map (built p s).num (get_or s.constraints j 0) s.constraints (mem_get_d s.constraints j h)))
+      (mem_map (built p s).num (get_or s.constraints j 0) s.constraints (mem_get_or s.constraints j h)))
 
   pub interaction_renamed : (i : ℕ) → i < length s.interactions → interaction_at (graph_of p s) i ≡ renamed (built p s).num (interaction_at s i)
   unfolding interaction_at graph_of
-  interaction_renamed i h = get_d_map (renamed (built p s).num) s.interactions i no_interaction no_interaction h
+  interaction_renamed i h = get_or_map (renamed (built p s).num) s.interactions i no_interaction no_interaction h
 
   pub same_fields : (i : ℕ) → i < length s.interactions → length (interaction_at (graph_of p s) i).message ≡ length (interaction_at s i).message
   unfolding renamed
@@ -319,7 +319,7 @@ module _ (p : ℕ) (big : 1 < p) (s : Sheet) (w : Inside p s) where
   pub constraint_kept : (A : Assignment p) (j : ℕ) → j < length s.constraints
       → value_at p A.at (graph_of p s).records ((built p s).num (constraint_at s j)) ≡ value_at p A.at s.records (constraint_at s j)
   unfolding constraint_at
-  constraint_kept A j h = graph_value A (get_or s.constraints j 0) (constraint_root_lem s (get_or s.constraints j 0) (mem_get_d s.constraints j h))
+  constraint_kept A j h = graph_value A (get_or s.constraints j 0) (constraint_root_lem s (get_or s.constraints j 0) (mem_get_or s.constraints j h))
 
   pub count_kept : (A : Assignment p) (i : ℕ) → i < length s.interactions
       → value_at p A.at (graph_of p s).records (interaction_at (graph_of p s) i).count ≡ value_at p A.at s.records (interaction_at s i).count
@@ -335,5 +335,5 @@ module _ (p : ℕ) (big : 1 < p) (s : Sheet) (w : Inside p s) where
   field_kept A i f h k =
       let c : ℕ = get_or (interaction_at s i).message f 0 in
       ap (λ (x : Interaction). value_at p A.at (graph_of p s).records (get_or x.message f 0)) (interaction_renamed i h)
-      ∙ ap (value_at p A.at (graph_of p s).records) (get_d_map (built p s).num (interaction_at s i).message f 0 0 k)
-      ∙ graph_value A c (interaction_root s i c h (mem_left c (interaction_at s i).message ((interaction_at s i).count ∷ []) (mem_get_d (interaction_at s i).message f k)))
+      ∙ ap (value_at p A.at (graph_of p s).records) (get_or_map (built p s).num (interaction_at s i).message f 0 0 k)
+      ∙ graph_value A c (interaction_root s i c h (mem_left c (interaction_at s i).message ((interaction_at s i).count ∷ []) (mem_get_or (interaction_at s i).message f k)))

@@ -13,7 +13,7 @@ use Rattle.semantics.specs.Sheet.{Record, Each, GoodRecord}
 use Rattle.semantics.specs.Value.{Leaf, Node, leaf, const, add, sub, neg, mul, node_of, no_record, record_at, node_value, value_at}
 use Rattle.semantics.specs.Walk.{Mem, Closed, children, children_at}
 use Rattle.semantics.specs.Graph.{Pick, present, make, equal_records, find, intern, Built, set_num, node_for, pick, take_in, add_record, build}
-use Rattle.semantics.proofs.Basics.{by-test, and_true}
+use Rattle.semantics.proofs.Basics.{by_test, and_true}
 use Rattle.semantics.proofs.Members.{mem_here, mem_there, mem_cases, not_in}
 use Rattle.semantics.proofs.Lists.{each_zero, each_snoc}
 use Rattle.semantics.proofs.Records.{LowNode, LowRecord, low_more, good_low, each_low, Flat, flat_good, value_at_lem, value_old, value_new, value_small}
@@ -37,21 +37,21 @@ equal_is r s h =
 pub find_le : (r : Record) (ns : List Record) → find r ns ≤ length ns
 unfolding find
 find_le r [] = omega arith
-find_le r (x ∷ xs) = let ih = find_le r xs in by-test (λ (k : ℕ). k ≤ suc (length xs)) (equal_records r x) (λ e. omega arith) (λ e. omega arith)
+find_le r (x ∷ xs) = let ih = find_le r xs in by_test (λ (k : ℕ). k ≤ suc (length xs)) (equal_records r x) (λ e. omega arith) (λ e. omega arith)
 
 find_at : (r : Record) (ns : List Record) → find r ns < length ns → record_at ns (find r ns) ≡ r
 unfolding find record_at
 find_at r [] = λ h. absurd (omega arith)
 find_at r (x ∷ t) =
     let ih = find_at r t in
-    by-test (λ (k : ℕ). k < suc (length t) → get_or (x ∷ t) k no_record ≡ r) (equal_records r x) (λ e h. sym (equal_is r x e)) (λ e h. ih (omega arith))
+    by_test (λ (k : ℕ). k < suc (length t) → get_or (x ∷ t) k no_record ≡ r) (equal_records r x) (λ e h. sym (equal_is r x e)) (λ e h. ih (omega arith))
 
 -- What holds of interning, by whether the node is there.
 by_intern : (P : List Record → Type 0) (r : Record) (ns : List Record)
     → (find r ns < length ns → P ns) → (find r ns ≡ length ns → P (ns ++ (r ∷ []))) → P (intern r ns)
 unfolding intern
 by_intern P r ns f g =
-    by-test P (ltb (find r ns) (length ns)) (λ e. f (ltb-true _ _ e)) (λ e. g (omega (arith, find_le r ns, ltb-false (find r ns) (length ns) e)))
+    by_test P (ltb (find r ns) (length ns)) (λ e. f (ltb-true _ _ e)) (λ e. g (omega (arith, find_le r ns, ltb-false (find r ns) (length ns) e)))
 
 intern_length : (r : Record) (ns : List Record) → (length ns ≤ length (intern r ns)) × (length (intern r ns) ≤ suc (length ns))
 intern_length r ns =
@@ -100,7 +100,7 @@ module _ (p : ℕ) (big : 1 < p) (A : Leaf → ℕ) (small : (x : Leaf) → A x 
     put_good ns k w g g' o h e = record {
       good = w;
       few = omega (arith, kept.few);
-      done = λ j m. by-test (λ (c : ℕ). (c < length ns) × (value_at p A ns c ≡ value_at p A rs j)) (eqb j i)
+      done = λ j m. by_test (λ (c : ℕ). (c < length ns) × (value_at p A ns c ≡ value_at p A rs j)) (eqb j i)
           (λ t. (h, e ∙ ap (value_at p A rs) (sym (eqb-true j i t))))
           (λ t. earlier j (eqb-false j i t) (mem_cases j i s m));
     }

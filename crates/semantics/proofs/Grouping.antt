@@ -19,7 +19,7 @@ use Rattle.semantics.specs.Monomial.{BeforeVars, Monomial, before, before_vars, 
 use Rattle.semantics.specs.Group.{Root, labelled, constraint_roots, count_roots, field_roots, Item, items_of, items, key, later}
 use Rattle.semantics.specs.Group.{Group, push, split, groups, constraint_term, interaction_term, headers, variables, terms, Listed, listed_at, listed}
 use Rattle.semantics.specs.Demand.{product_of, sum_terms, sum_of, of_constraint, of_count, of_field, first, second, Ascending, NonZero, no_interaction, constraint_at, interaction_at, field_at}
-use Rattle.semantics.proofs.Basics.{by-test, not-both}
+use Rattle.semantics.proofs.Basics.{by_test, not_both}
 use Rattle.semantics.proofs.Arithmetic.{add_m_lt, mul_m_lt, add_m_zero, zero_add_m, zero_mul_m, add_m_assoc, sums}
 use Rattle.semantics.proofs.Order.{lex_inv, lex_head, lex_tail, lex_irrefl, lex_trans, lex_total, before_vars_trans, before_vars_total}
 use Rattle.semantics.proofs.Monomials.{val, val_cons, val_one, val_lt}
@@ -103,7 +103,7 @@ later_asym t u h = go (before (key t) (key u)) refl
   where
     go : (b : Bool) → before (key t) (key u) ≡ b → before (key t) (key u) ≡ false
     go false e = e
-    go true e = not-both (lex_trans (key t) (key u) (key t) e h) (lex_irrefl (key t))
+    go true e = not_both (lex_trans (key t) (key u) (key t) e h) (lex_irrefl (key t))
 
 later_trans : (t u v : Item) → later t u ≡ true → later u v ≡ true → later t v ≡ true
 unfolding later
@@ -115,7 +115,7 @@ later_total t u h k = key_inj t u (lex_total (key t) (key u) k h)
 
 -- An item with later variables is later.
 lex_append : (s t u v : List ℕ) → length s ≡ length t → before s t ≡ true → before (s ++ u) (t ++ v) ≡ true
-lex_append [] [] u v l h = not-both h (lex_irrefl [])
+lex_append [] [] u v l h = not_both h (lex_irrefl [])
 lex_append [] (y ∷ t) u v l h = absurd (omega arith)
 lex_append (x ∷ s) [] u v l h = absurd (omega arith)
 lex_append (x ∷ s) (y ∷ t) u v l h = go (lex_inv x y s t h) (lex_append s t u v (omega arith))
@@ -140,8 +140,8 @@ pub push_by : (P : List Group → Type 0) (t : Item) (g : Group) (gs : List Grou
     → (t.vars ≡ g.vars → P (record { vars = g.vars; terms = t ∷ g.terms } ∷ gs)) → P (push t (g ∷ gs))
 unfolding push
 push_by P t g gs new old =
-    by-test P (before_vars t.vars g.vars) (λ e. new (inl e))
-    (λ e. by-test P (before_vars g.vars t.vars) (λ f. new (inr f)) (λ f. old (before_vars_total t.vars g.vars e f)))
+    by_test P (before_vars t.vars g.vars) (λ e. new (inl e))
+    (λ e. by_test P (before_vars g.vars t.vars) (λ f. new (inr f)) (λ f. old (before_vars_total t.vars g.vars e f)))
 
 -- The first group has the first item's variables.
 abbrev First : List Item → List Group → Type 0
@@ -176,7 +176,7 @@ module _ (term : Item → List ℕ) where
       new : (before_vars t.vars g.vars ≡ true) ⊎ (before_vars g.vars t.vars ≡ true)
           → Ascending (map (shown term) (record { vars = t.vars; terms = t ∷ [] } ∷ g ∷ gs))
       new (inl e) = ((e, after_trans t.vars g.vars (map (shown term) gs) e k.0), k)
-      new (inr e) = not-both (later_vars t u (subst (λ (v : List ℕ). before_vars v t.vars ≡ true) f e)) a.0
+      new (inr e) = not_both (later_vars t u (subst (λ (v : List ℕ). before_vars v t.vars ≡ true) f e)) a.0
 
   split_ascends : (ts : List Item) → Sorted later ts → Ascending (map (shown term) (split ts))
   unfolding split
@@ -199,7 +199,7 @@ module _ (P : Monomial → Type 0) (Q : Item → Type 0)
   items_of_lem r [] k = tt
   items_of_lem r (m ∷ ms) k =
       let ih = items_of_lem r ms in
-      by-test (All Q) (eqb m.coef 0) (λ e. ih k.1) (λ e. (made r m (eqb-false m.coef 0 e) k.0, ih k.1))
+      by_test (All Q) (eqb m.coef 0) (λ e. ih k.1) (λ e. (made r m (eqb-false m.coef 0 e) k.0, ih k.1))
 
   pub items_all : (list : ℕ → List Monomial) (roots : List Root) → All (λ (r : Root). All P (list r.node)) roots → All Q (items list roots)
   unfolding items flat_map
@@ -272,7 +272,7 @@ module _ (p : ℕ) (big : 1 < p) (w : List ℕ → ℕ) (hit : ℕ → ℕ → B
       ≡ add_m p (mul_m p (cond (hit r.index r.field) m.coef 0) (w m.vars)) (items_val p w hit (items_of r ms))
   unfolding items_of share
   of_cons r m ms =
-      by-test (λ (l : List Item). items_val p w hit l
+      by_test (λ (l : List Item). items_val p w hit l
       ≡ add_m p (mul_m p (cond (hit r.index r.field) m.coef 0) (w m.vars)) (items_val p w hit (items_of r ms)))
       (eqb m.coef 0)
       (λ e. rw (cond_zero (hit r.index r.field) m.coef (eqb-true m.coef 0 e), zero_mul_m)

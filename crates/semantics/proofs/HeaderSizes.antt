@@ -18,7 +18,7 @@ use Rattle.semantics.specs.Call.{Outcome, handed_back, family, constraint_output
 use Rattle.semantics.specs.Refusals.{SmallHeaders, headers_of, HeaderSizes}
 use Rattle.semantics.specs.Lists.{All}
 use Rattle.semantics.proofs.Combining.{Above}
-use Rattle.semantics.proofs.Basics.{by-test}
+use Rattle.semantics.proofs.Basics.{by_test}
 use Rattle.semantics.proofs.Order.{same_vars, same_vars_lem, same_not, same_is}
 use Rattle.semantics.proofs.Sorting.{all_imply, sort_all, sort_same}
 use Rattle.semantics.proofs.Members.{mem_here, mem_there, mem_left, mem_right}
@@ -78,7 +78,7 @@ module _ (v : List ℕ) (r : Root) where
   none_above [] h = unfold occurs in refl
   none_above (m ∷ ms) h =
       let ih = none_above ms h.1 in
-      by-test (λ (l : List Item). occurs v l ≡ 0) (eqb m.coef 0) (λ e. ih)
+      by_test (λ (l : List Item). occurs v l ≡ 0) (eqb m.coef 0) (λ e. ih)
       (λ e. rw (occurs_cons, same_not v m.vars h.0) (omega arith))
 
   one_at_most : (ms : List Monomial) → Asc ms → occurs v (items_of r ms) ≤ 1
@@ -86,7 +86,7 @@ module _ (v : List ℕ) (r : Root) where
   one_at_most [] h = unfold occurs in (omega arith)
   one_at_most (m ∷ ms) h =
       let ih = one_at_most ms h.1 in
-      by-test (λ (l : List Item). occurs v l ≤ 1) (eqb m.coef 0) (λ e. ih) (λ e. rw occurs_cons (go (same_vars v m.vars) refl ih))
+      by_test (λ (l : List Item). occurs v l ≤ 1) (eqb m.coef 0) (λ e. ih) (λ e. rw occurs_cons (go (same_vars v m.vars) refl ih))
     where
       go : (t : Bool) → same_vars v m.vars ≡ t → occurs v (items_of r ms) ≤ 1 → cond t 1 0 + occurs v (items_of r ms) ≤ 1
       go true e ih = omega (arith, none_above ms (subst (λ (u : List ℕ). Above u ms) (sym (same_is v m.vars e)) h.0))

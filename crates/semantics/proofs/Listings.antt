@@ -8,12 +8,12 @@ use lib.ListN.{length, take, length-take}
 use lib.Seq.{take_all}
 use borrow.Author.Tests.{lt-leb}
 use Rattle.semantics.specs.Sheetlist.{decimal, line, refused_text, read_text, most_taken, most_read, sheetlist, ReadsEnough}
-use Rattle.semantics.proofs.Basics.{cond-false, tests}
+use Rattle.semantics.proofs.Basics.{cond_false, tests}
 
 -- One byte too many gives the same as more.
 pub too_many : (p : ℕ) (input : List ℕ) → most_taken < length input → sheetlist p input ≡ line (refused_text ∷ read_text ∷ decimal 1 ∷ decimal 0 ∷ [])
 unfolding sheetlist
-too_many p input l = cond-false (leb (length input) most_taken) _ _ (lt-leb (length input) most_taken l)
+too_many p input l = cond_false (leb (length input) most_taken) _ _ (lt-leb (length input) most_taken l)
 
 pub reads_enough : ReadsEnough
 reads_enough p input = by (leb (length input) most_taken) refl

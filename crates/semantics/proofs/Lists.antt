@@ -42,10 +42,10 @@ pub each_snoc : {X : Type 0} (P : ℕ → X → Type 0) (n : ℕ) (xs : List X) 
 each_snoc P n [] x h k = (subst (λ (m : ℕ). P m x) (omega arith) k, tt)
 each_snoc P n (y ∷ xs) x h k = (h.0, each_snoc P (suc n) xs x h.1 (subst (λ (m : ℕ). P m x) (omega arith) k))
 
-pub get_d_map : {X Y : Type 0} (f : X → Y) (xs : List X) (i : ℕ) (d : X) (e : Y) → i < length xs → get_or (map f xs) i e ≡ f (get_or xs i d)
-get_d_map f [] i d e h = absurd (omega arith)
-get_d_map f (x ∷ xs) zero d e h = refl
-get_d_map f (x ∷ xs) (suc i) d e h = get_d_map f xs i d e (omega arith)
+pub get_or_map : {X Y : Type 0} (f : X → Y) (xs : List X) (i : ℕ) (d : X) (e : Y) → i < length xs → get_or (map f xs) i e ≡ f (get_or xs i d)
+get_or_map f [] i d e h = absurd (omega arith)
+get_or_map f (x ∷ xs) zero d e h = refl
+get_or_map f (x ∷ xs) (suc i) d e h = get_or_map f xs i d e (omega arith)
 
 -- A list from place j on, the first n of it one by one.
 abbrev pub one_by_one : (n j : ℕ) → List ℕ → List ℕ

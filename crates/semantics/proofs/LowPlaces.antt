@@ -13,7 +13,7 @@ use Rattle.semantics.specs.Block.{block_check}
 use Rattle.semantics.specs.Packing.{pack_fault, leaf_tests, pack_record, pack, hands_out, unpacked, unpack}
 use Rattle.semantics.specs.Call.{Result, outcome, result, block_check_call, pack_call, unpack_call}
 use Rattle.semantics.specs.Refusals.{LowPlaces}
-use Rattle.semantics.proofs.Basics.{by-test}
+use Rattle.semantics.proofs.Basics.{by_test}
 use Rattle.semantics.proofs.Refusals.{tests_short}
 
 -- A refusal's place is at most m.
@@ -41,11 +41,11 @@ module _ (m : ℕ) where
   judged_low x n (t ∷ ts) i [] l h = absurd (omega arith)
   judged_low x n (t ∷ ts) i (w ∷ ws) l h =
       let ih = judged_low x n ts (suc i) ws (omega arith) (omega arith) in
-      by-test (λ (s : Scan). Low m (judged s x)) (t w) (λ e. ih) (λ e. omega arith)
+      by_test (λ (s : Scan). Low m (judged s x)) (t w) (λ e. ih) (λ e. omega arith)
 
 record_low : (r : Record) → Low 4 (pack_record r)
 unfolding pack_record
-record_low r = by-test (Low 4) (eqb (pack_fault r) 0) (λ e. tt) (λ e. omega arith)
+record_low r = by_test (Low 4) (eqb (pack_fault r) 0) (λ e. tt) (λ e. omega arith)
 
 zero_place : (a : Answer Result) → Low 0 a → (outcome [] [] a).reply.place ≡ 0
 unfolding outcome
@@ -54,11 +54,11 @@ zero_place (refused n k) l = omega arith
 
 unpack_low : (n : ℕ) → Low 0 (unpack n)
 unfolding unpack
-unpack_low n = by-test (Low 0) (hands_out (pack (unpacked n)) n) (λ e. tt) (λ e. omega arith)
+unpack_low n = by_test (Low 0) (hands_out (pack (unpacked n)) n) (λ e. tt) (λ e. omega arith)
 
 block_low : (number : ℕ) (bytes : List ℕ) → Low 0 (block_check number bytes)
 unfolding block_check
-block_low number bytes = by-test (Low 0) (eqb (length bytes) 512) (λ e. tt) (λ e. omega arith)
+block_low number bytes = by_test (Low 0) (eqb (length bytes) 512) (λ e. tt) (λ e. omega arith)
 
 pub low_places : LowPlaces
 low_places = record {

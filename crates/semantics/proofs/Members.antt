@@ -10,7 +10,7 @@ use lib.ListN.{length, get_or}
 use borrow.Author.Tests.{eqb-true, eq-eqb}
 use Rattle.semantics.specs.Sheet.{Each}
 use Rattle.semantics.specs.Walk.{Mem, Below, member}
-use Rattle.semantics.proofs.Basics.{by-test}
+use Rattle.semantics.proofs.Basics.{by_test}
 
 pub mem_here : (x : ℕ) (s : List ℕ) → Mem x (x ∷ s)
 unfolding member
@@ -18,11 +18,11 @@ mem_here x s = rw (eq-eqb x x refl)
 
 pub mem_there : (x y : ℕ) (s : List ℕ) → Mem x s → Mem x (y ∷ s)
 unfolding member
-mem_there x y s h = by-test (λ (t : Bool). t ≡ true) (eqb x y) (λ e. refl) (λ e. h)
+mem_there x y s h = by_test (λ (t : Bool). t ≡ true) (eqb x y) (λ e. refl) (λ e. h)
 
 pub mem_cases : (x y : ℕ) (s : List ℕ) → Mem x (y ∷ s) → (x ≡ y) ⊎ Mem x s
 unfolding member
-mem_cases x y s = by-test (λ (t : Bool). t ≡ true → (x ≡ y) ⊎ Mem x s) (eqb x y) (λ e h. inl (eqb-true x y e)) (λ e h. inr h)
+mem_cases x y s = by_test (λ (t : Bool). t ≡ true → (x ≡ y) ⊎ Mem x s) (eqb x y) (λ e h. inl (eqb-true x y e)) (λ e h. inr h)
 
 pub not_in : {X : Type 0} (c : ℕ) → Mem c [] → X
 not_in c m = unfold member in (absurd (true≢false (sym m)))
@@ -51,10 +51,10 @@ mem_either x (y ∷ s) t m = go (mem_cases x y (s ++ t) m) (mem_either x s t)
     go (inl e) ih = inl (subst (λ (z : ℕ). Mem z (y ∷ s)) (sym e) (mem_here y s))
     go (inr k) ih = more (ih k)
 
-pub mem_get_d : (l : List ℕ) (j : ℕ) → j < length l → Mem (get_or l j 0) l
-mem_get_d [] j h = absurd (omega arith)
-mem_get_d (x ∷ l) zero h = mem_here x l
-mem_get_d (x ∷ l) (suc j) h = mem_there (get_or l j 0) x l (mem_get_d l j (omega arith))
+pub mem_get_or : (l : List ℕ) (j : ℕ) → j < length l → Mem (get_or l j 0) l
+mem_get_or [] j h = absurd (omega arith)
+mem_get_or (x ∷ l) zero h = mem_here x l
+mem_get_or (x ∷ l) (suc j) h = mem_there (get_or l j 0) x l (mem_get_or l j (omega arith))
 
 pub cons_below : (b n : ℕ) (xs : List ℕ) → n < b → Below b xs → Below b (n ∷ xs)
 cons_below b n xs h w y m = go (mem_cases y n xs m)

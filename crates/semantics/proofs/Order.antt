@@ -8,14 +8,14 @@ use native.Mathlib.Omega.{arith}
 use lib.Dec.{ltb}
 use borrow.Author.Tests.{ltb-true, ltb-false, lt-ltb, le-ltb}
 use Rattle.semantics.specs.Monomial.{before, before_vars}
-use Rattle.semantics.proofs.Basics.{by-test}
+use Rattle.semantics.proofs.Basics.{by_test}
 
 -- Two lists of one or more numbers: the first number decides, or, where it is the same, the rest.
 pub lex_inv : (x y : ℕ) (xs ys : List ℕ) → before (x ∷ xs) (y ∷ ys) ≡ true → (x < y) ⊎ ((x ≡ y) × (before xs ys ≡ true))
 unfolding before
 lex_inv x y xs ys =
-    by-test (λ (t : Bool). t ≡ true → (x < y) ⊎ ((x ≡ y) × (before xs ys ≡ true))) (ltb x y) (λ e h. inl (ltb-true x y e))
-    (λ e. by-test (λ (t : Bool). t ≡ true → (x < y) ⊎ ((x ≡ y) × (before xs ys ≡ true))) (ltb y x) (λ f h. absurd (true≢false (sym h)))
+    by_test (λ (t : Bool). t ≡ true → (x < y) ⊎ ((x ≡ y) × (before xs ys ≡ true))) (ltb x y) (λ e h. inl (ltb-true x y e))
+    (λ e. by_test (λ (t : Bool). t ≡ true → (x < y) ⊎ ((x ≡ y) × (before xs ys ≡ true))) (ltb y x) (λ f h. absurd (true≢false (sym h)))
     (λ f h. inr (omega (arith, ltb-false x y e, ltb-false y x f), h)))
 
 pub lex_head : (x y : ℕ) (xs ys : List ℕ) → x < y → before (x ∷ xs) (y ∷ ys) ≡ true
@@ -50,8 +50,8 @@ lex_trans (x ∷ xs) (y ∷ ys) (z ∷ zs) h k = go (lex_inv x y xs ys h) (lex_i
 pub lex_not : (x y : ℕ) (xs ys : List ℕ) → before (x ∷ xs) (y ∷ ys) ≡ false → (y < x) ⊎ ((x ≡ y) × (before xs ys ≡ false))
 unfolding before
 lex_not x y xs ys =
-    by-test (λ (t : Bool). t ≡ false → (y < x) ⊎ ((x ≡ y) × (before xs ys ≡ false))) (ltb x y) (λ e h. absurd (true≢false h))
-    (λ e. by-test (λ (t : Bool). t ≡ false → (y < x) ⊎ ((x ≡ y) × (before xs ys ≡ false))) (ltb y x) (λ f h. inl (ltb-true y x f))
+    by_test (λ (t : Bool). t ≡ false → (y < x) ⊎ ((x ≡ y) × (before xs ys ≡ false))) (ltb x y) (λ e h. absurd (true≢false h))
+    (λ e. by_test (λ (t : Bool). t ≡ false → (y < x) ⊎ ((x ≡ y) × (before xs ys ≡ false))) (ltb y x) (λ f h. inl (ltb-true y x f))
     (λ f h. inr (omega (arith, ltb-false x y e, ltb-false y x f), h)))
 
 pub lex_total : (xs ys : List ℕ) → before xs ys ≡ false → before ys xs ≡ false → xs ≡ ys
@@ -101,5 +101,5 @@ same_not v u h = rw h
 pub same_is : (v u : List ℕ) → same_vars v u ≡ true → v ≡ u
 unfolding same_vars
 same_is v u =
-    by-test (λ (t : Bool). t ≡ true → v ≡ u) (before_vars v u) (λ e h. absurd (true≢false (sym h)))
-    (λ e. by-test (λ (t : Bool). t ≡ true → v ≡ u) (before_vars u v) (λ f h. absurd (true≢false (sym h))) (λ f h. before_vars_total v u e f))
+    by_test (λ (t : Bool). t ≡ true → v ≡ u) (before_vars v u) (λ e h. absurd (true≢false (sym h)))
+    (λ e. by_test (λ (t : Bool). t ≡ true → v ≡ u) (before_vars u v) (λ f h. absurd (true≢false (sym h))) (λ f h. before_vars_total v u e f))

@@ -11,7 +11,7 @@ use borrow.Author.Tests.{eqb-true, eqb-false, ltb-true, ltb-false}
 use Rattle.semantics.specs.Sheet.{Record, Each}
 use Rattle.semantics.specs.Value.{Node, leaf, const, add, sub, neg, mul, node_of, no_record, record_at}
 use Rattle.semantics.specs.Walk.{Mem, Below, Closed, children, children_at, member, visit, order, Reaches, Distinct}
-use Rattle.semantics.proofs.Basics.{by-test, not-both}
+use Rattle.semantics.proofs.Basics.{by_test, not_both}
 use Rattle.semantics.proofs.Members.{mem_here, mem_there, mem_cases, not_in, cons_below}
 use Rattle.semantics.proofs.Lists.{each_zero}
 use Rattle.semantics.proofs.Records.{LowNode, LowRecord}
@@ -83,12 +83,12 @@ unfolding without
 without_length x [] = omega arith
 without_length x (y ∷ s) =
     let ih = without_length x s in
-    by-test (λ (l : List ℕ). suc (length s) ≤ suc (length l)) (eqb x y) (λ e. omega arith) (λ e. omega arith)
+    by_test (λ (l : List ℕ). suc (length s) ≤ suc (length l)) (eqb x y) (λ e. omega arith) (λ e. omega arith)
 
 without_mem : (x z : ℕ) (s : List ℕ) → Mem z (without x s) → Mem z s
 unfolding without
 without_mem x z [] = λ m. m
-without_mem x z (y ∷ s) = by-test (λ (l : List ℕ). Mem z l → Mem z (y ∷ s)) (eqb x y) (λ e m. mem_there z y s m) (λ e m. go (mem_cases z y (without x s) m) (without_mem x z s))
+without_mem x z (y ∷ s) = by_test (λ (l : List ℕ). Mem z l → Mem z (y ∷ s)) (eqb x y) (λ e m. mem_there z y s m) (λ e m. go (mem_cases z y (without x s) m) (without_mem x z s))
   where
     go : (z ≡ y) ⊎ Mem z (without x s) → (Mem z (without x s) → Mem z s) → Mem z (y ∷ s)
     go (inl e) ih = subst (λ (q : ℕ). Mem q (y ∷ s)) (sym e) (mem_here y s)
@@ -98,7 +98,7 @@ pub not_mem : (z : ℕ) (s t : List ℕ) → (Mem z t → Mem z s) → member z 
 not_mem z s t h e = go (member z t) refl
   where
     go : (b : Bool) → member z t ≡ b → member z t ≡ false
-    go true k = not-both (h k) e
+    go true k = not_both (h k) e
     go false k = k
 
 without_distinct : (x : ℕ) (s : List ℕ) → Distinct s → Distinct (without x s)
@@ -106,13 +106,13 @@ unfolding without
 without_distinct x [] d = tt
 without_distinct x (y ∷ s) d =
     let ih = without_distinct x s d.1 in
-    by-test Distinct (eqb x y) (λ e. d.1) (λ e. (not_mem y s (without x s) (without_mem x y s) d.0, ih))
+    by_test Distinct (eqb x y) (λ e. d.1) (λ e. (not_mem y s (without x s) (without_mem x y s) d.0, ih))
 
 without_gone : (x : ℕ) (s : List ℕ) → Distinct s → Mem x (without x s) → ⊥
 unfolding without
 without_gone x [] d = λ m. not_in x m
 without_gone x (y ∷ s) d =
-    by-test (λ (l : List ℕ). Mem x l → ⊥) (eqb x y) (λ e m. not-both m (subst (λ (q : ℕ). member q s ≡ false) (sym (eqb-true x y e)) d.0))
+    by_test (λ (l : List ℕ). Mem x l → ⊥) (eqb x y) (λ e m. not_both m (subst (λ (q : ℕ). member q s ≡ false) (sym (eqb-true x y e)) d.0))
     (λ e m. go e (mem_cases x y (without x s) m) (without_gone x s d.1))
   where
     go : eqb x y ≡ false → (x ≡ y) ⊎ Mem x (without x s) → (Mem x (without x s) → ⊥) → ⊥

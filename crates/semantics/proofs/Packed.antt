@@ -13,7 +13,7 @@ use Rattle.semantics.specs.Sheet.{Record, record_of, record_words, row, table, f
 use Rattle.semantics.specs.Check.{Scan, reading, stopped, scan_words, judged}
 use Rattle.semantics.specs.Packing.{packed, pack_fault, leaf_tests, pack_record, pack, unpacked, hands_out, unpack}
 use Rattle.semantics.specs.Value.{Leaf, Node, leaf, const, add, sub, neg, mul, leaf_of, node_of}
-use Rattle.semantics.proofs.Basics.{by-test, and_true, true_and, not-both, cond-true, cond-false, tests}
+use Rattle.semantics.proofs.Basics.{by_test, and_true, true_and, not_both, cond_true, cond_false, tests}
 
 -- A scan goes on where the words pass, and stops elsewhere.
 scan_by : (P : Scan → Type 0) (n : ℕ) (ts : List (ℕ → Bool)) (i : ℕ) (ws : List ℕ)
@@ -23,7 +23,7 @@ unfolding scan_words passes
 scan_by P n [] i ws pass stop = pass i ws refl
 scan_by P n (t ∷ ts) i [] pass stop = stop 4 i
 scan_by P n (t ∷ ts) i (w ∷ ws) pass stop =
-    by-test P (t w) (λ e. scan_by P n ts (suc i) ws (λ j vs h. pass j vs (rw e h)) stop) (λ e. stop n i)
+    by_test P (t w) (λ e. scan_by P n ts (suc i) ws (λ j vs h. pass j vs (rw e h)) stop) (λ e. stop n i)
 
 passes_take : (ts : List (ℕ → Bool)) (ws : List ℕ) → passes ts ws ≡ true → passes ts (take (length ts) ws) ≡ true
 unfolding passes
@@ -53,7 +53,7 @@ mark_words k a b c d l h e =
 leaf_words : (p own top k a b c d : ℕ) → k ≤ 4 → let ts : List (ℕ → Bool) = (λ w. leb 1 w && leb w top) ∷ map (fits p own a) (row k) in
     passes ts (take (length ts) (k ∷ a ∷ b ∷ c ∷ d ∷ [])) ≡ true → LeafWords k a b c d
 unfolding passes fits row table
-leaf_words p own top zero a b c d l h = not-both h refl
+leaf_words p own top zero a b c d l h = not_both h refl
 leaf_words p own top (suc zero) a b c d l h =
     let rest = (and_true (leb 1 top) _ h).1 in
     inl (refl, leb-true a 3 (and_true (leb a 3) _ rest).0)
@@ -82,14 +82,14 @@ module _ (a b c d : ℕ) (ha : a ≤ 3) (hb : b ≤ 255) (hc : c ≤ 15) where
   unpacked_variable : unpacked (bits a b c d) ≡ record_of 1 a b c d
   unfolding unpacked
   unpacked_variable =
-      cond-false (leb 8 (bits a b c d % 16)) _ _ (lt-leb 8 (bits a b c d % 16) (omega (arith, bits_entry)))
+      cond_false (leb 8 (bits a b c d % 16)) _ _ (lt-leb 8 (bits a b c d % 16) (omega (arith, bits_entry)))
       ∙ (λ i. record_of 1 (bits_entry i) (bits_part i) (bits_offset i) (bits_column i))
 
 unpacked_mark : (k : ℕ) → 2 ≤ k → k ≤ 4 → unpacked (k + 6) ≡ record_of k 0 0 0 0
 unfolding unpacked
 unpacked_mark k h l =
     let e : (k + 6) % 16 - 6 ≡ k = omega arith in
-    cond-true (leb 8 ((k + 6) % 16)) _ _ (le-leb 8 ((k + 6) % 16) (omega arith)) ∙ (λ i. record_of (e i) 0 0 0 0)
+    cond_true (leb 8 ((k + 6) % 16)) _ _ (le-leb 8 ((k + 6) % 16) (omega arith)) ∙ (λ i. record_of (e i) 0 0 0 0)
 
 -- A variable with no fault fits its bits.
 no_fault : (r : Record) → r.kind ≡ 1 → pack_fault r ≡ 0 → (r.d ≤ 65535) × (r.b ≤ 255) × (r.c ≤ 15)
@@ -97,10 +97,10 @@ unfolding pack_fault
 no_fault r k =
     let P : ℕ → Type 0 = λ n. n ≡ 0 → (r.d ≤ 65535) × (r.b ≤ 255) × (r.c ≤ 15) in
     rw (eq-eqb r.kind 1 k)
-    (by-test P (ltb 65535 r.d) (λ e h. absurd (omega arith))
-    (λ d. by-test P (eqb r.a 2) (λ e h. absurd (omega arith))
-    (λ a. by-test P (ltb 255 r.b) (λ e h. absurd (omega arith))
-    (λ b. by-test P (ltb 15 r.c) (λ e h. absurd (omega arith)) (λ c h. omega tests)))))
+    (by_test P (ltb 65535 r.d) (λ e h. absurd (omega arith))
+    (λ d. by_test P (eqb r.a 2) (λ e h. absurd (omega arith))
+    (λ a. by_test P (ltb 255 r.b) (λ e h. absurd (omega arith))
+    (λ b. by_test P (ltb 15 r.c) (λ e h. absurd (omega arith)) (λ c h. omega tests)))))
 
 -- A leaf with no fault comes back from its packed number, which is a word.
 packed_leaf : (r : Record) → LeafRecord r → pack_fault r ≡ 0 → (unpacked (packed r) ≡ r) × (packed r < 4294967296)
@@ -108,14 +108,14 @@ unfolding packed
 packed_leaf r (inl h) e =
     let f = no_fault r h.0 e in
     let k : 1 ≡ r.kind = sym h.0 in
-    rw (cond-true (eqb r.kind 1) (bits r.a r.b r.c r.d) (r.kind + 6) (eq-eqb r.kind 1 h.0))
+    rw (cond_true (eqb r.kind 1) (bits r.a r.b r.c r.d) (r.kind + 6) (eq-eqb r.kind 1 h.0))
     (unpacked_variable r.a r.b r.c r.d h.1 f.1 f.2 ∙ (λ i. record_of (k i) r.a r.b r.c r.d), omega arith)
 packed_leaf r (inr h) e =
     let a : 0 ≡ r.a = omega arith in
     let b : 0 ≡ r.b = omega arith in
     let c : 0 ≡ r.c = omega arith in
     let d : 0 ≡ r.d = omega arith in
-    rw (cond-false (eqb r.kind 1) (bits r.a r.b r.c r.d) (r.kind + 6) (ne_eqb r.kind 1 (omega arith)))
+    rw (cond_false (eqb r.kind 1) (bits r.a r.b r.c r.d) (r.kind + 6) (ne_eqb r.kind 1 (omega arith)))
     (unpacked_mark r.kind h.0 h.1 ∙ (λ i. record_of r.kind (a i) (b i) (c i) (d i)), omega arith)
 
 -- A result, of an answer that is one.
@@ -140,7 +140,7 @@ pack_leaf r n e =
   where
     at_end : LeafRecord r → IsGood (pack_record r) n → LeafRecord r × (pack_fault r ≡ 0) × (packed r ≡ n)
     at_end l =
-        by-test (λ (x : Answer ℕ). IsGood x n → LeafRecord r × (pack_fault r ≡ 0) × (packed r ≡ n)) (eqb (pack_fault r) 0)
+        by_test (λ (x : Answer ℕ). IsGood x n → LeafRecord r × (pack_fault r ≡ 0) × (packed r ≡ n)) (eqb (pack_fault r) 0)
         (λ f g. (l, eqb-true (pack_fault r) 0 f, g)) (λ f g. absurd g)
 
 pub pack_word : (r : Record) (n : ℕ) → pack r ≡ good n → n < 4294967296
@@ -158,7 +158,7 @@ pack_back r n e =
 hands_out_lem : (x : Answer ℕ) (n : ℕ) → hands_out x n ≡ true → x ≡ good n
 unfolding hands_out
 hands_out_lem (good m) n e = ap {B = Answer ℕ} good (eqb-true m n e)
-hands_out_lem (refused m k) n e = not-both e refl
+hands_out_lem (refused m k) n e = not_both e refl
 
 pub pack_unpack : (r : Record) (n : ℕ) → pack r ≡ good n → unpack n ≡ good r
 unfolding unpack hands_out
@@ -167,14 +167,14 @@ pack_unpack r n e = rw (pack_back r n e, e, eq-eqb n n refl)
 pub unpack_pack : (n : ℕ) (r : Record) → unpack n ≡ good r → pack r ≡ good n
 unfolding unpack
 unpack_pack n r =
-    by-test (λ (x : Answer Record). x ≡ good r → pack r ≡ good n) (hands_out (pack (unpacked n)) n)
+    by_test (λ (x : Answer Record). x ≡ good r → pack r ≡ good n) (hands_out (pack (unpacked n)) n)
     (λ h e. subst (λ (s : Record). pack s ≡ good n) (is_good (good (unpacked n)) r e) (hands_out_lem (pack (unpacked n)) n h))
     (λ h e. absurd (is_good (refused 5 0) r e))
 
 pub unpack_none : (n : ℕ) → ((r : Record) → pack r ≡ good n → ⊥) → unpack n ≡ refused 5 0
 unfolding unpack
 unpack_none n h =
-    by-test (λ (x : Answer Record). x ≡ refused 5 0) (hands_out (pack (unpacked n)) n)
+    by_test (λ (x : Answer Record). x ≡ refused 5 0) (hands_out (pack (unpacked n)) n)
     (λ e. absurd (h (unpacked n) (hands_out_lem (pack (unpacked n)) n e))) (λ e. refl)
 
 -- A node that is a leaf, of a record inside the limits.
@@ -190,11 +190,11 @@ leaf_kind : (r : Record) (x : Leaf) → r.kind ≤ 9 → node_of r ≡ leaf x �
 unfolding node_of
 leaf_kind r x h e =
     let P : Node → Type 0 = λ n. IsLeaf n x → (r.kind ≤ 4) × (leaf_of r ≡ x) in
-    (by-test P (eqb r.kind 5) (λ t l. absurd l)
-    (λ n5. by-test P (eqb r.kind 6) (λ t l. absurd l)
-    (λ n6. by-test P (eqb r.kind 7) (λ t l. absurd l)
-    (λ n7. by-test P (eqb r.kind 8) (λ t l. absurd l)
-    (λ n8. by-test P (eqb r.kind 9) (λ t l. absurd l) (λ n9 l. (omega (arith, eqb-false), l)))))))
+    (by_test P (eqb r.kind 5) (λ t l. absurd l)
+    (λ n5. by_test P (eqb r.kind 6) (λ t l. absurd l)
+    (λ n6. by_test P (eqb r.kind 7) (λ t l. absurd l)
+    (λ n7. by_test P (eqb r.kind 8) (λ t l. absurd l)
+    (λ n8. by_test P (eqb r.kind 9) (λ t l. absurd l) (λ n9 l. (omega (arith, eqb-false), l)))))))
     (subst (λ (n : Node). IsLeaf n x) (sym e) refl)
 
 module _ (p own : ℕ) (r : Record) (x : Leaf) (inside : GoodRecord p own r) (node : node_of r ≡ leaf x) (fault : pack_fault r ≡ 0) where

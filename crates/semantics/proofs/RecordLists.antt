@@ -13,7 +13,7 @@ use Rattle.semantics.specs.Value.{Leaf, Node, leaf, const, add, sub, neg, mul, n
 use Rattle.semantics.specs.Monomial.{Asc, Monomial, plus, neg_monomial, mul_monomial, products, combine, working, finished, record_list, lists, list_at}
 use Rattle.semantics.specs.Expand.{longer, work_fault, record_fault}
 use Rattle.semantics.specs.Lists.{All}
-use Rattle.semantics.proofs.Basics.{by-test, not-both}
+use Rattle.semantics.proofs.Basics.{by_test, not_both}
 use Rattle.semantics.proofs.Arithmetic.{mul_m_lt, neg_m_lt}
 use Rattle.semantics.proofs.Sorting.{all_append, all_at, all_map}
 use Rattle.semantics.proofs.Combining.{Above, asc_combine, Small, all_combine, small_plus}
@@ -115,20 +115,20 @@ not_longer [] e = tt
 not_longer (m ∷ ms) e = go (ltb 14 (length m.vars)) refl (unfold longer in e) (not_longer ms)
   where
     go : (t : Bool) → ltb 14 (length m.vars) ≡ t → t || longer 14 ms ≡ false → (longer 14 ms ≡ false → All Few ms) → All Few (m ∷ ms)
-    go true f q ih = not-both refl q
+    go true f q ih = not_both refl q
     go false f q ih = (ltb-false 14 (length m.vars) f, ih q)
 
 work_fine : (ms : List Monomial) → work_fault ms ≡ 0 → All Few ms
 unfolding work_fault
 work_fine ms =
-    by-test (λ (n : ℕ). n ≡ 0 → All Few ms) (ltb 256 (length ms)) (λ e h. absurd (omega arith))
-    (λ e. by-test (λ (n : ℕ). n ≡ 0 → All Few ms) (longer 14 ms) (λ f h. absurd (omega arith)) (λ f h. not_longer ms f))
+    by_test (λ (n : ℕ). n ≡ 0 → All Few ms) (ltb 256 (length ms)) (λ e h. absurd (omega arith))
+    (λ e. by_test (λ (n : ℕ). n ≡ 0 → All Few ms) (longer 14 ms) (λ f h. absurd (omega arith)) (λ f h. not_longer ms f))
 
 module _ (p : ℕ) (rs : List Record) where
   working_fine : (i : ℕ) → record_fault p rs i ≡ 0 → work_fault (working p (record_at rs i) (node_of (record_at rs i)) (list_at p rs)) ≡ 0
   unfolding record_fault
   working_fine i =
-      by-test (λ (n : ℕ). n ≡ 0 → work_fault (working p (record_at rs i) (node_of (record_at rs i)) (list_at p rs)) ≡ 0) (eqb (pack_fault (record_at rs i)) 0)
+      by_test (λ (n : ℕ). n ≡ 0 → work_fault (working p (record_at rs i) (node_of (record_at rs i)) (list_at p rs)) ≡ 0) (eqb (pack_fault (record_at rs i)) 0)
       (λ e h. h) (λ e h. absurd (eqb-false (pack_fault (record_at rs i)) 0 e h))
 
   few_finished : (n : Node) (ms : List Monomial) → All Few ms → All Few (finished p n ms)

@@ -11,7 +11,7 @@ use lib.Seq.{get_or_at}
 use borrow.Author.Tests.{eqb-true, eqb-false, ltb-true, ltb-false, leb-true, lt-ltb}
 use Rattle.semantics.specs.Sheet.{Record, record_of, record_words, record_tests, row, table, fits, passes, Each, GoodRecord}
 use Rattle.semantics.specs.Value.{Leaf, Node, leaf, const, add, sub, neg, mul, leaf_of, node_of, no_record, record_at, fill, node_value, record_value, values, value_at}
-use Rattle.semantics.proofs.Basics.{by-test, and_true, true_and}
+use Rattle.semantics.proofs.Basics.{by_test, and_true, true_and}
 use Rattle.semantics.proofs.Arithmetic.{add_m_lt, sub_m_lt, mul_m_lt, neg_m_lt}
 use Rattle.semantics.proofs.Lists.{each_zero}
 use Rattle.semantics.proofs.Passes.{fill_at, fill_length, fill_snoc}
@@ -81,11 +81,11 @@ module _ (p own : ℕ) (r : Record) (h : GoodRecord p own r) where
   pub good_low : LowRecord own r
   unfolding node_of
   good_low =
-      by-test (LowNode own) (eqb r.kind 5) (λ e. tt)
-      (λ _. by-test (LowNode own) (eqb r.kind 6) (λ e. two_low 6 refl (eqb-true _ _ e))
-      (λ _. by-test (LowNode own) (eqb r.kind 7) (λ e. two_low 7 (unfold row table in refl) (eqb-true _ _ e))
-      (λ _. by-test (LowNode own) (eqb r.kind 8) (λ e. one_low (eqb-true _ _ e))
-      (λ _. by-test (LowNode own) (eqb r.kind 9) (λ e. two_low 9 (unfold row table in refl) (eqb-true _ _ e))
+      by_test (LowNode own) (eqb r.kind 5) (λ e. tt)
+      (λ _. by_test (LowNode own) (eqb r.kind 6) (λ e. two_low 6 refl (eqb-true _ _ e))
+      (λ _. by_test (LowNode own) (eqb r.kind 7) (λ e. two_low 7 (unfold row table in refl) (eqb-true _ _ e))
+      (λ _. by_test (LowNode own) (eqb r.kind 8) (λ e. one_low (eqb-true _ _ e))
+      (λ _. by_test (LowNode own) (eqb r.kind 9) (λ e. two_low 9 (unfold row table in refl) (eqb-true _ _ e))
       (λ _. tt)))))
 
 -- A leaf or a constant asks nothing of the record's number.
@@ -112,11 +112,11 @@ unfolding node_of is_kind
 flat_kind r h =
     let u : r.kind ≤ 9 = leb-true _ _ (and_true (leb 1 r.kind) (leb r.kind 9) h).1 in
     let P : Node → Type 0 = λ n. Flat n → r.kind < 6 in
-    by-test P (eqb r.kind 5) (λ e w. omega (arith, eqb-true r.kind 5 e))
-    (λ e₅. by-test P (eqb r.kind 6) (λ e w. absurd w)
-    (λ e₆. by-test P (eqb r.kind 7) (λ e w. absurd w)
-    (λ e₇. by-test P (eqb r.kind 8) (λ e w. absurd w)
-    (λ e₈. by-test P (eqb r.kind 9) (λ e w. absurd w)
+    by_test P (eqb r.kind 5) (λ e w. omega (arith, eqb-true r.kind 5 e))
+    (λ e₅. by_test P (eqb r.kind 6) (λ e w. absurd w)
+    (λ e₆. by_test P (eqb r.kind 7) (λ e w. absurd w)
+    (λ e₇. by_test P (eqb r.kind 8) (λ e w. absurd w)
+    (λ e₈. by_test P (eqb r.kind 9) (λ e w. absurd w)
     (λ e₉ w. omega (arith, eqb-false r.kind 6 e₆, eqb-false r.kind 7 e₇, eqb-false r.kind 8 e₈, eqb-false r.kind 9 e₉))))))
 
 pub flat_good : (p own own' : ℕ) (r : Record) → GoodRecord p own r → Flat (node_of r) → GoodRecord p own' r
@@ -190,12 +190,12 @@ module _ (p : ℕ) (big : 1 < p) (A : Leaf → ℕ) (small : (x : Leaf) → A x 
   unfolding node_of
   good_value own r h f =
       let P : Node → Type 0 = λ n. node_value p A n f < p in
-      by-test P (eqb r.kind 5)
+      by_test P (eqb r.kind 5)
       (λ e. unfold node_value in (ltb-true _ _ (and_true (ltb r.a p) _ (sym (row_const p own r) ∙ words_fit p own r h 5 (eqb-true _ _ e))).0))
-      (λ _. by-test P (eqb r.kind 6) (λ e. unfold node_value in (add_m_lt p big (f r.a) (f r.b)))
-      (λ _. by-test P (eqb r.kind 7) (λ e. unfold node_value in (sub_m_lt p big (f r.a) (f r.b)))
-      (λ _. by-test P (eqb r.kind 8) (λ e. unfold node_value in (neg_m_lt p big (f r.a)))
-      (λ _. by-test P (eqb r.kind 9) (λ e. unfold node_value in (mul_m_lt p big (f r.a) (f r.b)))
+      (λ _. by_test P (eqb r.kind 6) (λ e. unfold node_value in (add_m_lt p big (f r.a) (f r.b)))
+      (λ _. by_test P (eqb r.kind 7) (λ e. unfold node_value in (sub_m_lt p big (f r.a) (f r.b)))
+      (λ _. by_test P (eqb r.kind 8) (λ e. unfold node_value in (neg_m_lt p big (f r.a)))
+      (λ _. by_test P (eqb r.kind 9) (λ e. unfold node_value in (mul_m_lt p big (f r.a) (f r.b)))
       (λ _. unfold node_value in (small (leaf_of r)))))))
 
   pub value_small : (rs : List Record) → Each (GoodRecord p) 0 rs → (i : ℕ) → value_at p A rs i < p

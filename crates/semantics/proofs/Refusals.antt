@@ -21,7 +21,7 @@ use Rattle.semantics.specs.Call.{block_check_call, reader_call, writer_call, che
 use Rattle.semantics.specs.Call.{pack_call, variable_call, unpack_call, constraint_call, interaction_call}
 use Rattle.semantics.specs.Refusals.{Sends, of_sheet, of_expansion, Refusals}
 use Rattle.semantics.specs.Lists.{All}
-use Rattle.semantics.proofs.Basics.{by-test}
+use Rattle.semantics.proofs.Basics.{by_test}
 use Rattle.semantics.proofs.Members.{mem_there}
 use Rattle.semantics.proofs.Sorting.{all_at}
 use Rattle.semantics.proofs.Acceptance.{Sent, Within, words_there, judged_sent, check_sent, then_sent, result_sent, needs_sent, pack_fault_lem, walk_sent, fitted_sent}
@@ -38,7 +38,7 @@ unfolding read_blocks member
 read_within zero number bs = tt
 read_within (suc n) number bs =
     let ih = read_within n (suc number) (drop 512 bs) in
-    by-test (Within (1 ∷ 15 ∷ 2 ∷ [])) (block_good (suc number) bs) (λ e. then_sent _ (read_blocks n (suc number) (drop 512 bs)) _ ih (λ ws. tt)) (λ e. refl)
+    by_test (Within (1 ∷ 15 ∷ 2 ∷ [])) (block_good (suc number) bs) (λ e. then_sent _ (read_blocks n (suc number) (drop 512 bs)) _ ih (λ ws. tt)) (λ e. refl)
 
 pub reader_within : (bytes : List ℕ) (out : ℕ) → Within (1 ∷ 15 ∷ 2 ∷ [])
     (cond (bad_length (length bytes)) (refused 1 0)
@@ -46,7 +46,7 @@ pub reader_within : (bytes : List ℕ) (out : ℕ) → Within (1 ∷ 15 ∷ 2 �
     (and_then (read_blocks (length bytes / 512) 0 bytes) (λ ws. result (ws ∷ []) []))))
 unfolding member
 reader_within bytes out =
-    by-test (Within (1 ∷ 15 ∷ 2 ∷ [])) (bad_length (length bytes)) (λ e. refl)
+    by_test (Within (1 ∷ 15 ∷ 2 ∷ [])) (bad_length (length bytes)) (λ e. refl)
     (λ e. needs_sent _ 15 (127 * (length bytes / 512)) out _ refl
     (then_sent _ (read_blocks (length bytes / 512) 0 bytes) _ (read_within (length bytes / 512) 0 bytes) (λ ws. result_sent _ _ _)))
 
@@ -100,7 +100,7 @@ of_packing = 5 ∷ 8 ∷ 9 ∷ 10 ∷ 11 ∷ []
 
 record_sent : (P : ℕ → Type 0) → All P (8 ∷ 9 ∷ 10 ∷ 11 ∷ []) → (r : Record) → Sent P (pack_record r)
 unfolding pack_record
-record_sent P h r = by-test (Sent P) (eqb (pack_fault r) 0) (λ e. tt) (λ e. pack_fault_lem P h r (eqb-false (pack_fault r) 0 e))
+record_sent P h r = by_test (Sent P) (eqb (pack_fault r) 0) (λ e. tt) (λ e. pack_fault_lem P h r (eqb-false (pack_fault r) 0 e))
 
 -- A kind has at most four uses, so the five words of a record are enough.
 row_short : (k : ℕ) → length (row k) ≤ 4
@@ -124,7 +124,7 @@ pub refusals : (p : ℕ) → Refusals p
 unfolding member
 refusals p = record {
   block_check = λ bytes number. unfold block_check_call block_check in
-      (sends (1 ∷ []) [] [] _ (then_sent _ _ _ (by-test (Within (1 ∷ [])) (eqb (length bytes) 512) (λ e. tt) (λ e. refl)) (λ yes'. result_sent _ _ _)));
+      (sends (1 ∷ []) [] [] _ (then_sent _ _ _ (by_test (Within (1 ∷ [])) (eqb (length bytes) 512) (λ e. tt) (λ e. refl)) (λ yes'. result_sent _ _ _)));
   reader = λ bytes out. unfold reader_call in (sends (1 ∷ 15 ∷ 2 ∷ []) [] (out ∷ []) _ (reader_within bytes out));
   writer = λ ws out. unfold writer_call in (copy_sends p ws out _ _);
   check = λ ws. unfold check_call in (number_sends p ws _);
@@ -136,7 +136,7 @@ refusals p = record {
   variable = λ r. unfold variable_call in
       (sends (8 ∷ 9 ∷ 10 ∷ 11 ∷ []) [] [] _ (then_sent _ (pack_record r) _ (record_sent _ (refl, (refl, (refl, (refl, tt)))) r) (λ n. result_sent _ _ _)));
   unpack = λ n. unfold unpack_call unpack in
-      (sends (5 ∷ []) [] [] _ (then_sent _ _ _ (by-test (Within (5 ∷ [])) (hands_out (pack (unpacked n)) n) (λ e. tt) (λ e. refl)) (λ r. result_sent _ _ _)));
+      (sends (5 ∷ []) [] [] _ (then_sent _ _ _ (by_test (Within (5 ∷ [])) (hands_out (pack (unpacked n)) n) (λ e. tt) (λ e. refl)) (λ r. result_sent _ _ _)));
   constraints = λ ws work pool h v t. unfold constraint_call in (expansion_sends p ws work pool _ _ _ _);
   interactions = λ ws work pool h v t h' v' t'. unfold interaction_call in (expansion_sends p ws work pool _ _ _ _);
 }

@@ -8,7 +8,7 @@ use Rattle.semantics.specs.Arithmetic.{add_m, sub_m, mul_m, neg_m}
 use Rattle.semantics.specs.Sheet.{record_of, GoodRecord, row, table}
 use Rattle.semantics.specs.Value.{Leaf, Node, leaf, const, add, sub, neg, mul, node_of, node_value}
 use Rattle.semantics.specs.Graph.{Pick, present, make, if_constants, is_const, if_neg, add_rule, sub_rule, neg_rule, mul_rule}
-use Rattle.semantics.proofs.Basics.{by-test, or_true}
+use Rattle.semantics.proofs.Basics.{by_test, or_true}
 use Rattle.semantics.proofs.Arithmetic.{add_m_lt, sub_m_lt, mul_m_lt, neg_m_lt, zero_add_m, add_m_zero, zero_mul_m, mul_m_zero, mul_m_one, one_mul_m, sub_m_add, neg_m_back, neg_m_zero}
 use Rattle.semantics.proofs.Records.{LowNode, two_good, neg_good, const_good}
 
@@ -59,7 +59,7 @@ module _ (p : ℕ) (big : 1 < p) (n l r : ℕ) (m k : Node) (g : ℕ) (hl : l < 
   unfolding add_rule
   add_good =
       by_constants (GoodPick p n) m k (λ a b. make (record_of 5 (add_m p a b) 0 0 0)) _ (λ a b e f. const_good p n (add_m p a b) (add_m_lt p big a b))
-      (by-test (GoodPick p n) (is_const 0 m) (λ e. hr) (λ e. by-test (GoodPick p n) (is_const 0 k) (λ f. hl)
+      (by_test (GoodPick p n) (is_const 0 m) (λ e. hr) (λ e. by_test (GoodPick p n) (is_const 0 k) (λ f. hl)
       (λ f. by_neg (GoodPick p n) k (λ y. make (record_of 7 l y g 0)) (make (record_of 6 l r g 0))
       (λ y h. two_good p n 7 l y g refl (unfold row table in refl) hl (neg_low y h)) (two_good p n 6 l r g refl refl hl hr))))
 
@@ -67,7 +67,7 @@ module _ (p : ℕ) (big : 1 < p) (n l r : ℕ) (m k : Node) (g : ℕ) (hl : l < 
   unfolding sub_rule
   sub_good =
       by_constants (GoodPick p n) m k (λ a b. make (record_of 5 (sub_m p a b) 0 0 0)) _ (λ a b e f. const_good p n (sub_m p a b) (sub_m_lt p big a b))
-      (by-test (GoodPick p n) (is_const 0 k) (λ f. hl)
+      (by_test (GoodPick p n) (is_const 0 k) (λ f. hl)
       (λ f. by_neg (GoodPick p n) k (λ y. make (record_of 6 l y g 0)) (make (record_of 7 l r g 0))
       (λ y h. two_good p n 6 l y g refl refl hl (neg_low y h)) (two_good p n 7 l r g refl (unfold row table in refl) hl hr)))
 
@@ -75,7 +75,7 @@ module _ (p : ℕ) (big : 1 < p) (n l r : ℕ) (m k : Node) (g : ℕ) (hl : l < 
   unfolding mul_rule
   mul_good =
       by_constants (GoodPick p n) m k (λ a b. make (record_of 5 (mul_m p a b) 0 0 0)) _ (λ a b e f. const_good p n (mul_m p a b) (mul_m_lt p big a b))
-      (by-test (GoodPick p n) (is_const 0 m || is_const 1 k) (λ e. hl) (λ e. by-test (GoodPick p n) (is_const 0 k || is_const 1 m) (λ f. hr)
+      (by_test (GoodPick p n) (is_const 0 m || is_const 1 k) (λ e. hl) (λ e. by_test (GoodPick p n) (is_const 0 k || is_const 1 m) (λ f. hr)
       (λ f. two_good p n 9 l r g refl (unfold row table in refl) hl hr)))
 
 pub neg_rule_good : (p : ℕ) → 1 < p → (n x : ℕ) (m : Node) (g : ℕ) → x < n → GoodPick p n (neg_rule p x m g)
@@ -140,8 +140,8 @@ module _ (p : ℕ) (big : 1 < p) (A : Leaf → ℕ) (W : ℕ → ℕ) (small : (
       let P : Pick → Type 0 = λ q. pick_value p A W q ≡ add_m p (W l) (W r) in
       by_constants P m n (λ a b. make (record_of 5 (add_m p a b) 0 0 0)) _
       (λ a b e f. simp (made_const, const_value p A W l m vl a e, const_value p A W r n vr b f))
-      (by-test P (is_const 0 m) (λ e. simp (taken, is_const_value p A W l m vl 0 e, zero_add_m, small))
-      (λ e. by-test P (is_const 0 n) (λ f. simp (taken, is_const_value p A W r n vr 0 f, add_m_zero, small))
+      (by_test P (is_const 0 m) (λ e. simp (taken, is_const_value p A W l m vl 0 e, zero_add_m, small))
+      (λ e. by_test P (is_const 0 n) (λ f. simp (taken, is_const_value p A W r n vr 0 f, add_m_zero, small))
       (λ f. by_neg P n (λ y. make (record_of 7 l y g 0)) (make (record_of 6 l r g 0))
       (λ y h. simp (made_sub, sub_m_add, neg_value p A W r n vr y h)) (made_add p A W l r g))))
 
@@ -151,7 +151,7 @@ module _ (p : ℕ) (big : 1 < p) (A : Leaf → ℕ) (W : ℕ → ℕ) (small : (
       let P : Pick → Type 0 = λ q. pick_value p A W q ≡ sub_m p (W l) (W r) in
       by_constants P m n (λ a b. make (record_of 5 (sub_m p a b) 0 0 0)) _
       (λ a b e f. simp (made_const, const_value p A W l m vl a e, const_value p A W r n vr b f))
-      (by-test P (is_const 0 n) (λ f. simp (taken, is_const_value p A W r n vr 0 f, sub_m_add, neg_m_zero, add_m_zero, small))
+      (by_test P (is_const 0 n) (λ f. simp (taken, is_const_value p A W r n vr 0 f, sub_m_add, neg_m_zero, add_m_zero, small))
       (λ f. by_neg P n (λ y. make (record_of 6 l y g 0)) (make (record_of 7 l r g 0))
       (λ y h. simp (made_add, sub_m_add, neg_value p A W r n vr y h, neg_m_back, small)) (made_sub p A W l r g)))
 
@@ -169,5 +169,5 @@ module _ (p : ℕ) (big : 1 < p) (A : Leaf → ℕ) (W : ℕ → ℕ) (small : (
       let P : Pick → Type 0 = λ q. pick_value p A W q ≡ mul_m p (W l) (W r) in
       by_constants P m n (λ a b. make (record_of 5 (mul_m p a b) 0 0 0)) _
       (λ a b e f. simp (made_const, const_value p A W l m vl a e, const_value p A W r n vr b f))
-      (by-test P (is_const 0 m || is_const 1 n) (λ e. taken p A W l ∙ left_stays (or_true _ _ e))
-      (λ e. by-test P (is_const 0 n || is_const 1 m) (λ f. taken p A W r ∙ right_stays (or_true _ _ f)) (λ f. made_mul p A W l r g)))
+      (by_test P (is_const 0 m || is_const 1 n) (λ e. taken p A W l ∙ left_stays (or_true _ _ e))
+      (λ e. by_test P (is_const 0 n || is_const 1 m) (λ f. taken p A W r ∙ right_stays (or_true _ _ f)) (λ f. made_mul p A W l r g)))

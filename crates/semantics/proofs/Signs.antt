@@ -9,7 +9,7 @@ use lib.IntN.{pos, negsuc, neg_ℤ, ◌-ℤ◌}
 use lib.Signed.{◌≤ℤ◌, le_z_yes}
 use borrow.Author.Tests.{lt-ltb}
 use Rattle.semantics.specs.Arithmetic.{signed_of, SignedRange}
-use Rattle.semantics.proofs.Basics.{by-test, tests}
+use Rattle.semantics.proofs.Basics.{by_test, tests}
 
 negative_low : (h n : ℕ) → neg_ℤ (pos h) ≤ℤ pos n
 negative_low zero n = le_z_yes (le→leb 0 n (omega arith))
@@ -34,5 +34,5 @@ signed_range h p e c = subst⁻¹ (λ (n : ℕ). SignedRange n (signed_of n c)) 
   where
     odd : (q : ℕ) → q ≡ 2 * (q / 2) → SignedRange (suc q) (signed_of (suc q) c)
     odd q even =
-        by-test (SignedRange (suc q)) (leb (c % suc q) ((suc q - 1) / 2)) (λ e. range_low q (c % suc q) (omega tests))
+        by_test (SignedRange (suc q)) (leb (c % suc q) ((suc q - 1) / 2)) (λ e. range_low q (c % suc q) (omega tests))
         (λ e. range_high q (c % suc q) (mod-lt c {m = suc q} (omega arith)) (omega tests))

@@ -7,7 +7,7 @@ use native.Mathlib.Omega.{arith}
 use lib.ListN.{length, get_or}
 use Rattle.semantics.specs.Lists.{All, Ahead, Sorted}
 use Rattle.semantics.specs.Monomial.{insert_sorted, sort}
-use Rattle.semantics.proofs.Basics.{by-test, not-both}
+use Rattle.semantics.proofs.Basics.{by_test, not_both}
 
 pub all_append : {X : Type 0} (P : X → Type 0) (xs ys : List X) → All P xs → All P ys → All P (xs ++ ys)
 all_append P [] ys h k = k
@@ -38,7 +38,7 @@ module _ {X : Type 0} (after : X → X → Bool) where
   pub insert_by : (P : List X → Type 0) (x y : X) (ys : List X) → (after x y ≡ true → P (y ∷ insert_sorted after x ys))
       → (after x y ≡ false → P (x ∷ y ∷ ys)) → P (insert_sorted after x (y ∷ ys))
   unfolding insert_sorted
-  insert_by P x y ys f g = by-test P (after x y) f g
+  insert_by P x y ys f g = by_test P (after x y) f g
 
   pub insert_nil : (x : X) → insert_sorted after x [] ≡ x ∷ []
   unfolding insert_sorted
@@ -82,8 +82,8 @@ module _ {X : Type 0} (after : X → X → Bool) where
       where
         go : (s t : Bool) → after x z ≡ s → after z y ≡ t → after x z ≡ false
         go false t e f = e
-        go true true e f = not-both (trans x z y e f) h
-        go true false e f = not-both e (subst (λ (q : X). after x q ≡ false) (total y z k f) h)
+        go true true e f = not_both (trans x z y e f) h
+        go true false e f = not_both e (subst (λ (q : X). after x q ≡ false) (total y z k f) h)
 
     ahead_trans : (x y : X) (s : List X) → after x y ≡ false → Ahead after y s → Ahead after x s
     ahead_trans x y [] h k = tt

@@ -6,7 +6,7 @@ use mathlib.Core.List.{List, [], ◌∷◌}
 use Prim.Native.Nat.{ℕ, zero, suc, ◌≤◌, ◌<◌}
 use native.Mathlib.Omega.{arith}
 use Rattle.semantics.specs.Walk.{Closed, Mem, member, fold_left, visit, Reaches, itself, through, Distinct}
-use Rattle.semantics.proofs.Basics.{by-test}
+use Rattle.semantics.proofs.Basics.{by_test}
 use Rattle.semantics.proofs.Members.{mem_here, mem_there, mem_cases}
 
 -- A property that each step keeps, the fold keeps.
@@ -25,7 +25,7 @@ fold_same f g (c ∷ cs) k s =
 pub by_seen : (P : List ℕ → Type 0) (ch : ℕ → List ℕ) (n : ℕ) (s : List ℕ) (r : ℕ)
     → (Mem r s → P s) → (member r s ≡ false → P (r ∷ fold_left (visit ch n) s (ch r))) → P (visit ch (suc n) s r)
 unfolding visit
-by_seen P ch n s r f g = by-test P (member r s) f g
+by_seen P ch n s r f g = by_test P (member r s) f g
 
 module _ (ch : ℕ → List ℕ) where
   pub visit_old : (n : ℕ) (s : List ℕ) (r x : ℕ) → Mem x s → Mem x (visit ch n s r)

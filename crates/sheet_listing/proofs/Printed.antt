@@ -11,7 +11,7 @@ use Rattle.semantics.specs.Sheet.{Sheet, encode, head_words, record_words, inter
 use Rattle.semantics.specs.Graph.{graph_of}
 use Rattle.semantics.specs.Call.{Outcome, handed_back, reader_call}
 use Rattle.semantics.specs.Sheetlist.{decimal, line, refused_text, read_text, dag_text, step, most_taken, graph_lines, sheet_lines, sheetlist, constraint_step}
-use Rattle.semantics.proofs.Basics.{cond-true}
+use Rattle.semantics.proofs.Basics.{cond_true}
 use Rattle.answers.specs.declared.Refusal.{Refusal}
 use Rattle.answers.specs.declared.Written.{Written}
 use Rattle.answers.specs.declared.Written.TheVariants.{Words, Refused}
@@ -91,7 +91,7 @@ module _ (bytes : List ℕ) where
   module _ (l : length bytes ≤ most_taken) (r : Written) (sheet : List ℕ) (e : written_outcome r sheet ≡ reads) where
     bytes_print : step read_text reads (sheet_lines prime (handed_back 0 reads 0)) ≡ sheetlist prime bytes
     unfolding sheetlist
-    bytes_print = sym (cond-true (leb (length bytes) most_taken) _ _ (le-leb (length bytes) most_taken l))
+    bytes_print = sym (cond_true (leb (length bytes) most_taken) _ _ (le-leb (length bytes) most_taken l))
 
     pub read_refused : (x u : Refusal) → r ≡ Refused x → u ≡ of_written r
         → line (refused_text ∷ read_text ∷ decimal u.number ∷ decimal u.place ∷ []) ≡ sheetlist prime bytes

@@ -15,7 +15,7 @@ use Rattle.semantics.specs.Call.{reader_call, builder_call, max_rotation_call, c
 use Rattle.semantics.specs.Sheetlist.{decimal, line, refused_text, step}
 use Rattle.semantics.specs.Walk.{Mem, member}
 use Rattle.semantics.specs.Refusals.{of_sheet, of_expansion}
-use Rattle.semantics.proofs.Basics.{not-both}
+use Rattle.semantics.proofs.Basics.{not_both}
 use Rattle.semantics.proofs.Acceptance.{Within}
 use Rattle.semantics.proofs.Refusals.{check_within, reader_within, builder_within, expansion_within}
 use Rattle.answers.specs.declared.Refusal.{Refusal}
@@ -55,7 +55,7 @@ module _ (scratch lent : List ℕ) where
         (pad_inside r.outputs lent k (omega (arith, all_length r)));
     real = λ e l a. omega (arith, all_length r, none_padded r.outputs lent e);
   }
-  outcome_sound ns (refused n k) z h = record { inside = λ k l. omega arith; real = λ e l a. not-both (subst (λ (m : ℕ). Mem m ns) a h) z }
+  outcome_sound ns (refused n k) z h = record { inside = λ k l. omega arith; real = λ e l a. not_both (subst (λ (m : ℕ). Mem m ns) a h) z }
 
 -- The calls.
 pub reader_sound : (bytes : List ℕ) (out : ℕ) → Sound 0 (reader_call bytes (out ∷ []))
@@ -90,7 +90,7 @@ rotated a = outcome [] [] (and_then a (λ s. result [] (max_rotation s ∷ [])))
 rotated_real : (a : Answer Sheet) → Within of_sheet a → (rotated a).reply.numbers ≡ [] → Accepted (rotated a) → ⊥
 unfolding outcome result and_then member
 rotated_real (good s) h e a = let z : suc zero ≡ zero = ap length e in omega arith
-rotated_real (refused n k) h e a = not-both (subst (λ (m : ℕ). Mem m of_sheet) a h) refl
+rotated_real (refused n k) h e a = not_both (subst (λ (m : ℕ). Mem m of_sheet) a h) refl
 
 pub rotation_real : (p : ℕ) (ws : List ℕ) → (max_rotation_call p ws).reply.numbers ≡ [] → Accepted (max_rotation_call p ws) → ⊥
 unfolding max_rotation_call on_sheet

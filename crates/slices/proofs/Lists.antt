@@ -51,8 +51,8 @@ take_min (suc n) (suc m) (x ∷ l) =
     let z : suc (min n m) ≡ min (suc n) (suc m) = omega arith in
     ap (λ (t : List ℕ). x ∷ t) (take_min n m l) ∙ ap (λ (k : ℕ). take k (x ∷ l)) z
 
-pub get_d_front : (l : List ℕ) (at : ℕ) → get_or (drop at l) 0 0 ≡ get_or l at 0
-get_d_front l at = let z : at + 0 ≡ at = omega arith in get_or-drop at l 0 0 ∙ ap (λ (k : ℕ). get_or l k 0) z
+pub get_or_front : (l : List ℕ) (at : ℕ) → get_or (drop at l) 0 0 ≡ get_or l at 0
+get_or_front l at = let z : at + 0 ≡ at = omega arith in get_or-drop at l 0 0 ∙ ap (λ (k : ℕ). get_or l k 0) z
 
 -- Two lists that are alike as far as i: one more element is the same.
 pub alike_more : (s d : List ℕ) (i : ℕ) → i < length s → i < length d → take i s ≡ take i d → get_or s i 0 ≡ get_or d i 0 → take (i + 1) s ≡ take (i + 1) d

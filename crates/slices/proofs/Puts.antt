@@ -52,13 +52,13 @@ module _ (out out' : List ℕ) (at : ℕ) (xs : List ℕ) (e : out' ≡ put out 
 
 -- The elements in front of what is put, and behind it.
 module _ (out : List ℕ) (at : ℕ) (xs : List ℕ) (h : at + length xs ≤ length out) where
-  pub get_d_before : (k : ℕ) → k < at → get_or (put out at xs) k 0 ≡ get_or out k 0
-  get_d_before k l =
+  pub get_or_before : (k : ℕ) → k < at → get_or (put out at xs) k 0 ≡ get_or out k 0
+  get_or_before k l =
       get_or-append (take at out) (xs ++ drop (at + length xs) out) 0 k (omega (arith, length-take-le at out (omega arith)))
       ∙ get_or-take at out k 0 l
 
-  pub get_d_after : (k : ℕ) → at + length xs ≤ k → get_or (put out at xs) k 0 ≡ get_or out k 0
-  get_d_after k l =
+  pub get_or_after : (k : ℕ) → at + length xs ≤ k → get_or (put out at xs) k 0 ≡ get_or out k 0
+  get_or_after k l =
       let P : List ℕ = take at out ++ xs in
       let Q : List ℕ = drop (at + length xs) out in
       let e : length P ≡ at + length xs = simp (length-append, length-take) (omega arith) in

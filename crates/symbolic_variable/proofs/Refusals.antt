@@ -4,7 +4,7 @@ use mathlib.Core.List.{[], ◌∷◌}
 use Prim.Native.Nat.{ℕ, ◌+◌}
 use lib.Dec.{leb}
 use Rattle.semantics.specs.Walk.{member}
-use Rattle.semantics.proofs.Basics.{by-test}
+use Rattle.semantics.proofs.Basics.{by_test}
 use Rattle.semantics.proofs.Acceptance.{Within, then_sent, result_sent}
 use Rattle.semantics.proofs.Refusals.{sends}
 use Rattle.symbolic_variable.specs.declared.Entry.{Entry}
@@ -14,7 +14,7 @@ use Rattle.symbolic_variable.specs.Replies.{rotate_call, rotate_variable_call, R
 
 moved_within : (o k : ℕ) → Within (11 ∷ []) (offset_moved o k)
 unfolding offset_moved member
-moved_within o k = by-test (Within (11 ∷ [])) (leb (o + k) 18446744073709551615) (λ e. tt) (λ e. refl)
+moved_within o k = by_test (Within (11 ∷ [])) (leb (o + k) 18446744073709551615) (λ e. tt) (λ e. refl)
 
 entry_within : (e : Entry) (k : ℕ) → Within (11 ∷ []) (entry_rotated e k)
 entry_within (Preprocessed o) k = then_sent _ (offset_moved o k) _ (moved_within o k) (λ m. tt)

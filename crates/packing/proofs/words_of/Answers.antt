@@ -4,17 +4,17 @@ use Prim.Native.Nat.{◌%◌}
 use lib.Dec.{leb}
 use borrow.Author.Tests.{le-leb, lt-leb}
 use Rattle.semantics.specs.Packing.{unpacked}
-use Rattle.semantics.proofs.Basics.{cond-true, cond-false}
+use Rattle.semantics.proofs.Basics.{cond_true, cond_false}
 use Rattle.packing.proofs.words_of.Goals as goal
 
 pub returns-then-n-ge8 : goal.returns-then-n-ge8
 unfolding unpacked
 returns-then-n-ge8 c =
     let type = c.args.v.0 % 16 in
-    sym (cond-true (leb 8 type) _ _ (le-leb 8 type c.if-n-ge8.true))
+    sym (cond_true (leb 8 type) _ _ (le-leb 8 type c.if-n-ge8.true))
 
 pub returns : goal.returns
 unfolding unpacked
 returns c =
     let type = c.args.v.0 % 16 in
-    sym (cond-false (leb 8 type) _ _ (lt-leb 8 type c.if-n-ge8.false))
+    sym (cond_false (leb 8 type) _ _ (lt-leb 8 type c.if-n-ge8.false))
