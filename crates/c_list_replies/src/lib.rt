@@ -9,7 +9,7 @@ use constraint_lists::ConstraintLists;
 use interaction_lists::InteractionLists;
 
 #[repr(C)]
-#[derive(Drop)]
+#[derive(Clone, Copy)]
 pub struct SuhkelvaLists {
     pub number: u32,
     pub place: u64,
@@ -19,7 +19,7 @@ pub struct SuhkelvaLists {
 }
 
 #[repr(C)]
-#[derive(Drop)]
+#[derive(Clone, Copy)]
 pub struct SuhkelvaInteractionLists {
     pub number: u32,
     pub place: u64,

@@ -16,7 +16,7 @@ use packing::Unpacked;
 use sheet::Checked;
 
 #[repr(C)]
-#[derive(Drop)]
+#[derive(Clone, Copy)]
 pub struct SuhkelvaPacked {
     pub number: u32,
     pub place: u32,
@@ -24,7 +24,7 @@ pub struct SuhkelvaPacked {
 }
 
 #[repr(C)]
-#[derive(Drop)]
+#[derive(Clone, Copy)]
 pub struct SuhkelvaRecord {
     pub number: u32,
     pub place: u32,
@@ -36,7 +36,7 @@ pub struct SuhkelvaRecord {
 }
 
 #[repr(C)]
-#[derive(Drop)]
+#[derive(Clone, Copy)]
 pub struct SuhkelvaBlock {
     pub number: u32,
     pub place: u32,
@@ -44,7 +44,7 @@ pub struct SuhkelvaBlock {
 }
 
 #[repr(C)]
-#[derive(Drop)]
+#[derive(Clone, Copy)]
 pub struct SuhkelvaSheet {
     pub number: u32,
     pub place: u64,
@@ -56,7 +56,7 @@ pub struct SuhkelvaSheet {
 }
 
 #[repr(C)]
-#[derive(Drop)]
+#[derive(Clone, Copy)]
 pub struct SuhkelvaNumber {
     pub number: u32,
     pub place: u64,
@@ -64,7 +64,7 @@ pub struct SuhkelvaNumber {
 }
 
 #[repr(C)]
-#[derive(Drop)]
+#[derive(Clone, Copy)]
 pub struct SuhkelvaWritten {
     pub number: u32,
     pub place: u64,
