@@ -1,6 +1,6 @@
 -- Four words are judged one by one. Of each of the first three: where the scan stands behind it, and that the tests that are left, from
 -- there on, give the scan of the whole head.
-use mathlib.Core.Path.{◌≡◌, refl, subst, ◌∙◌}
+use mathlib.Core.Path.{◌≡◌, refl, ◌∙◌}
 use mathlib.Core.Bool.{Bool}
 use mathlib.Core.List.{List, [], ◌∷◌}
 use Prim.Native.Nat.{ℕ, ◌+◌}
@@ -49,4 +49,4 @@ returns c =
     let constraints = left_next records _ c.check_limit-constraints.ensures _ c.in-Next-constraints.is in
     let r = c.check_limit in
     let end : c.in-Next-constraints.three + 1 ≡ 4 = omega (arith, constraints.stands) in
-    (r.ensures.0 ∙ constraints.goes, r.ensures.1, subst (λ (n : ℕ). EndsAt n r.result) end r.ensures.2)
+    (r.ensures.0 ∙ constraints.goes, r.ensures.1, rw end at r.ensures.2)

@@ -1,6 +1,5 @@
 -- Four words are judged one by one, then as many references as the fourth says. Of each of the four: where the scan stands behind it,
 -- and that the tests that are left, from there on, give the scan of the whole interaction.
-use mathlib.Core.Path.{ap, ◌∙◌}
 use mathlib.Core.Bool.{true}
 use mathlib.Core.List.{List, ◌∷◌}
 use Prim.Native.Nat.{ℕ, ◌+◌, ◌≤◌}
@@ -8,7 +7,7 @@ use native.Mathlib.Omega.{arith}
 use lib.Dec.{leb}
 use lib.ListN.{length, get_or, drop, replicate}
 use Rattle.semantics.specs.Sheet.{refers, interaction_tests}
-use Rattle.semantics.specs.Check.{reading, scan_words, scan_part}
+use Rattle.semantics.specs.Check.{reading, scan_part}
 use Rattle.sheet.proofs.Laws.{Left, left_stops, left_next, interaction_tests_lem}
 use Rattle.sheet.proofs.scan.check_interaction.Goals as goal
 
@@ -46,17 +45,9 @@ returns-in_default-length c =
 
 pub returns : goal.returns
 returns c =
-    let a = c.args in
-    let w = a.s.now in
-    let four = c.in-Next-length.four in
-    let begin = begins a.records w a.at c.requires in
+    let begin = begins c.args.records c.args.s.now c.args.at c.requires in
     let bus = left_next begin _ c.check_limit-bus.ensures _ c.in-Next.is in
     let weight = left_next bus _ c.check_any-weight.ensures _ c.in-Next-weight.is in
     let count = left_next weight _ c.check_references-count.ensures _ c.in-Next-count.is in
-    let all-four = left_next count _ c.check_limit-length.ensures _ c.in-Next-length.is in
-    let as_many = c.wide.ensures ∙ ap (λ (i : ℕ). get_or w i 0) count.stands in (
-      c.check_references.ensures.0
-          ∙ ap (λ (n : ℕ). scan_words 6 (replicate n (refers a.records)) (reading four (drop four w))) as_many
-          ∙ all-four.goes,
-      c.check_references.ensures.1,
-    )
+    let length = left_next count _ c.check_limit-length.ensures _ c.in-Next-length.is in
+    (cc (c.check_references.ensures.0, c.wide.ensures, count.stands, length.goes), c.check_references.ensures.1)
