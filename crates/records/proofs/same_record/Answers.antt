@@ -15,10 +15,20 @@ returns-then-q-m-3 c =
 
 pub returns-then-q-m-4 : goal.returns-then-q-m-4
 returns-then-q-m-4 c =
-    rw (← equal_read _ _ _ c.record_at-m.ensures, eq-eqb _ _ c.if-q-m.false, eq-eqb _ _ c.if-q-m-2.false, eq-eqb _ _ c.if-q-m-3.false,
-    ne_eqb _ _ c.if-q-m-4.true)
+    rw (
+      ← equal_read _ _ _ c.record_at-m.ensures,
+      eq-eqb _ _ c.if-q-m.false,
+      eq-eqb _ _ c.if-q-m-2.false,
+      eq-eqb _ _ c.if-q-m-3.false,
+      ne_eqb _ _ c.if-q-m-4.true,
+    )
 
 pub returns : goal.returns
 returns c =
-    rw (← equal_read _ _ _ c.record_at-m.ensures, eq-eqb _ _ c.if-q-m.false, eq-eqb _ _ c.if-q-m-2.false, eq-eqb _ _ c.if-q-m-3.false,
-    eq-eqb _ _ c.if-q-m-4.false)
+    rw (
+      ← equal_read _ _ _ c.record_at-m.ensures,
+      eq-eqb _ _ c.if-q-m.false,
+      eq-eqb _ _ c.if-q-m-2.false,
+      eq-eqb _ _ c.if-q-m-3.false,
+      eq-eqb _ _ c.if-q-m-4.false,
+    )
