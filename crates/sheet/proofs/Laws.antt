@@ -1,6 +1,6 @@
 -- Laws of the scan, for the code that judges a sheet word by word.
 use mathlib.Core.Path.{◌≡◌, refl, sym, ap, subst, ◌∙◌}
-use mathlib.Core.Bool.{Bool, true, false, cond, true≢false, ◌&&◌, ◌||◌}
+use mathlib.Core.Bool.{Bool, true, false, cond, ◌&&◌}
 use mathlib.Core.List.{List, [], ◌∷◌, ◌++◌, map}
 use Prim.Native.Nat.{ℕ, zero, suc, ◌+◌, ◌-◌, ◌≤◌, ◌<◌}
 use native.Mathlib.Nat.{add-zero}
@@ -27,25 +27,6 @@ use Rattle.sheet.specs.declared.scan.Scanned.TheVariants.{Next, Stop}
 use Rattle.sheet.specs.Scans.{scan_of, Ends, EndsAt, refused_of}
 use Rattle.sheet.specs.Replies.{checked_outcome}
 use Rattle.sheet.proofs.Answers.{told, check_told}
-
--- How a word is used, where it is known.
-module _ (p own a w : ℕ) where
-  pub fits_at : (how k : ℕ) → how ≡ k → fits p own a k w ≡ fits p own a how w
-  fits_at how k e = ap (λ (h : ℕ). fits p own a h w) (sym e)
-
-  pub fits_any : (how : ℕ) → (how ≡ 0 → ⊥) → (how ≡ 1 → ⊥) → (how ≡ 2 → ⊥) → (how ≡ 3 → ⊥) → (how ≡ 5 → ⊥) → (how ≡ 6 → ⊥)
-      → true ≡ fits p own a how w
-  unfolding fits
-  fits_any how n₀ n₁ n₂ n₃ n₅ n₆ =
-      simp (ne_eqb how 0 n₀, ne_eqb how 1 n₁, ne_eqb how 2 n₂, ne_eqb how 3 n₃, ne_eqb how 5 n₅, ne_eqb how 6 n₆)
-
-pub or_first : (s t : Bool) → s ≡ true → s ≡ s || t
-or_first true t e = refl
-or_first false t e = absurd (true≢false (sym e))
-
-pub or_second : (s t : Bool) → s ≡ false → t ≡ s || t
-or_second true t e = absurd (true≢false e)
-or_second false t e = refl
 
 -- A stopped scan stays.
 scan_stopped : (n : ℕ) (ts : List (ℕ → Bool)) (m k : ℕ) → scan_words n ts (stopped m k) ≡ stopped m k

@@ -1,183 +1,143 @@
--- The check goes in five stages, of which each stops the whole or says where the next begins. Of each stage: what it has scanned, and that
--- it is a step of the scan of the whole sheet, the rest being the stages behind it.
+-- The check goes in five stages, of which each stops the whole or says where the next begins. Of each stage: that it has scanned the sheet
+-- so far, from the first word on.
 use mathlib.Core.Path.{◌≡◌, sym, ap, ◌∙◌}
 use mathlib.Core.List.{List}
 use Prim.Native.Nat.{ℕ}
 use lib.ListN.{get_or, drop, replicate}
 use Rattle.semantics.specs.Arithmetic.{prime}
-use Rattle.semantics.specs.Sheet.{record_tests, interaction_tests, refers}
-use Rattle.semantics.specs.Check.{Scan, reading, scan_words, scan_parts, scan_sheet}
-use Rattle.sheet.specs.Scans.{scan_of}
+use Rattle.semantics.specs.Sheet.{record_tests, interaction_tests, head_tests, refers}
+use Rattle.semantics.specs.Check.{Scan, reading, stopped, scan_words, scan_parts, scan_spare, scan_sheet}
+use Rattle.semantics.specs.Call.{check_call}
+use Rattle.answers.specs.declared.Refusal.{Refusal}
+use Rattle.sheet.specs.Scans.{scan_of, refused_of}
 use Rattle.sheet.specs.Replies.{checked_outcome}
 use Rattle.sheet.specs.declared.scan.Scanned.{Scanned}
-use Rattle.sheet.proofs.Laws.{Step, step, refuses, is_head, after_interactions, after_constraints, after_records, after_head, from_head}
-use Rattle.sheet.proofs.Laws.{interactions_stay, constraints_stay, records_stay, head_stays}
+use Rattle.sheet.specs.declared.scan.Scanned.TheVariants.{Next, Stop}
+use Rattle.sheet.specs.declared.Checked.{Checked}
 use Rattle.sheet.specs.declared.Checked.TheVariants.{Sheet}
+use Rattle.sheet.proofs.Laws.{refuses, is_head, after_interactions, after_constraints, after_records, after_head, from_head}
+use Rattle.sheet.proofs.Laws.{interactions_stay, constraints_stay, records_stay, head_stays}
 use Rattle.sheet.proofs.check_sheet.Goals as goal
 
--- From a place on, the scan of the words.
-abbrev from : List ℕ → ℕ → Scan
-from w n = reading n (drop n w)
+module _ (w : List ℕ) where
+  -- From a place on, the scan of the words.
+  abbrev from : ℕ → Scan
+  from n = reading n (drop n w)
 
--- A step of the scan of a whole sheet.
-abbrev SheetStep : (List ℕ → Scan → Scan) → List ℕ → Scanned → Type 0
-SheetStep rest w = Step (rest w) (scan_sheet prime w) w
+  -- The tests of the records, the constraints and the interactions, by the counts of the head, and the scan behind each stage.
+  abbrev test_records : Scan → Scan
+  test_records = scan_parts 5 (record_tests prime) (get_or w 1 0) 0
+
+  abbrev test_constraints : Scan → Scan
+  test_constraints = scan_words 6 (replicate (get_or w 2 0) (refers (get_or w 1 0)))
+
+  abbrev test_interactions : Scan → Scan
+  test_interactions = scan_parts 6 (λ own. interaction_tests (get_or w 1 0)) (get_or w 3 0) 0
+
+  abbrev behind_head : Scan
+  behind_head = scan_words 3 head_tests (reading 0 w)
+
+  abbrev behind_records : Scan
+  behind_records = test_records behind_head
+
+  abbrev behind_constraints : Scan
+  behind_constraints = test_constraints behind_records
+
+  abbrev behind_interactions : Scan
+  behind_interactions = test_interactions behind_constraints
+
+  -- A stage that goes on: the scan stands at the place that it says.
+  stands : {s : Scan} {r : Scanned} {m : ℕ} → scan_of w r ≡ s → r ≡ Next m → from m ≡ s
+  stands e q = sym (ap (scan_of w) q) ∙ e
+
+  -- A stage that stops: the tests behind it, `rest`, stay at the refusal.
+  refused : (rest : Scan → Scan) {s : Scan} → ((m k : ℕ) → rest (stopped m k) ≡ stopped m k) → rest s ≡ scan_sheet prime w
+      → {r : Scanned} {v : Refusal} {x : Checked} → scan_of w r ≡ s → r ≡ Stop v → x ≡ refused_of r → checked_outcome x ≡ check_call prime w
+  refused rest stays whole {r} {v} {x} e q h =
+      let at_v = ap (scan_of w) q in
+      refuses prime w r v x q (at_v ∙ sym (stays v.number v.place) ∙ ap rest (sym at_v ∙ e) ∙ whole) h
+
+  -- The stages, of which each starts where the one before it ends.
+  scanned_records : {n m : ℕ} {s : Scan} → n ≡ get_or w 1 0 → from m ≡ behind_head
+      → s ≡ scan_parts 5 (record_tests prime) n 0 (from m) → s ≡ behind_records
+  scanned_records n h e = e ∙ (λ i. scan_parts 5 (record_tests prime) (n i) 0 (h i))
+
+  scanned_constraints : {n k m : ℕ} {s : Scan} → n ≡ get_or w 1 0 → k ≡ get_or w 2 0 → from m ≡ behind_records
+      → s ≡ scan_words 6 (replicate k (refers n)) (from m) → s ≡ behind_constraints
+  scanned_constraints n k h e = e ∙ (λ i. scan_words 6 (replicate (k i) (refers (n i))) (h i))
+
+  scanned_interactions : {n k m : ℕ} {s : Scan} → n ≡ get_or w 1 0 → k ≡ get_or w 3 0 → from m ≡ behind_constraints
+      → s ≡ scan_parts 6 (λ own. interaction_tests n) k 0 (from m) → s ≡ behind_interactions
+  scanned_interactions n k h e = e ∙ (λ i. scan_parts 6 (λ own. interaction_tests (n i)) (k i) 0 (h i))
+
+  scanned_spare : {m : ℕ} {s : Scan} → from m ≡ behind_interactions → s ≡ scan_spare 126 (from m) → s ≡ scan_sheet prime w
+  scanned_spare h e = e ∙ ap (scan_spare 126) h ∙ from_head prime w
 
 pub returns-in_default : goal.returns-in_default
 returns-in_default c =
-    let head_step : SheetStep (after_head prime) c.args.s.now c.check_head-head.result =
-    let r = c.check_head-head in step r.ensures.0 r.ensures.1 (from_head prime c.args.s.now) (head_stays prime c.args.s.now) in
-    refuses prime c.args.s.now c.check_head-head.result c.in_default.field-0 _ c.in_default.is (head_step.stops c.in_default.field-0 c.in_default.is) c.refused.ensures
+    let w = c.args.s.now in
+    refused w (after_head prime w) (head_stays prime w) (from_head prime w) c.check_head-head.ensures.0 c.in_default.is c.refused.ensures
 
 pub returns-in_default-all_records : goal.returns-in_default-all_records
 returns-in_default-all_records c =
-    let head_step : SheetStep (after_head prime) c.args.s.now c.check_head-head.result =
-    let r = c.check_head-head in step r.ensures.0 r.ensures.1 (from_head prime c.args.s.now) (head_stays prime c.args.s.now) in
-    let records_are : c.wide-records.result ≡ get_or c.args.s.now 1 0 =
-    c.wide-records.ensures in
-    let scanned-records : let w = c.args.s.now in
-    scan_of w c.check_records-all_records.result ≡ scan_parts 5 (record_tests prime) (get_or w 1 0) 0 (from w c.in-Next.first) =
-    c.check_records-all_records.ensures.0 ∙ ap (λ (n : ℕ). scan_parts 5 (record_tests prime) n 0 (from c.args.s.now c.in-Next.first)) records_are in
-    let records-step : SheetStep (after_records prime) c.args.s.now c.check_records-all_records.result =
-    step scanned-records c.check_records-all_records.ensures.1
-    (head_step.goes c.in-Next.first c.in-Next.is) (records_stay prime c.args.s.now) in
-    refuses prime c.args.s.now c.check_records-all_records.result c.in_default-all_records.field-0 _ c.in_default-all_records.is
-    (records-step.stops c.in_default-all_records.field-0 c.in_default-all_records.is) c.refused-in_default-all_records.ensures
+    let w = c.args.s.now in
+    let head = stands w c.check_head-head.ensures.0 c.in-Next.is in
+    let records = scanned_records w c.wide-records.ensures head c.check_records-all_records.ensures.0 in
+    refused w (after_records prime w) (records_stay prime w) (from_head prime w) records c.in_default-all_records.is c.refused-in_default-all_records.ensures
 
 pub returns-in_default-all_constraints : goal.returns-in_default-all_constraints
 returns-in_default-all_constraints c =
-    let head_step : SheetStep (after_head prime) c.args.s.now c.check_head-head.result =
-    let r = c.check_head-head in step r.ensures.0 r.ensures.1 (from_head prime c.args.s.now) (head_stays prime c.args.s.now) in
-    let records_are : c.wide-records.result ≡ get_or c.args.s.now 1 0 =
-    c.wide-records.ensures in
-    let constraints_are : c.wide-constraints.result ≡ get_or c.args.s.now 2 0 =
-    c.wide-constraints.ensures in
-    let scanned-records : let w = c.args.s.now in
-    scan_of w c.check_records-all_records.result ≡ scan_parts 5 (record_tests prime) (get_or w 1 0) 0 (from w c.in-Next.first) =
-    c.check_records-all_records.ensures.0 ∙ ap (λ (n : ℕ). scan_parts 5 (record_tests prime) n 0 (from c.args.s.now c.in-Next.first)) records_are in
-    let records-step : SheetStep (after_records prime) c.args.s.now c.check_records-all_records.result =
-    step scanned-records c.check_records-all_records.ensures.1
-    (head_step.goes c.in-Next.first c.in-Next.is) (records_stay prime c.args.s.now) in
-    let scanned-references : let w = c.args.s.now in
-    scan_of w c.check_references-all_constraints.result ≡ scan_words 6 (replicate (get_or w 2 0) (refers (get_or w 1 0))) (from w c.in-Next-all_records.references) =
-    c.check_references-all_constraints.ensures.0 ∙ (λ i. scan_words 6 (replicate (constraints_are i) (refers (records_are i))) (from c.args.s.now c.in-Next-all_records.references)) in
-    let references-step : SheetStep (after_constraints prime) c.args.s.now c.check_references-all_constraints.result =
-    step scanned-references c.check_references-all_constraints.ensures.1
-    (records-step.goes c.in-Next-all_records.references c.in-Next-all_records.is) (constraints_stay prime c.args.s.now) in
-    refuses prime c.args.s.now c.check_references-all_constraints.result c.in_default-all_constraints.field-0 _ c.in_default-all_constraints.is
-    (references-step.stops c.in_default-all_constraints.field-0 c.in_default-all_constraints.is)
+    let w = c.args.s.now in
+    let n = c.wide-records.ensures in
+    let head = stands w c.check_head-head.ensures.0 c.in-Next.is in
+    let records = stands w (scanned_records w n head c.check_records-all_records.ensures.0) c.in-Next-all_records.is in
+    let constraints = scanned_constraints w n c.wide-constraints.ensures records c.check_references-all_constraints.ensures.0 in
+    refused w (after_constraints prime w) (constraints_stay prime w) (from_head prime w) constraints c.in_default-all_constraints.is
     c.refused-in_default-all_constraints.ensures
 
 pub returns-in_default-all_interactions : goal.returns-in_default-all_interactions
 returns-in_default-all_interactions c =
-    let head_step : SheetStep (after_head prime) c.args.s.now c.check_head-head.result =
-    let r = c.check_head-head in step r.ensures.0 r.ensures.1 (from_head prime c.args.s.now) (head_stays prime c.args.s.now) in
-    let records_are : c.wide-records.result ≡ get_or c.args.s.now 1 0 =
-    c.wide-records.ensures in
-    let constraints_are : c.wide-constraints.result ≡ get_or c.args.s.now 2 0 =
-    c.wide-constraints.ensures in
-    let interactions_are : c.wide-interactions.result ≡ get_or c.args.s.now 3 0 =
-    c.wide-interactions.ensures in
-    let scanned-records : let w = c.args.s.now in
-    scan_of w c.check_records-all_records.result ≡ scan_parts 5 (record_tests prime) (get_or w 1 0) 0 (from w c.in-Next.first) =
-    c.check_records-all_records.ensures.0 ∙ ap (λ (n : ℕ). scan_parts 5 (record_tests prime) n 0 (from c.args.s.now c.in-Next.first)) records_are in
-    let records-step : SheetStep (after_records prime) c.args.s.now c.check_records-all_records.result =
-    step scanned-records c.check_records-all_records.ensures.1
-    (head_step.goes c.in-Next.first c.in-Next.is) (records_stay prime c.args.s.now) in
-    let scanned-references : let w = c.args.s.now in
-    scan_of w c.check_references-all_constraints.result ≡ scan_words 6 (replicate (get_or w 2 0) (refers (get_or w 1 0))) (from w c.in-Next-all_records.references) =
-    c.check_references-all_constraints.ensures.0 ∙ (λ i. scan_words 6 (replicate (constraints_are i) (refers (records_are i))) (from c.args.s.now c.in-Next-all_records.references)) in
-    let references-step : SheetStep (after_constraints prime) c.args.s.now c.check_references-all_constraints.result =
-    step scanned-references c.check_references-all_constraints.ensures.1
-    (records-step.goes c.in-Next-all_records.references c.in-Next-all_records.is) (constraints_stay prime c.args.s.now) in
-    let scanned-interactions : let w = c.args.s.now in
-    scan_of w c.check_interactions-all_interactions.result ≡ scan_parts 6 (λ own. interaction_tests (get_or w 1 0)) (get_or w 3 0) 0 (from w c.in-Next-all_constraints.start) =
-    c.check_interactions-all_interactions.ensures.0
-    ∙ (λ i. scan_parts 6 (λ own. interaction_tests (records_are i)) (interactions_are i) 0 (from c.args.s.now c.in-Next-all_constraints.start)) in
-    let interactions-step : SheetStep (after_interactions prime) c.args.s.now c.check_interactions-all_interactions.result =
-    step scanned-interactions c.check_interactions-all_interactions.ensures.1
-    (references-step.goes c.in-Next-all_constraints.start c.in-Next-all_constraints.is) (interactions_stay prime c.args.s.now) in
-    refuses prime c.args.s.now c.check_interactions-all_interactions.result c.in_default-all_interactions.field-0 _ c.in_default-all_interactions.is
-    (interactions-step.stops c.in_default-all_interactions.field-0 c.in_default-all_interactions.is) c.refused-in_default-all_interactions.ensures
+    let w = c.args.s.now in
+    let n = c.wide-records.ensures in
+    let head = stands w c.check_head-head.ensures.0 c.in-Next.is in
+    let records = stands w (scanned_records w n head c.check_records-all_records.ensures.0) c.in-Next-all_records.is in
+    let constraints =
+    stands w (scanned_constraints w n c.wide-constraints.ensures records c.check_references-all_constraints.ensures.0) c.in-Next-all_constraints.is in
+    let interactions = scanned_interactions w n c.wide-interactions.ensures constraints c.check_interactions-all_interactions.ensures.0 in
+    refused w (after_interactions prime w) (interactions_stay prime w) (from_head prime w) interactions c.in_default-all_interactions.is
+    c.refused-in_default-all_interactions.ensures
 
 pub returns-in_default-spare : goal.returns-in_default-spare
 returns-in_default-spare c =
-    let head_step : SheetStep (after_head prime) c.args.s.now c.check_head-head.result =
-    let r = c.check_head-head in step r.ensures.0 r.ensures.1 (from_head prime c.args.s.now) (head_stays prime c.args.s.now) in
-    let records_are : c.wide-records.result ≡ get_or c.args.s.now 1 0 =
-    c.wide-records.ensures in
-    let constraints_are : c.wide-constraints.result ≡ get_or c.args.s.now 2 0 =
-    c.wide-constraints.ensures in
-    let interactions_are : c.wide-interactions.result ≡ get_or c.args.s.now 3 0 =
-    c.wide-interactions.ensures in
-    let scanned-records : let w = c.args.s.now in
-    scan_of w c.check_records-all_records.result ≡ scan_parts 5 (record_tests prime) (get_or w 1 0) 0 (from w c.in-Next.first) =
-    c.check_records-all_records.ensures.0 ∙ ap (λ (n : ℕ). scan_parts 5 (record_tests prime) n 0 (from c.args.s.now c.in-Next.first)) records_are in
-    let records-step : SheetStep (after_records prime) c.args.s.now c.check_records-all_records.result =
-    step scanned-records c.check_records-all_records.ensures.1
-    (head_step.goes c.in-Next.first c.in-Next.is) (records_stay prime c.args.s.now) in
-    let scanned-references : let w = c.args.s.now in
-    scan_of w c.check_references-all_constraints.result ≡ scan_words 6 (replicate (get_or w 2 0) (refers (get_or w 1 0))) (from w c.in-Next-all_records.references) =
-    c.check_references-all_constraints.ensures.0 ∙ (λ i. scan_words 6 (replicate (constraints_are i) (refers (records_are i))) (from c.args.s.now c.in-Next-all_records.references)) in
-    let references-step : SheetStep (after_constraints prime) c.args.s.now c.check_references-all_constraints.result =
-    step scanned-references c.check_references-all_constraints.ensures.1
-    (records-step.goes c.in-Next-all_records.references c.in-Next-all_records.is) (constraints_stay prime c.args.s.now) in
-    let scanned-interactions : let w = c.args.s.now in
-    scan_of w c.check_interactions-all_interactions.result ≡ scan_parts 6 (λ own. interaction_tests (get_or w 1 0)) (get_or w 3 0) 0 (from w c.in-Next-all_constraints.start) =
-    c.check_interactions-all_interactions.ensures.0
-    ∙ (λ i. scan_parts 6 (λ own. interaction_tests (records_are i)) (interactions_are i) 0 (from c.args.s.now c.in-Next-all_constraints.start)) in
-    let interactions-step : SheetStep (after_interactions prime) c.args.s.now c.check_interactions-all_interactions.result =
-    step scanned-interactions c.check_interactions-all_interactions.ensures.1
-    (references-step.goes c.in-Next-all_constraints.start c.in-Next-all_constraints.is) (interactions_stay prime c.args.s.now) in
-    let scanned-all : let w = c.args.s.now in scan_of w c.check_spare-spare.result ≡ scan_sheet prime w =
-    c.check_spare-spare.ensures ∙ interactions-step.goes c.in-Next-all_interactions.words c.in-Next-all_interactions.is in
-    refuses prime c.args.s.now c.check_spare-spare.result c.in_default-spare.field-0 _ c.in_default-spare.is scanned-all c.refused-in_default-spare.ensures
+    let w = c.args.s.now in
+    let n = c.wide-records.ensures in
+    let head = stands w c.check_head-head.ensures.0 c.in-Next.is in
+    let records = stands w (scanned_records w n head c.check_records-all_records.ensures.0) c.in-Next-all_records.is in
+    let constraints =
+    stands w (scanned_constraints w n c.wide-constraints.ensures records c.check_references-all_constraints.ensures.0) c.in-Next-all_constraints.is in
+    let interactions =
+    stands w (scanned_interactions w n c.wide-interactions.ensures constraints c.check_interactions-all_interactions.ensures.0) c.in-Next-all_interactions.is in
+    refuses prime w c.check_spare-spare.result c.in_default-spare.field-0 _ c.in_default-spare.is (scanned_spare w interactions c.check_spare-spare.ensures)
+    c.refused-in_default-spare.ensures
 
 pub returns : goal.returns
 returns c =
-    let head_step : SheetStep (after_head prime) c.args.s.now c.check_head-head.result =
-    let r = c.check_head-head in step r.ensures.0 r.ensures.1 (from_head prime c.args.s.now) (head_stays prime c.args.s.now) in
-    let records_are : c.wide-records.result ≡ get_or c.args.s.now 1 0 =
-    c.wide-records.ensures in
-    let constraints_are : c.wide-constraints.result ≡ get_or c.args.s.now 2 0 =
-    c.wide-constraints.ensures in
-    let interactions_are : c.wide-interactions.result ≡ get_or c.args.s.now 3 0 =
-    c.wide-interactions.ensures in
-    let scanned-records : let w = c.args.s.now in
-    scan_of w c.check_records-all_records.result ≡ scan_parts 5 (record_tests prime) (get_or w 1 0) 0 (from w c.in-Next.first) =
-    c.check_records-all_records.ensures.0 ∙ ap (λ (n : ℕ). scan_parts 5 (record_tests prime) n 0 (from c.args.s.now c.in-Next.first)) records_are in
-    let records-step : SheetStep (after_records prime) c.args.s.now c.check_records-all_records.result =
-    step scanned-records c.check_records-all_records.ensures.1
-    (head_step.goes c.in-Next.first c.in-Next.is) (records_stay prime c.args.s.now) in
-    let scanned-references : let w = c.args.s.now in
-    scan_of w c.check_references-all_constraints.result ≡ scan_words 6 (replicate (get_or w 2 0) (refers (get_or w 1 0))) (from w c.in-Next-all_records.references) =
-    c.check_references-all_constraints.ensures.0 ∙ (λ i. scan_words 6 (replicate (constraints_are i) (refers (records_are i))) (from c.args.s.now c.in-Next-all_records.references)) in
-    let references-step : SheetStep (after_constraints prime) c.args.s.now c.check_references-all_constraints.result =
-    step scanned-references c.check_references-all_constraints.ensures.1
-    (records-step.goes c.in-Next-all_records.references c.in-Next-all_records.is) (constraints_stay prime c.args.s.now) in
-    let scanned-interactions : let w = c.args.s.now in
-    scan_of w c.check_interactions-all_interactions.result ≡ scan_parts 6 (λ own. interaction_tests (get_or w 1 0)) (get_or w 3 0) 0 (from w c.in-Next-all_constraints.start) =
-    c.check_interactions-all_interactions.ensures.0
-    ∙ (λ i. scan_parts 6 (λ own. interaction_tests (records_are i)) (interactions_are i) 0 (from c.args.s.now c.in-Next-all_constraints.start)) in
-    let interactions-step : SheetStep (after_interactions prime) c.args.s.now c.check_interactions-all_interactions.result =
-    step scanned-interactions c.check_interactions-all_interactions.ensures.1
-    (references-step.goes c.in-Next-all_constraints.start c.in-Next-all_constraints.is) (interactions_stay prime c.args.s.now) in
-    let scanned-all : let w = c.args.s.now in scan_of w c.check_spare-spare.result ≡ scan_sheet prime w =
-    c.check_spare-spare.ensures ∙ interactions-step.goes c.in-Next-all_interactions.words c.in-Next-all_interactions.is in
     let w = c.args.s.now in
-    let after-head = sym (ap (scan_of w) c.in-Next.is) ∙ c.check_head-head.ensures.0 in
-    let after-records = sym (ap (scan_of w) c.in-Next-all_records.is) ∙ scanned-records in
-    let after-references = sym (ap (scan_of w) c.in-Next-all_constraints.is) ∙ scanned-references in
-    let after-all = sym (ap (scan_of w) c.in-Next-all_interactions.is) ∙ scanned-interactions in
+    let n = c.wide-records.ensures in
+    let start = c.in-Next-all_constraints.start in
+    let words = c.in-Next-all_interactions.words in
+    let head = stands w c.check_head-head.ensures.0 c.in-Next.is in
+    let records = stands w (scanned_records w n head c.check_records-all_records.ensures.0) c.in-Next-all_records.is in
+    let constraints =
+    stands w (scanned_constraints w n c.wide-constraints.ensures records c.check_references-all_constraints.ensures.0) c.in-Next-all_constraints.is in
+    let interactions =
+    stands w (scanned_interactions w n c.wide-interactions.ensures constraints c.check_interactions-all_interactions.ensures.0) c.in-Next-all_interactions.is in
     (λ i. checked_outcome (Sheet (record {
-      records = records_are i;
-      constraints = constraints_are i;
-      interactions = interactions_are i;
-      start = c.in-Next-all_constraints.start;
-      words = c.in-Next-all_interactions.words;
+      records = n i;
+      constraints = c.wide-constraints.ensures i;
+      interactions = c.wide-interactions.ensures i;
+      start = start;
+      words = words;
     })))
-    ∙ is_head prime w c.in-Next-spare._end c.check_spare-spare.result c.in-Next-spare.is scanned-all
-    c.in-Next-all_constraints.start
-    (after-references
-    ∙ ap (scan_words 6 (replicate (get_or w 2 0) (refers (get_or w 1 0)))) (after-records ∙ ap (scan_parts 5 (record_tests prime) (get_or w 1 0) 0) after-head))
-    c.in-Next-all_interactions.words after-all
+    ∙ is_head prime w c.in-Next-spare._end c.check_spare-spare.result c.in-Next-spare.is (scanned_spare w interactions c.check_spare-spare.ensures)
+    start constraints words (interactions ∙ ap (test_interactions w) (sym constraints))
