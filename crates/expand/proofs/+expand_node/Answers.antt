@@ -1,4 +1,4 @@
-use Rattle.std.proofs.Common.{◌≡◌, ◌*◌, ◌≤◌, ◌<◌, List, length, get_or, sym, subst, ◌∙◌, arith, ℕ}
+use Rattle.std.proofs.Common.{◌≡◌, ◌*◌, ◌≤◌, ◌<◌, List, length, get_or, subst, ◌∙◌, arith, ℕ}
 use Rattle.records.specs.Access.{node_in}
 use Rattle.records.proofs.Visits.{record_inside}
 use Rattle.expand.specs.declared.Expanded.{Expanded}
@@ -68,7 +68,7 @@ finish_record-answer-requires-then-kind_at-eq8 t c =
     let f = fresh c.requires c.if-pool-r-ne0.false in
     let v = c.expand_node-answer in
     let l = left f (omega arith) c.left_at.ensures v.new.work v.new.pool v.result v.auto.work v.auto.pool v.ensures in
-    finishing f (one_child l c.in-Used.is (sym c.kind_at-2.ensures ∙ c.if-kind_at-eq8.true))
+    finishing f (one_child l c.in-Used.is (omega arith))
 
 pub returns-then-kind_at-eq8 : goal.returns-then-kind_at-eq8
 returns-then-kind_at-eq8 t c =
@@ -76,7 +76,7 @@ returns-then-kind_at-eq8 t c =
     let v = c.expand_node-answer in
     let l = left f (omega arith) c.left_at.ensures v.new.work v.new.pool v.result v.auto.work v.auto.pool v.ensures in
     let u = c.finish_record-answer-then-kind_at-eq8 in
-    visits f (one_child l c.in-Used.is (sym c.kind_at-2.ensures ∙ c.if-kind_at-eq8.true)) u.new.pool u.result u.ensures
+    visits f (one_child l c.in-Used.is (omega arith)) u.new.pool u.result u.ensures
 
 pub right_at-requires : goal.right_at-requires
 right_at-requires t c = record_inside c.args.sheet.now c.requires.walking.checked c.args.r c.requires.inside

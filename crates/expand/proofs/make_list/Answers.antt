@@ -23,13 +23,12 @@ both : {ws : List ℕ} {r : ℕ} {work pool : List ℕ} {used c : ℕ} {q : decl
 both {c} l n ec y s = record { left = l; two = n; child = c; child_is = ec; reads = s }
 
 pub record_at-q-requires : goal.record_at-q-requires
-record_at-q-requires c =
-    record_inside c.args.sheet.now c.requires.1.ready.walking.checked c.args.r c.requires.1.ready.inside
+record_at-q-requires c = record_inside c.args.sheet.now c.requires.1.ready.walking.checked c.args.r c.requires.1.ready.inside
 
 pub expand_leaf-requires : goal.expand_leaf-requires
 expand_leaf-requires c =
     let p = c.requires.1 in
-    (omega (arith, p.ready.walking.room), omega (arith, c.if-q-lt6.true), (c.args.r, leaf_good p c.record_at-q.result c.record_at-q.ensures))
+    (omega arith, omega arith, (c.args.r, leaf_good p c.record_at-q.result c.record_at-q.ensures))
 
 pub returns-then-q-lt6 : goal.returns-then-q-lt6
 returns-then-q-lt6 c =
@@ -37,8 +36,7 @@ returns-then-q-lt6 c =
     finishes_leaf c.requires.1 c.record_at-q.result c.record_at-q.ensures c.if-q-lt6.true v.new.work v.result v.ensures
 
 pub list_of-left-requires : goal.list_of-left-requires
-list_of-left-requires c =
-    left_head c.requires.1 c.record_at-q.result c.record_at-q.ensures (omega (arith, c.if-q-lt6.false)) c.wide.ensures
+list_of-left-requires c = left_head c.requires.1 c.record_at-q.result c.record_at-q.ensures (omega arith) c.wide.ensures
 
 pub expand_neg-requires : goal.expand_neg-requires
 expand_neg-requires c =
@@ -52,8 +50,7 @@ returns-then-q-eq8 c =
     finishes_neg l c.if-q-eq8.true v.new.work v.result v.ensures
 
 pub list_of-right-requires : goal.list_of-right-requires
-list_of-right-requires c =
-    right_head c.requires.1 c.record_at-q.result c.record_at-q.ensures (omega arith) c.if-q-eq8.false c.wide-2.ensures
+list_of-right-requires c = right_head c.requires.1 c.record_at-q.result c.record_at-q.ensures (omega arith) c.if-q-eq8.false c.wide-2.ensures
 
 pub expand_product-requires : goal.expand_product-requires
 expand_product-requires c =

@@ -23,10 +23,7 @@ pub overflow_add-k : goal.overflow_add-k
 overflow_add-k c = let x = insert_next c.requires c.loop-j.invariant (c.loop-j.j - 1) (omega arith) in omega arith
 
 pub put_row-requires : goal.put_row-requires
-put_row-requires c =
-    let x = insert_next c.requires c.loop-j.invariant (c.loop-j.j - 1) (omega arith) in
-    let k = c.shift_up.auto.s in
-    omega arith
+put_row-requires c = let x = insert_next c.requires c.loop-j.invariant (c.loop-j.j - 1) (omega arith) in omega arith
 
 pub loop-j-preserved : goal.loop-j-preserved
 loop-j-preserved c =

@@ -28,10 +28,7 @@ pub bounds-pool-place : goal.bounds-pool-place
 bounds-pool-place c = let s = next_stands c.loop-i.invariant c.loop-i-test.true in search rules
 
 pub overflow_add-place-in-loop-i : goal.overflow_add-place-in-loop-i
-overflow_add-place-in-loop-i c =
-    let s = next_stands c.loop-i.invariant c.loop-i-test.true in
-    let w = c.wide.ensures in
-    search rules
+overflow_add-place-in-loop-i c = let s = next_stands c.loop-i.invariant c.loop-i-test.true in search rules
 
 pub loop-i-preserved : goal.loop-i-preserved
 loop-i-preserved c =

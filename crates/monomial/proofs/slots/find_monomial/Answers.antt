@@ -19,9 +19,10 @@ returns-in-Same c =
     let a = c.args in
     let l = c.loop-low in
     let s = c.slot_count in
-    let o = c.order_at-order in (
+    let o = c.order_at-order in
+    let x = sought c.numbers-mine.result a.m.count in (
       omega (arith, held_length a.count a.work.now),
-      found_same (sought c.numbers-mine.result a.m.count) a.work.now ((l.low + l.high) / 2) a.count (omega arith) s.result s.ensures o.result o.ensures c.in-Same.is ∙ ap (take a.m.count) c.numbers-mine.ensures,
+      found_same x a.work.now ((l.low + l.high) / 2) a.count (omega arith) s.result s.ensures o.result o.ensures c.in-Same.is ∙ ap (take a.m.count) c.numbers-mine.ensures,
     )
 
 pub loop-low-preserved-in-After : goal.loop-low-preserved-in-After
@@ -29,10 +30,11 @@ loop-low-preserved-in-After c =
     let a = c.args in
     let l = c.loop-low in
     let s = c.slot_count in
-    let o = c.order_at-order in (
+    let o = c.order_at-order in
+    let x = sought c.numbers-mine.result a.m.count in (
       omega arith,
       omega arith,
-      found_after (sought c.numbers-mine.result a.m.count) a.work.now ((l.low + l.high) / 2) a.count (omega arith) s.result s.ensures o.result o.ensures c.requires.3 c.in-After.is,
+      found_after x a.work.now ((l.low + l.high) / 2) a.count (omega arith) s.result s.ensures o.result o.ensures c.requires.3 c.in-After.is,
       l.invariant.3,
     )
 
@@ -41,11 +43,12 @@ loop-low-preserved c =
     let a = c.args in
     let l = c.loop-low in
     let s = c.slot_count in
-    let o = c.order_at-order in (
+    let o = c.order_at-order in
+    let x = sought c.numbers-mine.result a.m.count in (
       omega arith,
       omega arith,
       l.invariant.2,
-      found_before (sought c.numbers-mine.result a.m.count) a.work.now ((l.low + l.high) / 2) a.count (omega arith) s.result s.ensures o.result o.ensures c.requires.3 c.in-Before.is,
+      found_before x a.work.now ((l.low + l.high) / 2) a.count (omega arith) s.result s.ensures o.result o.ensures c.requires.3 c.in-Before.is,
     )
 
 pub returns : goal.returns
