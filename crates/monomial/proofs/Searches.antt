@@ -63,6 +63,10 @@ slot_vars ws k n h =
     let d : drop 2 row ≡ take 14 (drop (16 * k + 2) ws) = drop_two 14 (drop (16 * k) ws) ∙ ap (take 14) (drop-drop 2 (16 * k) ws) in
     ap (λ (m : Monomial). m.vars) (held_at n k ws one h) ∙ (λ t. take (c t) (d t)) ∙ take_min (get_or ws (16 * k) 0) 14 (drop (16 * k + 2) ws)
 
+-- A monomial with the variables that are looked for.
+abbrev pub sought : (numbers : List ℕ) (n : ℕ) → Monomial
+sought numbers n = record { vars = take n numbers; coef = 0 }
+
 -- What a comparison with slot k says.
 module _ (x : Monomial) (ws : List ℕ) (k n : ℕ) (h : k < n) (c : ℕ) (e : c ≡ min (get_or ws (16 * k) 0) 14) (o : Order)
     (q : o ≡ order_of x.vars (take c (drop (16 * k + 2) ws))) where
