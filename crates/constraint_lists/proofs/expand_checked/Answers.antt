@@ -3,9 +3,8 @@ use mathlib.Core.Path.{ap}
 use Prim.Native.Nat.{ℕ, ◌*◌}
 use native.Mathlib.Omega.{arith}
 use Rattle.semantics.specs.Check.{read_sheet}
-use Rattle.semantics.specs.Group.{constraint_roots, constraint_term}
+use Rattle.semantics.specs.Group.{constraint_term}
 use Rattle.records.proofs.Reading.{counts_small}
-use Rattle.grouping.specs.Families.{groups_of}
 use Rattle.constraint_lists.proofs.Walked.{all_held, constraints_grouping}
 use Rattle.constraint_lists.proofs.Steps.{kept, unchanged, short_few, work_short, pool_short, constraints_refused, constraints_grouped}
 use Rattle.constraint_lists.proofs.expand_checked.Goals as goal
@@ -30,27 +29,22 @@ returns-in_default c =
     let a = c.args in
     let w = c.walk_constraints-walked in (
       constraints_refused a.s.now _ _ (unchanged a.headers.now a.variables.now a.terms.now) c.if-work-lt4096.false
-          (omega (arith, c.requires.1.records_are, c.if-pool-records.false))
-          w.result c.refusal_of.result c.in_default.field-0 w.new.pool w.auto.pool w.ensures c.in_default.is c.refusal_of.ensures,
+          (omega (arith, c.requires.1.records_are)) _ _ _ _ w.auto.pool w.ensures c.in_default.is c.refusal_of.ensures,
       tt,
     )
 
 pub group_constraints-requires : goal.group_constraints-requires
 group_constraints-requires c =
     let w = c.walk_constraints-walked in
-    constraints_grouping c.args.s.now c.requires.1.checked w.new.pool c.in-Used._used (all_held c.args.s.now w.new.pool _ c.in-Used.is w.ensures)
+    constraints_grouping c.args.s.now c.requires.1.checked _ _ (all_held c.args.s.now w.new.pool _ c.in-Used.is w.ensures)
 
 pub constraints_in-requires : goal.constraints_in-requires
-constraints_in-requires c =
-    let ws = c.args.s.now in
-    let g = c.group_constraints in
-    short_few constraint_term (groups_of ws (constraint_roots (read_sheet ws))) g.new.headers g.new.variables g.new.terms g.result g.ensures
+constraints_in-requires c = short_few constraint_term _ _ _ _ _ c.group_constraints.ensures
 
 pub returns : goal.returns
 returns c =
     let w = c.walk_constraints-walked in
     let g = c.group_constraints in
-    constraints_grouped c.args.s.now _ _ (kept g.new.headers g.new.variables g.new.terms g.auto.headers g.auto.variables g.auto.terms)
-    c.if-work-lt4096.false (omega (arith, c.requires.1.records_are, c.if-pool-records.false))
-    c.in-Used._used w.new.pool w.auto.pool (all_held c.args.s.now w.new.pool _ c.in-Used.is w.ensures)
-    g.result g.ensures c.constraints_in.result c.constraints_in.ensures
+    constraints_grouped c.args.s.now _ _ (kept _ _ _ g.auto.headers g.auto.variables g.auto.terms)
+    c.if-work-lt4096.false (omega (arith, c.requires.1.records_are)) _ _ w.auto.pool (all_held c.args.s.now w.new.pool _ c.in-Used.is w.ensures)
+    g.result g.ensures _ c.constraints_in.ensures

@@ -27,8 +27,8 @@ returns-then-pool-records c = (
 pub returns-in_default : goal.returns-in_default
 returns-in_default c =
     let w = c.walk_interactions-walked in (
-      interactions_refused c.args.s.now _ _ _ c.if-work-lt4096.false (omega arith) w.result c.refusal_of.result c.in_default.field-0
-          w.new.pool w.auto.pool w.ensures c.in_default.is c.refusal_of.ensures,
+      interactions_refused c.args.s.now _ _ _ c.if-work-lt4096.false (omega arith) _ _ _ _ w.auto.pool w.ensures
+          c.in_default.is c.refusal_of.ensures,
       tt,
     )
 

@@ -68,34 +68,27 @@ module _ {ws : List ℕ} {records constraints interactions : ℕ} (h : CheckedSh
 
 pub expand_counts-counted-requires : goal.expand_counts-counted-requires
 expand_counts-counted-requires c =
-    let a = c.args in
     let q = c.requires in (
-      walking q.0.1 a.work.now a.pool.now q.1 q.2 c.zero_all.new.s c.zero_all.ensures,
-      interactions_there a.s.now q.0.1.checked c.interactions_at-at.result a.interactions c.interactions_at-at.ensures q.0.1.interactions_are,
+      walking q.0.1 _ _ q.1 q.2 _ c.zero_all.ensures,
+      interactions_there c.args.s.now q.0.1.checked _ _ c.interactions_at-at.ensures q.0.1.interactions_are,
     )
 
 pub returns-in_default : goal.returns-in_default
 returns-in_default c =
-    let a = c.args in
     let q = c.requires in
     let e = c.expand_counts-counted in
-    refused q.0.1 a.work.now a.pool.now q.1 q.2 c.zero_all.new.s c.zero_all.ensures c.interactions_at-at.result c.interactions_at-at.ensures
-    e.new.work e.new.pool e.result e.ensures c.in_default.field-0 c.in_default.is
+    refused q.0.1 _ _ q.1 q.2 _ c.zero_all.ensures _ c.interactions_at-at.ensures e.new.work e.new.pool e.result e.ensures _ c.in_default.is
 
 pub expand_fields-requires : goal.expand_fields-requires
 expand_fields-requires c =
-    let a = c.args in
     let q = c.requires in
     let e = c.expand_counts-counted in (
-      fields_walking q.0.1 a.work.now a.pool.now q.1 q.2 c.zero_all.new.s c.zero_all.ensures c.interactions_at-at.result c.interactions_at-at.ensures
-          e.new.work e.new.pool e.result e.ensures c.in-Used.used c.in-Used.is e.auto.work e.auto.pool,
-      interactions_there a.s.now q.0.1.checked c.interactions_at-at.result a.interactions c.interactions_at-at.ensures q.0.1.interactions_are,
+      fields_walking q.0.1 _ _ q.1 q.2 _ c.zero_all.ensures _ c.interactions_at-at.ensures _ _ _ e.ensures _ c.in-Used.is e.auto.work e.auto.pool,
+      interactions_there c.args.s.now q.0.1.checked _ _ c.interactions_at-at.ensures q.0.1.interactions_are,
     )
 
 pub returns : goal.returns
 returns c =
-    let a = c.args in
     let q = c.requires in
     let e = c.expand_counts-counted in
-    walked q.0.1 a.work.now a.pool.now q.1 q.2 c.zero_all.new.s c.zero_all.ensures c.interactions_at-at.result c.interactions_at-at.ensures
-    e.new.work e.new.pool e.result e.ensures c.in-Used.used c.in-Used.is c.expand_fields.new.pool c.expand_fields.result c.expand_fields.ensures
+    walked q.0.1 _ _ q.1 q.2 _ c.zero_all.ensures _ c.interactions_at-at.ensures e.new.work e.new.pool e.result e.ensures _ c.in-Used.is _ _ c.expand_fields.ensures
