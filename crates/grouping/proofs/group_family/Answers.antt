@@ -36,20 +36,16 @@ tally_family-counted-requires c = (c.requires, zeros_again c.zero_all.new.s (len
 
 pub returns-in_default : goal.returns-in_default
 returns-in_default c =
-    let a = c.args in
-    let t = c.tally_family-counted in
-    fit_full (known a.family c.requires) t.new.headers t.result t.ensures c.in_default.is (is_interaction a.family) a.variables.now a.terms.now
+    fit_full (known c.args.family c.requires) _ _ c.tally_family-counted.ensures c.in_default.is (is_interaction c.args.family) _ _
 
 pub room_for-fit-requires : goal.room_for-fit-requires
 room_for-fit-requires c =
-    let a = c.args in
-    fit_room (rowed a.family c.requires c.tally_family-counted.ensures c.in-Headers.is) (is_interaction a.family) c.width_of-width.ensures
+    fit_room (rowed c.args.family c.requires c.tally_family-counted.ensures c.in-Headers.is) (is_interaction c.args.family) c.width_of-width.ensures
 
 pub returns-in_default-fit : goal.returns-in_default-fit
 returns-in_default-fit c =
-    let a = c.args in
-    fit_short (rowed a.family c.requires c.tally_family-counted.ensures c.in-Headers.is) (is_interaction a.family) c.width_of-width.ensures
-    a.variables.now a.terms.now c.room_for-fit.result c.room_for-fit.ensures c.in_default-fit.is
+    fit_short (rowed c.args.family c.requires c.tally_family-counted.ensures c.in-Headers.is) (is_interaction c.args.family) c.width_of-width.ensures
+    _ _ _ c.room_for-fit.ensures c.in_default-fit.is
 
 pub start_groups-requires : goal.start_groups-requires
 start_groups-requires c =
@@ -70,7 +66,7 @@ finish_groups-requires c =
     let s =
     started a.family c.requires c.tally_family-counted.ensures c.in-Headers.is c.width_of-width.ensures a.variables.now a.terms.now
     c.room_for-fit.ensures c.in-Written.is c.start_groups.ensures in
-    fit_finish s c.place_family.new.headers c.place_family.new.terms c.place_family.ensures
+    fit_finish s _ _ c.place_family.ensures
 
 pub returns : goal.returns
 returns c =
@@ -80,9 +76,6 @@ returns c =
     c.room_for-fit.ensures c.in-Written.is c.start_groups.ensures in
     let finish = c.finish_groups in
     let place = c.place_family in
-    fit_written s place.new.headers place.new.terms place.ensures
-    finish.new.headers finish.new.variables
-    (finish.auto.headers ∙ place.auto.headers ∙ c.start_groups.auto.headers)
-    finish.auto.variables
+    fit_written s _ _ place.ensures _ _ (finish.auto.headers ∙ place.auto.headers ∙ c.start_groups.auto.headers) finish.auto.variables
     (place.auto.terms ∙ c.start_groups.auto.terms)
     finish.ensures.0 finish.ensures.1
