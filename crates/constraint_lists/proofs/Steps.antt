@@ -131,8 +131,11 @@ pub record Kept (lh lv lt : ℕ) (h v t : List ℕ) : Type 0 where
   pub variables_long : length v ≡ lv
   pub terms_long_lem : length t ≡ lt
 
+pub kept : (h v t : List ℕ) {lh lv lt : ℕ} → length h ≡ lh → length v ≡ lv → length t ≡ lt → Kept lh lv lt h v t
+kept h v t eh ev et = record { headers_long = eh; variables_long = ev; terms_long_lem = et }
+
 pub unchanged : (h v t : List ℕ) → Kept (length h) (length v) (length t) h v t
-unchanged h v t = record { headers_long = refl; variables_long = refl; terms_long_lem = refl }
+unchanged h v t = kept h v t refl refl refl
 
 -- The constraint call on a checked sheet.
 module _ (ws : List ℕ) (work pool : ℕ) {h v t : List ℕ} {lh lv lt : ℕ} (kept : Kept lh lv lt h v t) where

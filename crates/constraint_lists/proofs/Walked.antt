@@ -20,6 +20,7 @@ use Rattle.records.specs.Orders.{Visiting}
 use Rattle.records.proofs.Reading.{constraints_are, constraints_inside}
 use Rattle.records.proofs.Steps.{inside, lows}
 use Rattle.expand.specs.declared.Expanded.{Expanded}
+use Rattle.expand.specs.declared.Expanded.TheVariants.{Used}
 use Rattle.expand.specs.Walking.{PoolHolds, Expands, ExpandWalking}
 use Rattle.expand.proofs.Roots.{start_walking, all_expanded}
 use Rattle.constraint_lists.specs.Lists.{CheckedSheet}
@@ -58,6 +59,10 @@ module _ (ws : List ℕ) (records constraints interactions : ℕ) (h : CheckedSh
   pub references_are : (at : ℕ) → at ≡ constraints_at ws → words_from at constraints ws ≡ (read_sheet ws).constraints
   references_are at e =
       ap (λ (a : ℕ). words_from a constraints ws) e ∙ ap (λ (c : ℕ). words_from (constraints_at ws) c ws) h.constraints_are ∙ constraints_are ws h.checked
+
+-- All that was to be expanded stands in the pool.
+pub all_held : (ws pool done : List ℕ) {u : Expanded} {used : ℕ} → u ≡ Used used → Expands ws pool u done → PoolHolds ws done pool used
+all_held ws pool done = subst (λ (u : Expanded). Expands ws pool u done)
 
 -- Every root, where every record that one names.
 all_nodes : (P : ℕ → Type 0) (roots : List Root) → ((i : ℕ) → Mem i (map (λ (r : Root). r.node) roots) → P i) → All (λ (r : Root). P r.node) roots

@@ -1,117 +1,94 @@
 -- The heads of the pool are zeroed, then all counts are expanded, then all fields. Of each stage: the records so far are visited from the
--- cleared pool (`Visited`), which at the end gives the order of both lists of roots.
+-- cleared pool, which at the end gives the order of both lists of roots.
 use mathlib.Core.Path.{◌≡◌, subst}
 use mathlib.Core.List.{List, ◌++◌}
-use Prim.Native.Nat.{ℕ, ◌*◌}
+use Prim.Native.Nat.{ℕ, ◌*◌, ◌≤◌}
 use native.Mathlib.Omega.{arith}
-use lib.ListN.{length, take, drop, length-take}
+use lib.ListN.{length, take, drop, replicate, length-take}
 use Rattle.semantics.specs.Check.{read_sheet}
-use Rattle.records.specs.Access.{counts_of, fields_of, AllRootsInside}
+use Rattle.semantics.specs.Walk.{order}
+use Rattle.records.specs.Access.{counts_of, fields_of, records_of, interactions_at, count_words, field_words}
 use Rattle.records.specs.Orders.{Visiting}
+use Rattle.expand.specs.declared.Expanded.{Expanded}
+use Rattle.expand.specs.declared.Expanded.TheVariants.{Used, Refused}
+use Rattle.answers.specs.declared.Refusal.{Refusal}
 use Rattle.expand.specs.Walking.{PoolHolds, Expands, ExpandWalking}
 use Rattle.constraint_lists.specs.Lists.{CheckedSheet}
 use Rattle.constraint_lists.proofs.Walked.{walk_starts, walk_ends}
 use Rattle.interaction_lists.proofs.Walked.{interactions_there, counts_there, fields_there, counts_below, first_refused, second_walking, both_walked}
 use Rattle.interaction_lists.proofs.walk_interactions.Goals as goal
 
+-- The words in front of the pool are cleared.
+module _ {ws : List ℕ} {records constraints interactions : ℕ} (h : CheckedSheet ws records constraints interactions) (work pool : List ℕ)
+    (long : 4096 ≤ length work) (room : 2 * records ≤ length pool) (front : List ℕ) (zeros : front ≡ replicate (length (take (2 * records) pool)) 0) where
+  abbrev cleared : List ℕ
+  cleared = front ++ drop (2 * records) pool
+
+  abbrev counts : List ℕ
+  counts = counts_of (read_sheet ws).interactions
+
+  abbrev fields : List ℕ
+  fields = fields_of (read_sheet ws).interactions
+
+  abbrev Visited : (roots pool₁ : List ℕ) → Expanded → Type 0
+  Visited roots pool₁ u = Visiting ws roots (λ (d : List ℕ). PoolHolds ws d cleared (2 * records)) (Expands ws pool₁ u)
+
+  heads_long : length (take (2 * records) pool) ≡ 2 * records
+  heads_long = omega (arith, length-take (2 * records) pool)
+
+  walking : ExpandWalking ws work cleared (2 * records)
+  walking = walk_starts ws records h.records_are front (drop (2 * records) pool) _ zeros heads_long h.checked work long
+
+  ends : (roots pool₁ : List ℕ) (u : Expanded) → Visited roots pool₁ u → Expands ws pool₁ u (order (records_of ws) roots)
+  ends = walk_ends ws records h.records_are front (drop (2 * records) pool) _ zeros heads_long
+
+  -- The counts are expanded.
+  module _ (at : ℕ) (there : at ≡ interactions_at ws) (work₁ pool₁ : List ℕ) (u : Expanded) (visited : Visited (count_words ws at interactions) pool₁ u) where
+    counts_visited : Visited counts pool₁ u
+    counts_visited = subst (λ (l : List ℕ). Visited l pool₁ u) (counts_there ws h.checked at interactions there h.interactions_are) visited
+
+    refused : (v : Refusal) → u ≡ Refused v → Expands ws pool₁ u (order (records_of ws) (counts ++ fields))
+    refused v e =
+        ends _ pool₁ u
+        (first_refused ws h.checked work cleared (2 * records) walking counts fields (counts_below ws h.checked) work₁ pool₁ u counts_visited v e)
+
+    module _ (used : ℕ) (e : u ≡ Used used) where
+      fields_walking : length work₁ ≡ length work → length pool₁ ≡ length cleared → ExpandWalking ws work₁ pool₁ used
+      fields_walking =
+          second_walking ws h.checked work cleared (2 * records) walking counts fields (counts_below ws h.checked) work₁ pool₁ u counts_visited used e
+
+      walked : (pool₂ : List ℕ) (u₂ : Expanded)
+          → Visiting ws (field_words ws at interactions) (λ (d : List ℕ). PoolHolds ws d pool₁ used) (Expands ws pool₂ u₂)
+          → Expands ws pool₂ u₂ (order (records_of ws) (counts ++ fields))
+      walked pool₂ u₂ f =
+          ends _ pool₂ u₂
+          (both_walked ws h.checked work cleared (2 * records) walking counts fields (counts_below ws h.checked) work₁ pool₁ u counts_visited used e pool₂ u₂
+          (subst (λ (l : List ℕ). Visiting ws l (λ (d : List ℕ). PoolHolds ws d pool₁ used) (Expands ws pool₂ u₂))
+          (fields_there ws h.checked at interactions there h.interactions_are) f))
+
 pub expand_counts-counted-requires : goal.expand_counts-counted-requires
 expand_counts-counted-requires c =
-    let sheet-is : CheckedSheet c.args.s.now c.args.records c.requires.0.0 c.args.interactions =
-    c.requires.0.1 in
-    let heads-long : length (take (2 * c.args.records) c.args.pool.now) ≡ (2 * c.args.records) =
-    omega (arith, length-take (2 * c.args.records) c.args.pool.now, c.requires.2) in
-    let walking : ExpandWalking c.args.s.now c.args.work.now (c.zero_all.new.s ++ (drop (2 * c.args.records) c.args.pool.now)) (2 * c.args.records) =
-    walk_starts c.args.s.now c.args.records sheet-is.records_are c.zero_all.new.s (drop (2 * c.args.records) c.args.pool.now)
-    (length (take (2 * c.args.records) c.args.pool.now)) c.zero_all.ensures heads-long
-    sheet-is.checked c.args.work.now c.requires.1 in
-    let interactions-in : AllRootsInside c.args.s.now c.interactions_at-at.result c.args.interactions =
-    interactions_there c.args.s.now sheet-is.checked c.interactions_at-at.result c.args.interactions c.interactions_at-at.ensures
-    sheet-is.interactions_are in
-    (walking, interactions-in)
+    let q = c.requires in (
+      walking q.0.1 _ _ q.1 q.2 _ c.zero_all.ensures,
+      interactions_there c.args.s.now q.0.1.checked _ _ c.interactions_at-at.ensures q.0.1.interactions_are,
+    )
 
 pub returns-in_default : goal.returns-in_default
 returns-in_default c =
-    let sheet-is : CheckedSheet c.args.s.now c.args.records c.requires.0.0 c.args.interactions =
-    c.requires.0.1 in
-    let heads-long : length (take (2 * c.args.records) c.args.pool.now) ≡ (2 * c.args.records) =
-    omega (arith, length-take (2 * c.args.records) c.args.pool.now, c.requires.2) in
-    let walking : ExpandWalking c.args.s.now c.args.work.now (c.zero_all.new.s ++ (drop (2 * c.args.records) c.args.pool.now)) (2 * c.args.records) =
-    walk_starts c.args.s.now c.args.records sheet-is.records_are c.zero_all.new.s (drop (2 * c.args.records) c.args.pool.now)
-    (length (take (2 * c.args.records) c.args.pool.now)) c.zero_all.ensures heads-long
-    sheet-is.checked c.args.work.now c.requires.1 in
-    let ends =
-    walk_ends c.args.s.now c.args.records sheet-is.records_are c.zero_all.new.s (drop (2 * c.args.records) c.args.pool.now)
-    (length (take (2 * c.args.records) c.args.pool.now)) c.zero_all.ensures heads-long in
-    let counts-visited =
-    subst (λ (l : List ℕ). (Visiting c.args.s.now l (λ (d : List ℕ). PoolHolds c.args.s.now d (c.zero_all.new.s ++ (drop (2 * c.args.records) c.args.pool.now))
-    (2 * c.args.records)) (Expands c.args.s.now c.expand_counts-counted.new.pool c.expand_counts-counted.result)))
-    (counts_there c.args.s.now sheet-is.checked c.interactions_at-at.result c.args.interactions
-    c.interactions_at-at.ensures sheet-is.interactions_are)
-    c.expand_counts-counted.ensures in
-    ends _ c.expand_counts-counted.new.pool c.expand_counts-counted.result
-    (first_refused c.args.s.now sheet-is.checked c.args.work.now (c.zero_all.new.s ++ (drop (2 * c.args.records) c.args.pool.now)) (2 * c.args.records) walking
-    (counts_of (read_sheet c.args.s.now).interactions) (fields_of (read_sheet c.args.s.now).interactions) (counts_below c.args.s.now sheet-is.checked)
-    c.expand_counts-counted.new.work c.expand_counts-counted.new.pool
-    c.expand_counts-counted.result
-    counts-visited c.in_default.field-0 c.in_default.is)
+    let q = c.requires in
+    let e = c.expand_counts-counted in
+    refused q.0.1 _ _ q.1 q.2 _ c.zero_all.ensures _ c.interactions_at-at.ensures e.new.work e.new.pool e.result e.ensures _ c.in_default.is
 
 pub expand_fields-requires : goal.expand_fields-requires
 expand_fields-requires c =
-    let sheet-is : CheckedSheet c.args.s.now c.args.records c.requires.0.0 c.args.interactions =
-    c.requires.0.1 in
-    let heads-long : length (take (2 * c.args.records) c.args.pool.now) ≡ (2 * c.args.records) =
-    omega (arith, length-take (2 * c.args.records) c.args.pool.now, c.requires.2) in
-    let walking : ExpandWalking c.args.s.now c.args.work.now (c.zero_all.new.s ++ (drop (2 * c.args.records) c.args.pool.now)) (2 * c.args.records) =
-    walk_starts c.args.s.now c.args.records sheet-is.records_are c.zero_all.new.s (drop (2 * c.args.records) c.args.pool.now)
-    (length (take (2 * c.args.records) c.args.pool.now)) c.zero_all.ensures heads-long
-    sheet-is.checked c.args.work.now c.requires.1 in
-    let interactions-in : AllRootsInside c.args.s.now c.interactions_at-at.result c.args.interactions =
-    interactions_there c.args.s.now sheet-is.checked c.interactions_at-at.result c.args.interactions c.interactions_at-at.ensures
-    sheet-is.interactions_are in
-    let counts-visited =
-    subst (λ (l : List ℕ). (Visiting c.args.s.now l (λ (d : List ℕ). PoolHolds c.args.s.now d (c.zero_all.new.s ++ (drop (2 * c.args.records) c.args.pool.now))
-    (2 * c.args.records)) (Expands c.args.s.now c.expand_counts-counted.new.pool c.expand_counts-counted.result)))
-    (counts_there c.args.s.now sheet-is.checked c.interactions_at-at.result c.args.interactions
-    c.interactions_at-at.ensures sheet-is.interactions_are)
-    c.expand_counts-counted.ensures in (
-      second_walking c.args.s.now sheet-is.checked c.args.work.now (c.zero_all.new.s ++ (drop (2 * c.args.records) c.args.pool.now)) (2 * c.args.records) walking
-          (counts_of (read_sheet c.args.s.now).interactions) (fields_of (read_sheet c.args.s.now).interactions) (counts_below c.args.s.now sheet-is.checked)
-          c.expand_counts-counted.new.work c.expand_counts-counted.new.pool
-          c.expand_counts-counted.result
-          counts-visited c.in-Used.used c.in-Used.is
-          c.expand_counts-counted.auto.work c.expand_counts-counted.auto.pool,
-      interactions-in,
+    let q = c.requires in
+    let e = c.expand_counts-counted in (
+      fields_walking q.0.1 _ _ q.1 q.2 _ c.zero_all.ensures _ c.interactions_at-at.ensures _ _ _ e.ensures _ c.in-Used.is e.auto.work e.auto.pool,
+      interactions_there c.args.s.now q.0.1.checked _ _ c.interactions_at-at.ensures q.0.1.interactions_are,
     )
 
 pub returns : goal.returns
 returns c =
-    let sheet-is : CheckedSheet c.args.s.now c.args.records c.requires.0.0 c.args.interactions =
-    c.requires.0.1 in
-    let heads-long : length (take (2 * c.args.records) c.args.pool.now) ≡ (2 * c.args.records) =
-    omega (arith, length-take (2 * c.args.records) c.args.pool.now, c.requires.2) in
-    let walking : ExpandWalking c.args.s.now c.args.work.now (c.zero_all.new.s ++ (drop (2 * c.args.records) c.args.pool.now)) (2 * c.args.records) =
-    walk_starts c.args.s.now c.args.records sheet-is.records_are c.zero_all.new.s (drop (2 * c.args.records) c.args.pool.now)
-    (length (take (2 * c.args.records) c.args.pool.now)) c.zero_all.ensures heads-long
-    sheet-is.checked c.args.work.now c.requires.1 in
-    let ends =
-    walk_ends c.args.s.now c.args.records sheet-is.records_are c.zero_all.new.s (drop (2 * c.args.records) c.args.pool.now)
-    (length (take (2 * c.args.records) c.args.pool.now)) c.zero_all.ensures heads-long in
-    let counts-visited =
-    subst (λ (l : List ℕ). (Visiting c.args.s.now l (λ (d : List ℕ). PoolHolds c.args.s.now d (c.zero_all.new.s ++ (drop (2 * c.args.records) c.args.pool.now))
-    (2 * c.args.records)) (Expands c.args.s.now c.expand_counts-counted.new.pool c.expand_counts-counted.result)))
-    (counts_there c.args.s.now sheet-is.checked c.interactions_at-at.result c.args.interactions
-    c.interactions_at-at.ensures sheet-is.interactions_are)
-    c.expand_counts-counted.ensures in
-    let expand = c.expand_fields in
-    let pool = expand.new.pool in
-    let used = c.in-Used.used in
-    let fields-visited =
-    subst (λ (r : List ℕ). Visiting c.args.s.now r (λ (d : List ℕ). PoolHolds c.args.s.now d c.expand_counts-counted.new.pool used) (Expands c.args.s.now pool expand.result))
-    (fields_there c.args.s.now sheet-is.checked c.interactions_at-at.result c.args.interactions c.interactions_at-at.ensures sheet-is.interactions_are)
-    expand.ensures in
-    ends _ pool expand.result
-    (both_walked c.args.s.now sheet-is.checked c.args.work.now (c.zero_all.new.s ++ (drop (2 * c.args.records) c.args.pool.now)) (2 * c.args.records) walking
-    (counts_of (read_sheet c.args.s.now).interactions) (fields_of (read_sheet c.args.s.now).interactions) (counts_below c.args.s.now sheet-is.checked)
-    c.expand_counts-counted.new.work c.expand_counts-counted.new.pool
-    c.expand_counts-counted.result
-    counts-visited used c.in-Used.is pool expand.result fields-visited)
+    let q = c.requires in
+    let e = c.expand_counts-counted in
+    walked q.0.1 _ _ q.1 q.2 _ c.zero_all.ensures _ c.interactions_at-at.ensures e.new.work e.new.pool e.result e.ensures _ c.in-Used.is _ _ c.expand_fields.ensures
