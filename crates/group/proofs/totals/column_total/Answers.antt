@@ -9,7 +9,7 @@ loop-i-init c = summing_start c.args.word c.args.n c.args.headers.now
 pub loop-i-preserved : goal.loop-i-preserved
 loop-i-preserved c =
     let word_small : c.wide-total.result ≤ 4294967295 =
-    omega (arith, c.wide-total.ensures, c.shared_slice_known-in-loop-i-1.given (4 * c.loop-i.i + c.args.word)) in
+    omega (arith, c.wide-total.ensures, c.type_inv.headers (4 * c.loop-i.i + c.args.word)) in
     let a = c.args in
     let b = c.loop-i in
     summing_step a.word a.n a.headers.now b.total b.i c.wide-total.result c.requires.0

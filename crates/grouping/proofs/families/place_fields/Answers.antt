@@ -11,7 +11,7 @@ place_references-requires c =
     let e = c.interaction_at-x.ensures in
     let ws = c.args.sheet.now in
     let g = each_roots_ready c.loop-i.invariant c.loop-i-test.true (field_roots_taken ws) e in
-    let m = c.shared_slice_known-1.given (interaction_in ws c.loop-i.from).length in
+    let m = c.type_inv.sheet (interaction_in ws c.loop-i.from).length in
     (g.0, subst (λ (y : Interaction). y.message ≤ 4294967295) (sym e) (omega (arith, m)), g.1)
 
 pub loop-i-preserved : goal.loop-i-preserved
