@@ -256,7 +256,7 @@ SuhkelvaWritten suhkelva_write_blocks(const uint32_t *s, size_t s_len, uint8_t *
  * needed. All of scratch and of `out` is then 0.
  *
  * Stack. The call recurses once for each record of the longest chain of children, at most 4,096 deep. Where it was measured, on
- * x86-64, that took 456 KiB, 112 bytes a level; the proofs promise no figure.
+ * x86-64, that took 200 KiB, 48 bytes a level; the proofs promise no figure.
  */
 SuhkelvaWritten suhkelva_build(const uint32_t *s, size_t s_len, uint32_t *scratch, size_t scratch_len, uint32_t *out, size_t out_len);
 
@@ -290,7 +290,7 @@ SuhkelvaWritten suhkelva_build(const uint32_t *s, size_t s_len, uint32_t *scratc
  * that nothing of the call reaches is never refused.
  *
  * Stack. As for the graph, the call recurses once for each record of the longest chain of children, at most 4,096 deep. Where it was
- * measured, on x86-64, that took 776 KiB, 192 bytes a level; the proofs promise no figure.
+ * measured, on x86-64, that took 456 KiB, 112 bytes a level; the proofs promise no figure.
  */
 
 /* How many words an expansion of constraints wrote to each output. */
