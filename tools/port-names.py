@@ -1,6 +1,6 @@
 #!/usr/bin/env python3
 """Brings the repository's own definitions, lemmas, fields and constructors to snake case, as today's Rattle spells them. Run once, after
-/opt/rattle/port/port.py and tools/port-sources.py (docs/PORT.md). Types, functions of src/, exported names and strings keep theirs."""
+the kit's own port script and tools/port-sources.py (docs/PORT.md). Types, functions of src/, exported names and strings keep theirs."""
 import glob
 import re
 import sys

@@ -1,6 +1,6 @@
 #!/usr/bin/env python3
 """The sources' part of the move to today's Rattle that its own script leaves: `#![tactic(auto)]` at the head of each root file, and in clauses
-`old x`, `new x` as `x.old`, `x.now` and `x.new`. Run once, after /opt/rattle/port/port.py (docs/PORT.md)."""
+`old x`, `new x` as `x.old`, `x.now` and `x.new`. Run once, after the kit's own port script (docs/PORT.md)."""
 import glob
 import re
 
