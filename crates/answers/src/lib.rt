@@ -1,54 +1,55 @@
-// What the answers of all calls share: a refusal, a count of what was written, one number; and numbers made wider and compared.
+// What the answers of all calls share: a call hands back its answer, or why it refuses and where.
 #![tactic(auto)]
 
-ghost use Rattle.std.specs.Prelude.{◌≡◌, max, min};
-ghost use Rattle.answers.specs.Replies.{count_of};
+ghost use Rattle.std.specs.Prelude.{◌≡◌, ◌++◌, ◌-◌, length, take, replicate};
+ghost use Rattle.answers.specs.Replies.{number_of, count_of};
 
-// A refusal by its number, with its place.
-#[derive(Clone, Copy)]
-pub struct Refusal {
-    pub number: u32,
-    pub place: usize,
+// Why a call refuses, in the order of the numbers that C is told.
+#[derive(Clone, Copy, Debug, PartialEq, Eq)]
+pub enum Reason {
+    WrongLength = 1,
+    WrongCheck,
+    WrongHead,
+    PastEnd,
+    WrongRecord,
+    WrongName,
+    WrongSpare,
+    ColumnTooLarge,
+    ChallengeRefused,
+    PartTooLarge,
+    OffsetTooLarge,
+    ListTooLong,
+    ProductTooLong,
+    ScratchTooShort,
+    OutputTooShort,
+    PoolTooShort,
+    SliceTooShort,
 }
 
-// How many words a call wrote; the block writer counts bytes.
-#[derive(Clone, Copy)]
-pub enum Written {
-    Words(usize),
-    Refused(Refusal),
-}
-
-// The number that a call hands back.
-#[derive(Clone, Copy)]
-pub enum Counted {
-    Number(usize),
-    Refused(Refusal),
-}
-
-// How much was written: nothing after a refusal.
-pub fn count_of(written: Written) -> usize
-    ensures { result ≡ count_of written }
-{
-    match written {
-        Written::Words(n) => n,
-        Written::Refused(_) => 0,
+impl Reason {
+    pub fn number(self) -> u32
+        ensures { result ≡ number_of self }
+    {
+        self as u32
     }
 }
 
-pub fn wide(w: u32) -> usize
-    ensures { result ≡ w }
-{
-    w as usize
+// A refusal: its reason, with its place.
+#[derive(Clone, Copy, Debug, PartialEq, Eq)]
+pub struct Refusal {
+    pub reason: Reason,
+    pub place: usize,
 }
 
-pub fn larger(a: usize, b: usize) -> usize
-    ensures { result ≡ max a b }
+// Zeros behind the elements that a call wrote, in all of the slice after a refusal; the answer is handed on.
+pub fn zero_rest<T: Copy>(
+    written: Result<usize, Refusal>,
+    out: &mut [T],
+    zero: T,
+) -> Result<usize, Refusal>
+    ensures { (result ≡ written)
+        × (out.new ≡ take (count_of written) out.old ++ replicate (length out.old - count_of written) zero) }
 {
-    if a < b { b } else { a }
-}
-
-pub fn smaller(a: usize, b: usize) -> usize
-    ensures { result ≡ min a b }
-{
-    if a < b { a } else { b }
+    slices::fill_from(out, written.unwrap_or(0), zero);
+    written
 }

@@ -10,7 +10,10 @@ use Rattle.semantics.specs.Packing.{packed, pack_fault, pack_record}
 use Rattle.semantics.specs.Call.{variable_call}
 use Rattle.symbolic_variable.specs.declared.Entry.{Entry}
 use Rattle.symbolic_variable.specs.declared.Entry.TheVariants.{Preprocessed, Main, Public, Challenge}
-use Rattle.packed_var.specs.declared.Packed.{Packed}
+use Rattle.std.specs.Prelude.{Result}
+use Rattle.answers.specs.declared.Reason.TheVariants.{ColumnTooLarge}
+use Rattle.answers.specs.declared.Refusal.{Refusal}
+use Rattle.packed_var.specs.declared.PackedVar.{PackedVar}
 use Rattle.packed_var.specs.Packed.{entry_record, refused_for, packed_outcome}
 use Rattle.packed_var.proofs.Answers.{packed_answer, outcome_is}
 
@@ -42,8 +45,8 @@ faulty_column Public d h = variable_faults 3 0 0 d (lt-ltb 65535 d h) refl refl 
 faulty_column Challenge d h = variable_faults 2 0 0 d (lt-ltb 65535 d h) refl refl refl
 
 -- What packing hands back: 8 for the column, or what the entry and the column say.
-module _ (d : ℕ) (u : Packed) where
-  pub column_wrong : (e : Entry) → u ≡ refused_for 8 → 65535 < d → packed_outcome u ≡ variable_call (entry_record e d)
+module _ (d : ℕ) (u : Result PackedVar Refusal) where
+  pub column_wrong : (e : Entry) → u ≡ refused_for ColumnTooLarge → 65535 < d → packed_outcome u ≡ variable_call (entry_record e d)
   unfolding variable_call
   column_wrong e q h = outcome_is u (ap packed_answer q ∙ faulty_column e d h)
 

@@ -5,23 +5,17 @@ ghost use Rattle.std.specs.Prelude.{◌≡◌, ◌+◌, ◌*◌, ◌<◌, eqb, l
 ghost use Rattle.semantics.specs.Call.{variable_call};
 ghost use Rattle.packed_var.specs.Packed.{variable_record, refused_for, packed_outcome};
 
-use answers::Refusal;
+use answers::{Reason, Refusal};
 use symbolic_variable::{Entry, SymbolicVariable};
 
 // A number with its own type: bits 0 to 3 type, 4 to 11 part, 12 to 15 offset, 16 to 31 column.
-#[derive(Clone, Copy)]
+#[derive(Clone, Copy, Debug, PartialEq, Eq, PartialOrd, Ord)]
 pub struct PackedVar(pub u32);
 
-#[derive(Clone, Copy)]
-pub enum Packed {
-    Var(PackedVar),
-    Refused(Refusal),
-}
-
-fn refused(number: u32) -> Packed
-    ensures { result ≡ refused_for number }
+fn refused(reason: Reason) -> Result<PackedVar, Refusal>
+    ensures { result ≡ refused_for reason }
 {
-    Packed::Refused(Refusal { number, place: 0 })
+    Err(Refusal { reason, place: 0 })
 }
 
 impl PackedVar {
@@ -38,32 +32,31 @@ impl PackedVar {
     }
 
     // 8 to 11 for a column, a challenge, a part or an offset that no packed number holds.
-    pub fn from_symbolic_var(var: SymbolicVariable) -> Packed
+    pub fn from_symbolic_var(var: SymbolicVariable) -> Result<Self, Refusal>
         ensures { packed_outcome result ≡ variable_call (variable_record var) }
     {
         if 65535 < var.index {
-            return refused(8);
+            return refused(Reason::ColumnTooLarge);
         }
         let column = var.index as u16;
-        let entry = var.entry;
-        match entry {
+        match var.entry {
             Entry::Main { part_index, offset } => {
                 if 255 < part_index {
-                    return refused(10);
+                    return refused(Reason::PartTooLarge);
                 }
                 if 15 < offset {
-                    return refused(11);
+                    return refused(Reason::OffsetTooLarge);
                 }
-                Packed::Var(PackedVar::new(1, part_index as u8, offset as u8, column))
+                Ok(PackedVar::new(1, part_index as u8, offset as u8, column))
             }
             Entry::Preprocessed { offset } => {
                 if 15 < offset {
-                    return refused(11);
+                    return refused(Reason::OffsetTooLarge);
                 }
-                Packed::Var(PackedVar::new(0, 0, offset as u8, column))
+                Ok(PackedVar::new(0, 0, offset as u8, column))
             }
-            Entry::Public => Packed::Var(PackedVar::new(3, 0, 0, column)),
-            Entry::Challenge => refused(9),
+            Entry::Public => Ok(PackedVar::new(3, 0, 0, column)),
+            Entry::Challenge => refused(Reason::ChallengeRefused),
         }
     }
 

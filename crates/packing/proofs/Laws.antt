@@ -13,20 +13,16 @@ use Rattle.semantics.specs.Packing.{leaf_tests, packed, pack_fault, pack_record,
 use Rattle.semantics.specs.Call.{Outcome, outcome, padded_all, result, pack_call, variable_call, unpack_call}
 use Rattle.symbolic_variable.specs.declared.Entry.{Entry}
 use Rattle.symbolic_variable.specs.declared.Entry.TheVariants.{Preprocessed, Main, Public, Challenge}
+use Rattle.std.specs.Prelude.{Result, Ok, Err}
+use Rattle.answers.specs.declared.Reason.TheVariants.{WrongRecord}
 use Rattle.answers.specs.declared.Refusal.{Refusal}
-use Rattle.packed_var.specs.declared.Packed.{Packed}
-use Rattle.packed_var.specs.declared.Packed.TheVariants as packed'
 use Rattle.packed_var.specs.declared.PackedVar.{PackedVar}
 use Rattle.packed_var.specs.Packed.{entry_record, packed_outcome}
 use Rattle.packed_var.proofs.Answers.{packed_answer, number_told, outcome_is, answer_is}
 use Rattle.packing.specs.declared.leaf.Leaf.{Leaf}
 use Rattle.packing.specs.declared.leaf.Leaf.TheVariants.{Variable, IsFirstRow, IsLastRow, IsTransition}
-use Rattle.packing.specs.declared.leaf.LeafRead.{LeafRead}
-use Rattle.packing.specs.declared.leaf.LeafRead.TheVariants as read
 use Rattle.packing.specs.declared.Record.{Record}
-use Rattle.packing.specs.declared.Unpacked.{Unpacked}
-use Rattle.packing.specs.declared.Unpacked.TheVariants as unpacked'
-use Rattle.packing.specs.Leaves.{leaf_record, leaf_checked, leaf_answer, leaf_refusal, words_record, unpacked_outcome}
+use Rattle.packing.specs.Leaves.{leaf_record, leaf_checked, leaf_answer, words_record, unpacked_outcome}
 
 -- ---- the words of a leaf
 -- where the tests of a, b, c and d stop
@@ -70,41 +66,39 @@ leaf_checked_lem IsFirstRow = refl
 leaf_checked_lem IsLastRow = refl
 leaf_checked_lem IsTransition = refl
 
-pub leaf_said : (l : Leaf) {w : LeafRead} {r : sheet.Record} → w ≡ read.Said l → leaf_record l ≡ r → leaf_answer w ≡ leaf_checked r
+pub leaf_said : (l : Leaf) {w : Result Leaf Refusal} {r : sheet.Record} → w ≡ Ok l → leaf_record l ≡ r → leaf_answer w ≡ leaf_checked r
 leaf_said l p e = ap leaf_answer p ∙ sym (leaf_checked_lem l) ∙ ap leaf_checked e
 
 -- by the leaf that was read
-module _ (r : sheet.Record) {w : LeafRead} (answer : leaf_answer w ≡ leaf_checked r) where
-  pub pack_refused : {f g : Refusal} → w ≡ read.Refused f → g ≡ leaf_refusal w → packed_outcome (packed'.Refused g) ≡ pack_call r
+module _ (r : sheet.Record) {w : Result Leaf Refusal} (answer : leaf_answer w ≡ leaf_checked r) where
+  pub pack_refused : {f : Refusal} → w ≡ Err f → packed_outcome (Err f) ≡ pack_call r
   unfolding pack_call pack and_then leaf_checked
-  pack_refused {g} p q =
-      outcome_is (packed'.Refused g)
-      (ap (λ (x : Refusal). refused x.number x.place) (q ∙ ap leaf_refusal p)
-      ∙ ap (λ (x : Answer sheet.Record). and_then x pack_record) (sym (ap leaf_answer p) ∙ answer))
+  pack_refused {f} p =
+      outcome_is (Err f) (ap (λ (x : Answer sheet.Record). and_then x pack_record) (sym (ap leaf_answer p) ∙ answer))
 
-  pub pack_said : {l m : Leaf} → w ≡ read.Said l → l ≡ m → variable_call (leaf_record m) ≡ pack_call r
+  pub pack_said : {l m : Leaf} → w ≡ Ok l → l ≡ m → variable_call (leaf_record m) ≡ pack_call r
   unfolding pack_call variable_call pack and_then leaf_checked
   pack_said p q =
       ap number_told
       (ap (λ (x : Leaf). pack_record (leaf_record x)) (sym q) ∙ ap (λ (x : Answer sheet.Record). and_then x pack_record) (sym (ap leaf_answer p) ∙ answer))
 
-pub first_packs : (v : PackedVar) → v.0 ≡ 8 → packed_outcome (packed'.Var v) ≡ variable_call (leaf_record IsFirstRow)
+pub first_packs : (v : PackedVar) → v.0 ≡ 8 → packed_outcome (Ok v) ≡ variable_call (leaf_record IsFirstRow)
 unfolding variable_call pack_record pack_fault packed
-first_packs v e = outcome_is (packed'.Var v) (ap good e)
+first_packs v e = outcome_is (Ok v) (ap good e)
 
-pub last_packs : (v : PackedVar) → v.0 ≡ 9 → packed_outcome (packed'.Var v) ≡ variable_call (leaf_record IsLastRow)
+pub last_packs : (v : PackedVar) → v.0 ≡ 9 → packed_outcome (Ok v) ≡ variable_call (leaf_record IsLastRow)
 unfolding variable_call pack_record pack_fault packed
-last_packs v e = outcome_is (packed'.Var v) (ap good e)
+last_packs v e = outcome_is (Ok v) (ap good e)
 
-pub transition_packs : (v : PackedVar) → v.0 ≡ 10 → packed_outcome (packed'.Var v) ≡ variable_call (leaf_record IsTransition)
+pub transition_packs : (v : PackedVar) → v.0 ≡ 10 → packed_outcome (Ok v) ≡ variable_call (leaf_record IsTransition)
 unfolding variable_call pack_record pack_fault packed
-transition_packs v e = outcome_is (packed'.Var v) (ap good e)
+transition_packs v e = outcome_is (Ok v) (ap good e)
 
 -- ---- unpacking
 -- What words that may be those of a number, packed again, say of unpacking it.
-abbrev pub unpacked_by : Bool → Record → Unpacked
-unpacked_by true w = unpacked'.Words w
-unpacked_by false w = unpacked'.Refused (record { number = 5; place = 0 })
+abbrev pub unpacked_by : Bool → Record → Result Record Refusal
+unpacked_by true w = Ok w
+unpacked_by false w = Err (record { reason = WrongRecord; place = 0 })
 
 -- The outcome of a call that hands back a record's words.
 abbrev words_told : Answer sheet.Record → Outcome
@@ -115,9 +109,9 @@ unfolding outcome and_then result padded_all record_words
 by_told true w = refl
 by_told false w = refl
 
-pub unpack_by : (n : ℕ) (w : Record) {p q : Packed} {t : Bool} → words_record w ≡ unpacked n → packed_outcome p ≡ pack_call (words_record w) → p ≡ q
-    → hands_out (packed_answer q) n ≡ t → unpacked_outcome (unpacked_by t w) ≡ unpack_call n
+pub unpack_by : (n : ℕ) (w : Record) (p : Result PackedVar Refusal) {q : Result PackedVar Refusal} {t : Bool} → words_record w ≡ unpacked n
+    → packed_outcome p ≡ pack_call (words_record w) → p ≡ q → hands_out (packed_answer q) n ≡ t → unpacked_outcome (unpacked_by t w) ≡ unpack_call n
 unfolding pack_call unpack_call unpack
-unpack_by n w {p} {t} e a h k =
+unpack_by n w p {t = t} e a h k =
     let u : cond t (good (words_record w)) (refused 5 0) ≡ unpack n = rw (← k, ← h, answer_is p a, e) in
     by_told t w ∙ ap words_told u

@@ -1,12 +1,12 @@
 // The leaf that a record's five words encode: a variable or a row mark.
-ghost use Rattle.std.specs.Prelude.{◌≡◌, ◌≤◌};
+ghost use Rattle.std.specs.Prelude.{◌≡◌};
 ghost use Rattle.semantics.specs.Sheet.{record_of};
-ghost use Rattle.packing.specs.Leaves.{leaf_answer, leaf_checked, wrong_at, said_of, leaf_refusal};
+ghost use Rattle.packing.specs.Leaves.{leaf_answer, leaf_checked, leaf_record, wrong_at, leaf_of_variable, IsMark};
 
-use answers::Refusal;
+use answers::{Reason, Refusal};
 use symbolic_variable::{Entry, SymbolicVariable};
 
-#[derive(Clone, Copy)]
+#[derive(Clone, Copy, Debug, PartialEq, Eq)]
 pub enum Leaf {
     Variable(SymbolicVariable),
     IsFirstRow,
@@ -14,30 +14,27 @@ pub enum Leaf {
     IsTransition,
 }
 
-#[derive(Clone, Copy)]
-pub enum LeafRead {
-    Said(Leaf),
-    Refused(Refusal),
-}
-
 // The word at a place is wrong.
-fn wrong(place: usize) -> LeafRead
+fn wrong(place: usize) -> Result<Leaf, Refusal>
     ensures { result ≡ wrong_at place }
 {
-    LeafRead::Refused(Refusal { number: 5, place })
+    Err(Refusal {
+        reason: Reason::WrongRecord,
+        place,
+    })
 }
 
-fn variable_of(entry: Entry, column: u32) -> LeafRead
-    ensures { result ≡ said_of entry column }
+fn variable_of(entry: Entry, column: u32) -> Result<Leaf, Refusal>
+    ensures { result ≡ leaf_of_variable entry column }
 {
-    LeafRead::Said(Leaf::Variable(SymbolicVariable {
+    Ok(Leaf::Variable(SymbolicVariable {
         entry,
         index: column as usize,
     }))
 }
 
 // A variable's words: 0 preprocessed, 1 main, 2 challenge, 3 public; a part only for 1, an offset only for 0 and 1.
-fn variable(a: u32, b: u32, c: u32, d: u32) -> LeafRead
+fn variable(a: u32, b: u32, c: u32, d: u32) -> Result<Leaf, Refusal>
     ensures { leaf_answer result ≡ leaf_checked (record_of 1 a b c d) }
 {
     if 3 < a {
@@ -67,9 +64,9 @@ fn variable(a: u32, b: u32, c: u32, d: u32) -> LeafRead
     variable_of(Entry::Public, d)
 }
 
-// A row mark uses no word.
-fn mark(kind: u32, a: u32, b: u32, c: u32, d: u32) -> LeafRead
-    requires { (2 ≤ kind) × (kind ≤ 4) }
+// A row mark, which uses no word.
+fn mark(kind: u32, leaf: Leaf, a: u32, b: u32, c: u32, d: u32) -> Result<Leaf, Refusal>
+    requires { IsMark kind leaf }
     ensures { leaf_answer result ≡ leaf_checked (record_of kind a b c d) }
 {
     if a != 0 {
@@ -84,38 +81,17 @@ fn mark(kind: u32, a: u32, b: u32, c: u32, d: u32) -> LeafRead
     if d != 0 {
         return wrong(4);
     }
-    if kind == 2 {
-        return LeafRead::Said(Leaf::IsFirstRow);
-    }
-    if kind == 3 {
-        return LeafRead::Said(Leaf::IsLastRow);
-    }
-    LeafRead::Said(Leaf::IsTransition)
+    Ok(leaf)
 }
 
-pub fn leaf_of(kind: u32, a: u32, b: u32, c: u32, d: u32) -> LeafRead
+pub fn leaf_of(kind: u32, a: u32, b: u32, c: u32, d: u32) -> Result<Leaf, Refusal>
     ensures { leaf_answer result ≡ leaf_checked (record_of kind a b c d) }
 {
-    if kind == 0 {
-        return wrong(0);
-    }
-    if 4 < kind {
-        return wrong(0);
-    }
-    if kind == 1 {
-        return variable(a, b, c, d);
-    }
-    mark(kind, a, b, c, d)
-}
-
-pub fn refusal_of(read: LeafRead) -> Refusal
-    ensures { result ≡ leaf_refusal read }
-{
-    match read {
-        LeafRead::Refused(refusal) => refusal,
-        LeafRead::Said(_) => Refusal {
-            number: 0,
-            place: 0,
-        },
+    match kind {
+        1 => variable(a, b, c, d),
+        2 => mark(kind, Leaf::IsFirstRow, a, b, c, d),
+        3 => mark(kind, Leaf::IsLastRow, a, b, c, d),
+        4 => mark(kind, Leaf::IsTransition, a, b, c, d),
+        _ => wrong(0),
     }
 }

@@ -8,14 +8,14 @@ ghost use Rattle.semantics.specs.Call.{pack_call, unpack_call};
 ghost use Rattle.packed_var.specs.Packed.{packed_outcome};
 ghost use Rattle.packing.specs.Leaves.{words_record, unpacked_outcome};
 
-use answers::Refusal;
-use leaf::{Leaf, LeafRead};
-use packed_var::{Packed, PackedVar};
+use answers::{Reason, Refusal};
+use leaf::Leaf;
+use packed_var::PackedVar;
 
 mod leaf;
 
 // A record's five words.
-#[derive(Clone, Copy)]
+#[derive(Clone, Copy, Debug, PartialEq, Eq)]
 pub struct Record {
     pub kind: u32,
     pub a: u32,
@@ -24,25 +24,19 @@ pub struct Record {
     pub d: u32,
 }
 
-#[derive(Clone, Copy)]
-pub enum Unpacked {
-    Words(Record),
-    Refused(Refusal),
-}
-
 // The packed number of the variable or row mark that a record's five words encode.
-pub fn pack(kind: u32, a: u32, b: u32, c: u32, d: u32) -> Packed
+pub fn pack(kind: u32, a: u32, b: u32, c: u32, d: u32) -> Result<PackedVar, Refusal>
     ensures { packed_outcome result ≡ pack_call (record_of kind a b c d) }
 {
     let read = leaf::leaf_of(kind, a, b, c, d);
-    let LeafRead::Said(said) = read else {
-        return Packed::Refused(leaf::refusal_of(read));
+    let Ok(leaf) = read else {
+        return Err(read.unwrap_err());
     };
-    match said {
+    match leaf {
         Leaf::Variable(var) => PackedVar::from_symbolic_var(var),
-        Leaf::IsFirstRow => Packed::Var(PackedVar::is_first()),
-        Leaf::IsLastRow => Packed::Var(PackedVar::is_last()),
-        Leaf::IsTransition => Packed::Var(PackedVar::is_transition()),
+        Leaf::IsFirstRow => Ok(PackedVar::is_first()),
+        Leaf::IsLastRow => Ok(PackedVar::is_last()),
+        Leaf::IsTransition => Ok(PackedVar::is_transition()),
     }
 }
 
@@ -69,22 +63,22 @@ fn words_of(v: PackedVar) -> Record
     }
 }
 
+// The refusal of a number that no record packs to.
+const NOT_PACKED: Refusal = Refusal {
+    reason: Reason::WrongRecord,
+    place: 0,
+};
+
 // The words that pack to a number, where there are such.
-pub fn unpack(v: PackedVar) -> Unpacked
+pub fn unpack(v: PackedVar) -> Result<Record, Refusal>
     ensures { unpacked_outcome result ≡ unpack_call v.0 }
 {
     let words = words_of(v);
-    let Packed::Var(again) = pack(words.kind, words.a, words.b, words.c, words.d) else {
-        return Unpacked::Refused(Refusal {
-            number: 5,
-            place: 0,
-        });
+    let Ok(again) = pack(words.kind, words.a, words.b, words.c, words.d) else {
+        return Err(NOT_PACKED);
     };
-    if again.same(v) {
-        return Unpacked::Words(words);
+    if again == v {
+        return Ok(words);
     }
-    Unpacked::Refused(Refusal {
-        number: 5,
-        place: 0,
-    })
+    Err(NOT_PACKED)
 }

@@ -2,12 +2,13 @@
 #![tactic(auto)]
 
 ghost use Rattle.std.specs.Prelude.{◌≡◌};
-ghost use Rattle.symbolic_variable.specs.Variable.{offset_moved, variable_of, degree_multiple};
-ghost use Rattle.symbolic_variable.specs.Replies.{offset_outcome, offset_call, sum_answer, rotated_outcome, rotate_call, rotated_refusal, rotated_variable_outcome, rotate_variable_call};
+ghost use Rattle.symbolic_variable.specs.Variable.{offset_moved, entry_rotated, variable_of, degree_multiple};
+ghost use Rattle.symbolic_variable.specs.Replies.{offset_outcome, offset_call, rotated_outcome, rotate_call, rotated_variable_outcome, rotate_variable_call};
+ghost use Rattle.answers.specs.Replies.{answer_of};
 
-use answers::Refusal;
+use answers::{Reason, Refusal};
 
-#[derive(Clone, Copy)]
+#[derive(Clone, Copy, Debug, PartialEq, Eq)]
 pub enum Entry {
     Preprocessed { offset: usize },
     Main { part_index: usize, offset: usize },
@@ -15,112 +16,73 @@ pub enum Entry {
     Challenge,
 }
 
-// An entry's offset, where it has one.
-#[derive(Clone, Copy)]
-pub enum EntryOffset {
-    At(usize),
-    Nowhere,
-}
-
-// An entry with its offset moved on, or 11 where no usize holds the offset.
-#[derive(Clone, Copy)]
-pub enum Rotated {
-    To(Entry),
-    Refused(Refusal),
-}
-
 // A variable within the evaluation window.
-#[derive(Clone, Copy)]
+#[derive(Clone, Copy, Debug, PartialEq, Eq)]
 pub struct SymbolicVariable {
     pub entry: Entry,
     pub index: usize,
 }
 
-#[derive(Clone, Copy)]
-pub enum RotatedVariable {
-    To(SymbolicVariable),
-    Refused(Refusal),
-}
-
-#[derive(Clone, Copy)]
-enum Sum {
-    Fits(usize),
-    TooLarge,
-}
-
-const LARGEST: usize = 18446744073709551615;
-
-fn plus(a: usize, b: usize) -> Sum
-    ensures { sum_answer result ≡ offset_moved a b }
+// An offset moved on, or 11 where no usize holds it.
+fn moved(offset: usize, by: usize) -> Result<usize, Refusal>
+    ensures { answer_of result ≡ offset_moved offset by }
 {
-    if LARGEST - a < b {
-        return Sum::TooLarge;
-    }
-    Sum::Fits(a + b)
-}
-
-// The refusal of an offset that no usize holds.
-const TOO_FAR: Refusal = Refusal {
-    number: 11,
-    place: 0,
-};
-
-fn refusal_of(rotated: Rotated) -> Refusal
-    ensures { result ≡ rotated_refusal rotated }
-{
-    match rotated {
-        Rotated::Refused(refusal) => refusal,
-        Rotated::To(_) => Refusal {
-            number: 0,
-            place: 0,
-        },
-    }
+    offset.checked_add(by).ok_or(Refusal {
+        reason: Reason::OffsetTooLarge,
+        place: 0,
+    })
 }
 
 impl Entry {
-    pub fn offset(self) -> EntryOffset
+    pub fn offset(self) -> Option<usize>
         ensures { offset_outcome result ≡ offset_call self }
     {
         match self {
-            Entry::Preprocessed { offset } => EntryOffset::At(offset),
+            Entry::Preprocessed { offset } => Some(offset),
             Entry::Main {
                 part_index: _,
                 offset,
-            } => EntryOffset::At(offset),
-            Entry::Public => EntryOffset::Nowhere,
-            Entry::Challenge => EntryOffset::Nowhere,
+            } => Some(offset),
+            Entry::Public => None,
+            Entry::Challenge => None,
         }
     }
 
-    // Advance the offset of the entry by the given `offset`.
-    pub fn rotate(self, offset: usize) -> Rotated
-        ensures { rotated_outcome result ≡ rotate_call self offset }
+    // The entry with its offset moved on, where it has one.
+    fn rotated(self, offset: usize) -> Result<Self, Refusal>
+        ensures { answer_of result ≡ entry_rotated self offset }
     {
         match self {
             Entry::Preprocessed { offset: old_offset } => {
-                let Sum::Fits(sum) = plus(old_offset, offset) else {
-                    return Rotated::Refused(TOO_FAR);
+                let sum = moved(old_offset, offset);
+                let Ok(offset) = sum else {
+                    return Err(sum.unwrap_err());
                 };
-                Rotated::To(Entry::Preprocessed { offset: sum })
+                Ok(Entry::Preprocessed { offset })
             }
             Entry::Main {
                 part_index,
                 offset: old_offset,
             } => {
-                let Sum::Fits(sum) = plus(old_offset, offset) else {
-                    return Rotated::Refused(TOO_FAR);
+                let sum = moved(old_offset, offset);
+                let Ok(offset) = sum else {
+                    return Err(sum.unwrap_err());
                 };
-                Rotated::To(Entry::Main {
-                    part_index,
-                    offset: sum,
-                })
+                Ok(Entry::Main { part_index, offset })
             }
-            Entry::Public => Rotated::To(self),
-            Entry::Challenge => Rotated::To(self),
+            Entry::Public => Ok(self),
+            Entry::Challenge => Ok(self),
         }
     }
 
-    pub fn next(self) -> Rotated
+    // Advance the offset of the entry by the given `offset`.
+    pub fn rotate(self, offset: usize) -> Result<Self, Refusal>
+        ensures { rotated_outcome result ≡ rotate_call self offset }
+    {
+        self.rotated(offset)
+    }
+
+    pub fn next(self) -> Result<Self, Refusal>
         ensures { rotated_outcome result ≡ rotate_call self 1 }
     {
         self.rotate(1)
@@ -137,8 +99,7 @@ impl SymbolicVariable {
     pub fn degree_multiple(self) -> usize
         ensures { result ≡ degree_multiple self.entry }
     {
-        let entry = self.entry;
-        match entry {
+        match self.entry {
             Entry::Preprocessed { offset: _ } => 1,
             Entry::Main {
                 part_index: _,
@@ -149,21 +110,20 @@ impl SymbolicVariable {
         }
     }
 
-    pub fn rotate(self, offset: usize) -> RotatedVariable
+    pub fn rotate(self, offset: usize) -> Result<Self, Refusal>
         ensures { rotated_variable_outcome result ≡ rotate_variable_call self offset }
     {
-        let entry = self.entry;
-        let rotated = entry.rotate(offset);
-        let Rotated::To(moved) = rotated else {
-            return RotatedVariable::Refused(refusal_of(rotated));
+        let rotated = self.entry.rotated(offset);
+        let Ok(entry) = rotated else {
+            return Err(rotated.unwrap_err());
         };
-        RotatedVariable::To(SymbolicVariable {
-            entry: moved,
+        Ok(SymbolicVariable {
+            entry,
             index: self.index,
         })
     }
 
-    pub fn next(self) -> RotatedVariable
+    pub fn next(self) -> Result<Self, Refusal>
         ensures { rotated_variable_outcome result ≡ rotate_variable_call self 1 }
     {
         self.rotate(1)

@@ -7,16 +7,16 @@ use Rattle.packing.proofs.unpack.Goals as goal
 pub returns-in_default : goal.returns-in_default
 unfolding hands_out
 returns-in_default c =
-    unpack_by _ c.words_of-words.result c.words_of-words.ensures c.pack.ensures c.in_default.is refl
+    unpack_by _ c.words_of-words.result _ c.words_of-words.ensures c.pack.ensures c.in_default.is refl
 
-pub returns-then-same : goal.returns-then-same
+pub returns-then-eq : goal.returns-then-eq
 unfolding hands_out
-returns-then-same c =
+returns-then-eq c =
     let words = c.words_of-words in
-    unpack_by _ words.result words.ensures c.pack.ensures c.in-Var.is (sym c.same.ensures ∙ c.if-same.true)
+    unpack_by _ words.result _ words.ensures c.pack.ensures c.in-Ok.is (sym c.eq.ensures ∙ c.if-eq.true)
 
 pub returns : goal.returns
 unfolding hands_out
 returns c =
     let words = c.words_of-words in
-    unpack_by _ words.result words.ensures c.pack.ensures c.in-Var.is (sym c.same.ensures ∙ c.if-same.false)
+    unpack_by _ words.result _ words.ensures c.pack.ensures c.in-Ok.is (sym c.eq.ensures ∙ c.if-eq.false)

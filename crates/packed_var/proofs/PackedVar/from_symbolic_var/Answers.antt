@@ -4,7 +4,7 @@ use mathlib.Core.Bool.{false}
 use lib.Dec.{ltb}
 use borrow.Author.Tests.{lt-ltb, le-ltb}
 use Rattle.semantics.specs.Answer.{good}
-use Rattle.packed_var.specs.declared.Packed.TheVariants.{Var}
+use Rattle.std.specs.Prelude.{Ok}
 use Rattle.packed_var.proofs.Answers.{packed_answer}
 use Rattle.packed_var.proofs.Laws.{variable_faults, column_wrong, entry_packs}
 use Rattle.packed_var.proofs.PackedVar.from_symbolic_var.Goals as goal
@@ -41,7 +41,7 @@ pub returns-else-offset-gt15 : goal.returns-else-offset-gt15
 returns-else-offset-gt15 c =
     let column_fits : ltb 65535 c.args.var.index ≡ false =
     le-ltb _ _ c.if-var-gt65535.false in
-    entry_packs _ (Var c.new.result) c.in-Main.is
+    entry_packs _ (Ok c.new.result) c.in-Main.is
     (ap good c.new.ensures
     ∙ variable_faults _ _ _ _ column_fits refl (le-ltb _ _ c.if-part_index-gt255.false) (le-ltb _ _ c.if-offset-gt15.false))
 
@@ -49,7 +49,7 @@ pub returns-else-offset-gt15-2 : goal.returns-else-offset-gt15-2
 returns-else-offset-gt15-2 c =
     let column_fits : ltb 65535 c.args.var.index ≡ false =
     le-ltb _ _ c.if-var-gt65535.false in
-    entry_packs _ (Var c.new-in-Preprocessed.result) c.in-Preprocessed.is
+    entry_packs _ (Ok c.new-in-Preprocessed.result) c.in-Preprocessed.is
     (ap good c.new-in-Preprocessed.ensures
     ∙ variable_faults _ _ _ _ column_fits refl refl (le-ltb _ _ c.if-offset-gt15-2.false))
 
@@ -57,7 +57,7 @@ pub returns-in-Public : goal.returns-in-Public
 returns-in-Public c =
     let column_fits : ltb 65535 c.args.var.index ≡ false =
     le-ltb _ _ c.if-var-gt65535.false in
-    entry_packs _ (Var c.new-in-Public.result) c.in-Public.is
+    entry_packs _ (Ok c.new-in-Public.result) c.in-Public.is
     (ap good c.new-in-Public.ensures ∙ variable_faults _ _ _ _ column_fits refl refl refl)
 
 pub returns-in-Challenge : goal.returns-in-Challenge
