@@ -1,7 +1,7 @@
 -- Laws of words, sums and checks. Assumes nothing.
 use mathlib.Core.Path.{◌≡◌, refl, sym, ap, ◌∙◌}
 use mathlib.Core.Bool.{Bool, true, false}
-use mathlib.Core.List.{List}
+use mathlib.Core.List.{List, [], ◌∷◌}
 use Prim.Native.Nat.{ℕ, suc, ◌+◌, ◌*◌, ◌-◌, ◌%◌, ◌≤◌, ◌<◌}
 use native.Mathlib.Omega.{arith}
 use native.Mathlib.Nat.{add-zero, sub-zero}
@@ -11,20 +11,26 @@ use lib.ListN.{length, get_or, drop}
 use lib.Seq.{get_or-drop, drop-drop}
 use borrow.Author.Tests.{ne_eqb}
 use Rattle.semantics.specs.Answer.{and_then}
-use Rattle.semantics.specs.Block.{word_at, words_of, weighted, check_word, block_good, block_check}
+use Rattle.semantics.specs.Block.{word_at, word_bytes, words_of, weighted, check_word, block_good, block_check}
 use Rattle.semantics.specs.Call.{outcome, padded_all, result, block_check_call}
 use Rattle.semantics.specs.BlockCheck.{says}
 use Rattle.semantics.proofs.BlockCheck.{check_says}
 use Rattle.block.specs.declared.words.Column.{Column}
-use Rattle.block.specs.declared.BlockChecked.{BlockChecked}
-use Rattle.block.specs.declared.BlockChecked.TheVariants.{Yes, No, Refused}
+use mir.Syntax.{w32}
+use Rattle.std.specs.Prelude.{Ok, Err}
+use Rattle.std.specs.Int.{from_le_bytes, to_le_bytes}
+use Rattle.answers.specs.declared.Reason.TheVariants.{WrongLength}
 use Rattle.block.specs.Checked.{block_outcome}
 
 -- a word by its four bytes
-pub word_of : (bs : List ℕ) (at : ℕ) {a b c d : ℕ} → a ≡ get_or bs at 0 → b ≡ get_or bs (at + 1) 0 → c ≡ get_or bs (at + 2) 0 → d ≡ get_or bs (at + 3) 0
-    → a + 256 * b + 65536 * c + 16777216 * d ≡ word_at (drop at bs)
+pub word_of : (bs : List ℕ) (at : ℕ)
+    → from_le_bytes w32 (get_or bs at 0 ∷ get_or bs (at + 1) 0 ∷ get_or bs (at + 2) 0 ∷ get_or bs (at + 3) 0 ∷ []) ≡ word_at (drop at bs)
 unfolding word_at
-word_of bs at p q r s = rw (get_or-drop at bs 0 0, get_or-drop at bs 1 0, get_or-drop at bs 2 0, get_or-drop at bs 3 0, add-zero, p, q, r, s)
+word_of bs at = rw (get_or-drop at bs 0 0, get_or-drop at bs 1 0, get_or-drop at bs 2 0, get_or-drop at bs 3 0, add-zero) (omega arith)
+
+pub bytes_of : (w : ℕ) → to_le_bytes w32 w ≡ word_bytes w
+unfolding word_bytes
+bytes_of w = refl
 
 -- the weighted sum of the m words from `at` on, without the first n
 unfoldable pub rest : (m : ℕ) → List ℕ → (at n : ℕ) → ℕ
@@ -128,18 +134,14 @@ unfolding block_good
 good_at bs at number p q = (λ i. eqb (p i) (q i)) ∙ ap (λ (l : List ℕ). eqb (word_at l) (check_word number (words_of 127 (drop at bs)))) (sym (drop-drop 508 at bs))
 
 -- yes or no, or the refusal of a slice that is not of 512 bytes
-abbrev answer_of : Bool → BlockChecked
-answer_of true = Yes
-answer_of false = No
-
-pub length_right : (number : ℕ) (bs : List ℕ) {t : Bool} → length bs ≡ 512 → t ≡ block_good number bs → block_outcome (answer_of t) ≡ block_check_call bs number
+pub length_right : (number : ℕ) (bs : List ℕ) {t : Bool} → length bs ≡ 512 → t ≡ block_good number bs → block_outcome (Ok t) ≡ block_check_call bs number
 unfolding says outcome result padded_all
 length_right number bs {t} h e = go t ∙ sym (check_says bs number h (sym e))
   where
-    go : (t : Bool) → block_outcome (answer_of t) ≡ says t
+    go : (t : Bool) → block_outcome (Ok t) ≡ says t
     go true = refl
     go false = refl
 
-pub length_wrong : (number : ℕ) (bs : List ℕ) → (length bs ≡ 512 → ⊥) → block_outcome (Refused (record { number = 1; place = 0 })) ≡ block_check_call bs number
+pub length_wrong : (number : ℕ) (bs : List ℕ) → (length bs ≡ 512 → ⊥) → block_outcome (Err (record { reason = WrongLength; place = 0 })) ≡ block_check_call bs number
 unfolding block_check_call outcome and_then result padded_all block_check
 length_wrong number bs h = rw (ne_eqb (length bs) 512 h)

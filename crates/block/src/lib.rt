@@ -5,29 +5,19 @@ ghost use Rattle.std.specs.Prelude.{◌≡◌};
 ghost use Rattle.semantics.specs.Call.{block_check_call};
 ghost use Rattle.block.specs.Checked.{block_outcome};
 
-use answers::Refusal;
+use answers::{Reason, Refusal};
 
 pub mod words;
 
-#[derive(Clone, Copy)]
-pub enum BlockChecked {
-    Yes,
-    No,
-    Refused(Refusal),
-}
-
 // Whether a block has the check word of its words and its number, counted from 1.
-pub fn block_check(bytes: &[u8], number: u32) -> BlockChecked
+pub fn block_check(bytes: &[u8], number: u32) -> Result<bool, Refusal>
     ensures { block_outcome result ≡ block_check_call bytes.now number }
 {
     if bytes.len() != 512 {
-        return BlockChecked::Refused(Refusal {
-            number: 1,
+        return Err(Refusal {
+            reason: Reason::WrongLength,
             place: 0,
         });
     }
-    if words::block_good(bytes, 0, number) {
-        return BlockChecked::Yes;
-    }
-    BlockChecked::No
+    Ok(words::block_good(bytes, 0, number))
 }

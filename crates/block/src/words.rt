@@ -2,36 +2,22 @@
 ghost use Rattle.std.specs.Prelude.{◌≡◌, ◌+◌, ◌*◌, ◌≤◌, length, drop};
 ghost use Rattle.semantics.specs.Block.{word_at, word_bytes, words_of, check_word, block_good};
 
-fn wide(x: u8) -> u32
-    ensures { (result ≡ x) × (result ≤ 255) }
-{
-    x as u32
-}
-
 // The word whose first byte stands at `at`.
 pub fn word_at(bytes: &[u8], at: usize) -> u32
     requires { at + 4 ≤ length bytes.now }
     ensures { result ≡ word_at (drop at bytes.now) }
 {
-    wide(bytes[at])
-        + 256 * wide(bytes[at + 1])
-        + 65536 * wide(bytes[at + 2])
-        + 16777216 * wide(bytes[at + 3])
+    u32::from_le_bytes([bytes[at], bytes[at + 1], bytes[at + 2], bytes[at + 3]])
 }
 
 pub fn word_bytes(w: u32) -> [u8; 4]
     ensures { result ≡ word_bytes w }
 {
-    [
-        (w % 256) as u8,
-        (w / 256 % 256) as u8,
-        (w / 65536 % 256) as u8,
-        (w / 16777216 % 256) as u8,
-    ]
+    w.to_le_bytes()
 }
 
 // Every fourth word: the sum of those so far, and the sum of all these sums, in which a word counts once for each row from its own on.
-#[derive(Clone, Copy)]
+#[derive(Clone, Copy, Debug, PartialEq, Eq)]
 struct Column {
     sum: u64,
     sums: u64,
@@ -59,14 +45,12 @@ pub fn check_word(bytes: &[u8], at: usize, number: u32) -> u32
     let mut b = Column { sum: 0, sums: 0 };
     let mut c = Column { sum: 0, sums: 0 };
     let mut d = Column { sum: 0, sums: 0 };
-    let mut row: usize = 0;
-    while row < 31 {
+    for row in 0..31 {
         let first = at + 16 * row;
         a = with_word(a, word_at(bytes, first));
         b = with_word(b, word_at(bytes, first + 4));
         c = with_word(c, word_at(bytes, first + 8));
         d = with_word(d, word_at(bytes, first + 12));
-        row += 1;
     }
     let sums = a.sums + b.sums + c.sums + d.sums;
     let x = a.sum + word_at(bytes, at + 496) as u64;

@@ -5,15 +5,15 @@ use Prim.Native.Nat.{ℕ, ◌+◌, ◌≤◌}
 use native.Mathlib.Omega.{arith}
 use lib.ListN.{length, get_or, take}
 use lib.Seq.{take_at}
+use Rattle.std.specs.Prelude.{Result, Ok, Err}
 use Rattle.semantics.specs.Answer.{Answer, good, refused, and_then}
 use Rattle.semantics.specs.Sheet as semantics
 use Rattle.semantics.specs.Check.{check}
-use Rattle.semantics.specs.Call.{Result, Outcome, outcome, padded_all, result, on_sheet, check_call}
+use Rattle.semantics.specs.Call.{Result as Made, Outcome, refused_with, outcome, padded_all, result, on_sheet, check_call}
 use Rattle.semantics.proofs.Encoding.{check_sound, check_inside, length_limit}
 use Rattle.answers.specs.declared.Refusal.{Refusal}
+use Rattle.answers.specs.Replies.{number_of}
 use Rattle.sheet.specs.declared.Head.{Head}
-use Rattle.sheet.specs.declared.Checked.{Checked}
-use Rattle.sheet.specs.declared.Checked.TheVariants.{Sheet, Refused}
 use Rattle.sheet.specs.Replies.{checked_outcome}
 
 -- The counts of a sheet.
@@ -28,8 +28,8 @@ head_of t = record {
 
 -- The outcome of the check, by its answer.
 abbrev pub told : Answer semantics.Sheet → Outcome
-told (good t) = checked_outcome (Sheet (head_of t))
-told (refused n k) = checked_outcome (Refused (record { number = n; place = k }))
+told (good t) = checked_outcome (Ok (head_of t))
+told (refused n k) = record { reply = refused_with n k; slices = [] }
 
 pub check_told : (p : ℕ) (ws : List ℕ) → told (check p ws) ≡ check_call p ws
 unfolding check_call on_sheet outcome padded_all result and_then
@@ -49,11 +49,11 @@ abbrev how_many : Outcome → ℕ
 how_many o = length o.reply.numbers
 
 -- A sheet was found, or the check refused.
-module _ (p : ℕ) (ws : List ℕ) {r : Checked} (e : checked_outcome r ≡ check_call p ws) where
-  pub found : {h : Head} → r ≡ Sheet h → (t : semantics.Sheet) × (check p ws ≡ good t) × (h ≡ head_of t)
+module _ (p : ℕ) (ws : List ℕ) {r : Result Head Refusal} (e : checked_outcome r ≡ check_call p ws) where
+  pub found : {h : Head} → r ≡ Ok h → (t : semantics.Sheet) × (check p ws ≡ good t) × (h ≡ head_of t)
   found {h} q = go (check p ws) refl (sym (ap checked_outcome q) ∙ e ∙ sym (check_told p ws))
     where
-      go : (a : Answer semantics.Sheet) → check p ws ≡ a → checked_outcome (Sheet h) ≡ told a
+      go : (a : Answer semantics.Sheet) → check p ws ≡ a → checked_outcome (Ok h) ≡ told a
           → (t : semantics.Sheet) × (check p ws ≡ good t) × (h ≡ head_of t)
       go (good t) c o = (
         t,
@@ -68,10 +68,10 @@ module _ (p : ℕ) (ws : List ℕ) {r : Checked} (e : checked_outcome r ≡ chec
       )
       go (refused n k) c o = absurd (omega (arith, ap how_many o))
 
-  pub not_found : {v : Refusal} → r ≡ Refused v → refused v.number v.place ≡ check p ws
+  pub not_found : {v : Refusal} → r ≡ Err v → refused (number_of v.reason) v.place ≡ check p ws
   not_found {v} q = go (check p ws) (sym (ap checked_outcome q) ∙ e ∙ sym (check_told p ws))
     where
-      go : (a : Answer semantics.Sheet) → checked_outcome (Refused v) ≡ told a → refused v.number v.place ≡ a
+      go : (a : Answer semantics.Sheet) → checked_outcome (Err v) ≡ told a → refused (number_of v.reason) v.place ≡ a
       go (good t) o = absurd (omega (arith, ap how_many o))
       go (refused n k) o = λ i. refused (o i).reply.number (o i).reply.place
 
@@ -91,11 +91,11 @@ module _ (p : ℕ) (ws : List ℕ) {t : semantics.Sheet} (e : check p ws ≡ goo
   words_inside = ap (λ (k : Head). k.words) q ∙ sym (ap length words_found)
 
 -- The rest of a call goes on with the sheet, or is not reached.
-module _ (p : ℕ) (ws : List ℕ) (rest : semantics.Sheet → Answer Result) where
+module _ (p : ℕ) (ws : List ℕ) (rest : semantics.Sheet → Answer Made) where
   pub on_found : {t : semantics.Sheet} → check p ws ≡ good t → rest t ≡ on_sheet p ws rest
   unfolding on_sheet and_then
   on_found e = ap (λ (a : Answer semantics.Sheet). and_then a rest) (sym e)
 
-  pub on_refused : {r : Checked} {v : Refusal} → checked_outcome r ≡ check_call p ws → r ≡ Refused v → refused v.number v.place ≡ on_sheet p ws rest
+  pub on_refused : {r : Result Head Refusal} {v : Refusal} → checked_outcome r ≡ check_call p ws → r ≡ Err v → refused (number_of v.reason) v.place ≡ on_sheet p ws rest
   unfolding on_sheet and_then
   on_refused e q = ap (λ (a : Answer semantics.Sheet). and_then a rest) (not_found p ws e q)

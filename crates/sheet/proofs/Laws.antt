@@ -6,11 +6,11 @@ use Prim.Native.Nat.{ℕ, zero, suc, ◌+◌, ◌-◌, ◌≤◌, ◌<◌}
 use native.Mathlib.Nat.{add-zero}
 use native.Mathlib.Numerals.{add-one}
 use native.Mathlib.Omega.{arith}
-use lib.Dec.{leb}
-use lib.ListN.{length, get_or, drop, replicate, drop_of_length-le}
+use lib.Dec.{leb, ltb}
+use lib.ListN.{length, get_or, drop, replicate, drop_of_length-le, get_or-map}
 use lib.Seq.{drop-cons, get_or-drop}
-use borrow.Author.Tests.{eq-eqb, ne_eqb, leb-true, lt-ltb, le-ltb}
-use Rattle.semantics.specs.Sheet.{Inside, encode, head_words, length_of, place, fits, row, record_tests, interaction_tests, head_tests, refers}
+use borrow.Author.Tests.{le-leb, eq-eqb, ne_eqb, leb-true, ltb-true, ltb-false}
+use Rattle.semantics.specs.Sheet.{Inside, encode, head_words, length_of, place, table, fits, row, record_tests, interaction_tests, head_tests, refers}
 use Rattle.semantics.specs.Answer.{good}
 use Rattle.semantics.specs.Sheet as semantics
 use Rattle.semantics.specs.Check.{Scan, reading, stopped, scan_words, scan_part, scan_parts, scan_spare, scan_sheet, read_sheet, judged, check}
@@ -18,13 +18,15 @@ use Rattle.semantics.specs.Call.{check_call}
 use Rattle.semantics.proofs.Basics.{and_true}
 use Rattle.semantics.proofs.Lists.{one_by_one_lem}
 use Rattle.semantics.proofs.Encoding.{row_length, check_sound, scan_to_interactions, scan_to_end}
+use Rattle.std.specs.Prelude.{Result, Ok, Err}
+use Rattle.answers.specs.declared.Reason.{Reason}
+use Rattle.answers.specs.declared.Reason.TheVariants.{PastEnd}
 use Rattle.answers.specs.declared.Refusal.{Refusal}
+use Rattle.answers.specs.Replies.{number_of}
 use Rattle.sheet.specs.declared.Head.{Head}
-use Rattle.sheet.specs.declared.Checked.{Checked}
-use Rattle.sheet.specs.declared.Checked.TheVariants.{Sheet}
-use Rattle.sheet.specs.declared.scan.Scanned.{Scanned}
-use Rattle.sheet.specs.declared.scan.Scanned.TheVariants.{Next, Stop}
-use Rattle.sheet.specs.Scans.{scan_of, Ends, EndsAt, refused_of}
+use Rattle.sheet.specs.declared.scan.Use.{Use}
+use Rattle.sheet.specs.declared.scan.Use.TheVariants.{Unused, Entry, Part, Offset, Any, Constant, Child}
+use Rattle.sheet.specs.Scans.{scan_of, Ends, EndsAt, judged_at, use_of}
 use Rattle.sheet.specs.Replies.{checked_outcome}
 use Rattle.sheet.proofs.Answers.{told, check_told}
 
@@ -63,23 +65,46 @@ module _ (n : ℕ) (t : ℕ → Bool) (ts : List (ℕ → Bool)) (ws : List ℕ)
   unfolding scan_words
   scan_passes h e = rw (drop-cons ws i 0 h, e, add-one)
 
+-- A word that is judged by a test.
+pub judged_word : (ws : List ℕ) (at : ℕ) (reason : Reason) (r : Result ℕ Refusal) (t : ℕ → Bool) (passes : Bool) → at ≤ length ws
+    → (at < length ws → passes ≡ t (get_or ws at 0)) → r ≡ judged_at ws at reason passes
+    → (scan_of ws r ≡ scan_words (number_of reason) (t ∷ []) (reading at (drop at ws))) × Ends ws r × EndsAt (at + 1) r
+unfolding scan_words
+judged_word ws at reason r t passes h is q = go (ltb at (length ws)) passes refl refl
+  where
+    whole : Scan
+    whole = scan_words (number_of reason) (t ∷ []) (reading at (drop at ws))
+
+    found : (x : Result ℕ Refusal) → r ≡ x → (scan_of ws x ≡ whole) × Ends ws x × EndsAt (at + 1) x
+        → (scan_of ws r ≡ whole) × Ends ws r × EndsAt (at + 1) r
+    found x e p = rw e p
+
+    go : (b p : Bool) → ltb at (length ws) ≡ b → passes ≡ p → (scan_of ws r ≡ whole) × Ends ws r × EndsAt (at + 1) r
+    go true true l e =
+        let lt = ltb-true at (length ws) l in
+        found (Ok (at + 1)) (q ∙ rw (l, e)) (scan_passes (number_of reason) t [] ws at lt (sym (is lt) ∙ e), omega arith, refl)
+    go true false l e =
+        let lt = ltb-true at (length ws) l in
+        found (Err (record { reason = reason; place = at })) (q ∙ rw (l, e)) (scan_fails (number_of reason) t [] ws at lt (sym (is lt) ∙ e), tt, tt)
+    go false p l e = found (Err (record { reason = PastEnd; place = at })) (q ∙ rw l) (scan_cut (number_of reason) t [] ws at h (ltb-false at (length ws) l), tt, tt)
+
 -- A step of a scan: a refusal is the answer of the whole, and an index is where the rest goes on.
-pub record Step (rest : Scan → Scan) (whole : Scan) (ws : List ℕ) (r : Scanned) : Type 0 where
-  pub stops : (v : Refusal) → r ≡ Stop v → scan_of ws r ≡ whole
-  pub goes : (m : ℕ) → r ≡ Next m → rest (reading m (drop m ws)) ≡ whole
-  pub inside : (m : ℕ) → r ≡ Next m → m ≤ length ws
+pub record Step (rest : Scan → Scan) (whole : Scan) (ws : List ℕ) (r : Result ℕ Refusal) : Type 0 where
+  pub stops : (v : Refusal) → r ≡ Err v → scan_of ws r ≡ whole
+  pub goes : (m : ℕ) → r ≡ Ok m → rest (reading m (drop m ws)) ≡ whole
+  pub inside : (m : ℕ) → r ≡ Ok m → m ≤ length ws
 
 -- A step of which the scan is known.
-pub step : {rest : Scan → Scan} {whole : Scan} {ws : List ℕ} {r : Scanned} {s : Scan} → scan_of ws r ≡ s → Ends ws r → rest s ≡ whole
+pub step : {rest : Scan → Scan} {whole : Scan} {ws : List ℕ} {r : Result ℕ Refusal} {s : Scan} → scan_of ws r ≡ s → Ends ws r → rest s ≡ whole
     → ((m k : ℕ) → rest (stopped m k) ≡ stopped m k) → Step rest whole ws r
 step {rest} {whole} {ws} {r} {s} e h f stays = record {
-  stops = λ v q. ap (scan_of ws) q ∙ sym (stays v.number v.place) ∙ from (Stop v) q;
-  goes = λ m q. from (Next m) q;
+  stops = λ v q. ap (scan_of ws) q ∙ sym (stays (number_of v.reason) v.place) ∙ from (Err v) q;
+  goes = λ m q. from (Ok m) q;
   inside = λ m q. subst (Ends ws) q h;
 }
   where
-    from : (x : Scanned) → r ≡ x → rest (scan_of ws x) ≡ whole
-    from x q = ap (λ (y : Scanned). rest (scan_of ws y)) (sym q) ∙ ap rest e ∙ f
+    from : (x : Result ℕ Refusal) → r ≡ x → rest (scan_of ws x) ≡ whole
+    from x q = ap (λ (y : Result ℕ Refusal). rest (scan_of ws y)) (sym q) ∙ ap rest e ∙ f
 
 -- The words of a row: `j` of the uses are done.
 row_more : (n : ℕ) (f : ℕ → ℕ → Bool) (row : List ℕ) (j : ℕ) (s : Scan) → j < length row
@@ -95,14 +120,19 @@ pub record RowLeft (n : ℕ) (f : ℕ → ℕ → Bool) (row ws : List ℕ) (who
 
 module _ {n : ℕ} {f : ℕ → ℕ → Bool} {row ws : List ℕ} {whole : Scan} {j m : ℕ} (left : RowLeft n f row ws whole j m) where
   -- One of them is judged.
-  module _ (h : j < length row) (r : Scanned) (e : (scan_of ws r ≡ scan_words n (f (get_or row j 0) ∷ []) (reading m (drop m ws))) × Ends ws r) where
+  module _ (h : j < length row) (u : ℕ) (q : get_or row j 0 ≡ u) (r : Result ℕ Refusal)
+      (e : (scan_of ws r ≡ scan_words n (f u ∷ []) (reading m (drop m ws))) × Ends ws r) where
     row_step : Step (scan_words n (map f (drop (j + 1) row))) whole ws r
-    row_step = step e.0 e.1 (row_more n f row j (reading m (drop m ws)) h ∙ left.goes) (scan_stopped n (map f (drop (j + 1) row)))
+    row_step =
+        step e.0 e.1
+        (ap (λ (v : ℕ). scan_words n (map f (drop (j + 1) row)) (scan_words n (f v ∷ []) (reading m (drop m ws)))) (sym q)
+        ∙ row_more n f row j (reading m (drop m ws)) h ∙ left.goes)
+        (scan_stopped n (map f (drop (j + 1) row)))
 
-    pub row_stops : (v : Refusal) → r ≡ Stop v → (scan_of ws r ≡ whole) × Ends ws r
+    pub row_stops : (v : Refusal) → r ≡ Err v → (scan_of ws r ≡ whole) × Ends ws r
     row_stops v q = (row_step.stops v q, e.1)
 
-    pub row_next : (k : ℕ) → r ≡ Next k → RowLeft n f row ws whole (j + 1) k
+    pub row_next : (k : ℕ) → r ≡ Ok k → RowLeft n f row ws whole (j + 1) k
     row_next k q = record { goes = row_step.goes k q; inside = row_step.inside k q }
 
   -- All are judged.
@@ -110,15 +140,37 @@ module _ {n : ℕ} {f : ℕ → ℕ → Bool} {row ws : List ℕ} {whole : Scan}
   unfolding scan_words
   row_done h = (ap (λ (r : List ℕ). scan_words n (map f r) (reading m (drop m ws))) (sym (drop_of_length-le row h)) ∙ left.goes, left.inside)
 
+-- The constant rows of the code.
+abbrev pub uses : List (List Use)
+uses =
+    (Entry ∷ Part ∷ Offset ∷ Any ∷ [])
+    ∷ (Unused ∷ Unused ∷ Unused ∷ Unused ∷ [])
+    ∷ (Unused ∷ Unused ∷ Unused ∷ Unused ∷ [])
+    ∷ (Unused ∷ Unused ∷ Unused ∷ Unused ∷ [])
+    ∷ (Constant ∷ Unused ∷ Unused ∷ Unused ∷ [])
+    ∷ (Child ∷ Child ∷ Any ∷ Unused ∷ [])
+    ∷ (Child ∷ Child ∷ Any ∷ Unused ∷ [])
+    ∷ (Child ∷ Unused ∷ Any ∷ Unused ∷ [])
+    ∷ (Child ∷ Child ∷ Any ∷ Unused ∷ [])
+    ∷ []
+
+-- They are those of the table.
+pub uses_row : (kind : ℕ) → map use_of (get_or uses (kind - 1) []) ≡ row kind
+unfolding row table
+uses_row kind = sym (get_or-map (map use_of) uses (kind - 1) [])
+
 -- A row has four uses.
-pub row_four : (kind : ℕ) → 1 ≤ kind → kind ≤ 9
+row_four : (kind : ℕ) → 1 ≤ kind → kind ≤ 9
     → row kind ≡ get_or (row kind) 0 0 ∷ get_or (row kind) 1 0 ∷ get_or (row kind) 2 0 ∷ get_or (row kind) 3 0 ∷ []
 row_four kind l h =
     one_by_one_lem 4 0 (row kind) (omega (arith, row_length kind l h))
     ∙ ap (λ (r : List ℕ). get_or (row kind) 0 0 ∷ get_or (row kind) 1 0 ∷ get_or (row kind) 2 0 ∷ get_or (row kind) 3 0 ∷ r)
     (drop_of_length-le (row kind) {i = 4} (omega (arith, row_length kind l h)))
 
-pub kind_true : (k : ℕ) → leb 1 k && leb k 9 ≡ true → (1 ≤ k) × (k ≤ 9)
+pub is_kind : (k : ℕ) → 1 ≤ k → k ≤ 9 → leb 1 k && leb k 9 ≡ true
+is_kind k l h = λ i. le-leb 1 k l i && le-leb k 9 h i
+
+kind_true : (k : ℕ) → leb 1 k && leb k 9 ≡ true → (1 ≤ k) × (k ≤ 9)
 kind_true k e = let t = and_true (leb 1 k) (leb k 9) e in (leb-true _ _ t.0, leb-true _ _ t.1)
 
 -- A record of the words `ws` from `at` on.
@@ -172,16 +224,16 @@ pub record PartsLeft (n : ℕ) (tests : ℕ → List ℕ → List (ℕ → Bool)
 module _ {n : ℕ} {tests : ℕ → List ℕ → List (ℕ → Bool)} {ws : List ℕ} {whole : Scan} {count own m : ℕ}
     (left : PartsLeft n tests ws whole count own m) where
   -- One of them is judged.
-  module _ (h : own < count) (r : Scanned) (e : (scan_of ws r ≡ scan_part n (tests own) (reading m (drop m ws))) × Ends ws r) where
+  module _ (h : own < count) (r : Result ℕ Refusal) (e : (scan_of ws r ≡ scan_part n (tests own) (reading m (drop m ws))) × Ends ws r) where
     parts_step : Step (scan_parts n tests (count - (own + 1)) (own + 1)) whole ws r
     parts_step =
         step e.0 e.1 (parts_more n tests count own (reading m (drop m ws)) h ∙ left.goes)
         (parts_stopped n tests (count - (own + 1)) (own + 1))
 
-    pub parts_stops : (v : Refusal) → r ≡ Stop v → (scan_of ws r ≡ whole) × Ends ws r
+    pub parts_stops : (v : Refusal) → r ≡ Err v → (scan_of ws r ≡ whole) × Ends ws r
     parts_stops v q = (parts_step.stops v q, e.1)
 
-    pub parts_next : (k : ℕ) → r ≡ Next k → PartsLeft n tests ws whole count (own + 1) k
+    pub parts_next : (k : ℕ) → r ≡ Ok k → PartsLeft n tests ws whole count (own + 1) k
     parts_next k q = record { goes = parts_step.goes k q; inside = parts_step.inside k q }
 
   -- All are judged.
@@ -191,55 +243,7 @@ module _ {n : ℕ} {tests : ℕ → List ℕ → List (ℕ → Bool)} {ws : List
       let z : count - own ≡ 0 = omega arith in
       (ap (λ (k : ℕ). scan_parts n tests k own (reading m (drop m ws))) (sym z) ∙ left.goes, left.inside)
 
--- Words that all have one test: the scan stands at `i`, `k` of `count` words behind `base`, and those that are left give the whole.
-pub record SameLeft (n : ℕ) (t : ℕ → Bool) (ws : List ℕ) (whole : Scan) (base count k i : ℕ) : Type 0 where
-  pub some : k ≤ count
-  pub goes : scan_words n (replicate (count - k) t) (reading i (drop i ws)) ≡ whole
-  pub inside : i ≤ length ws
-  pub stands : i ≡ base + k
-
-module _ {n : ℕ} {t : ℕ → Bool} {ws : List ℕ} {whole : Scan} {base count k i : ℕ} (left : SameLeft n t ws whole base count k i) where
-  -- One of them is judged.
-  module _ (h : k < count) where
-    first_left : scan_words n (t ∷ replicate (count - (k + 1)) t) (reading i (drop i ws)) ≡ whole
-    first_left =
-        let s : count - k ≡ suc (count - (k + 1)) = omega arith in
-        ap (λ (m : ℕ). scan_words n (replicate m t) (reading i (drop i ws))) (sym s) ∙ left.goes
-
-    pub same_cut : length ws ≤ i → stopped 4 i ≡ whole
-    same_cut l = scan_cut n t (replicate (count - (k + 1)) t) ws i left.inside l ∙ first_left
-
-    module _ (l : i < length ws) where
-      pub same_fails : t (get_or ws i 0) ≡ false → stopped n i ≡ whole
-      same_fails e = scan_fails n t (replicate (count - (k + 1)) t) ws i l e ∙ first_left
-
-      pub same_next : t (get_or ws i 0) ≡ true → SameLeft n t ws whole base count (k + 1) (i + 1)
-      same_next e = record {
-        some = omega arith;
-        goes = scan_passes n t (replicate (count - (k + 1)) t) ws i l e ∙ first_left;
-        inside = omega arith;
-        stands = omega (arith, left.stands);
-      }
-
-  -- All are judged.
-  pub same_done : count ≤ k → (reading i (drop i ws) ≡ whole) × (i ≤ length ws) × (i ≡ base + count)
-  unfolding scan_words
-  same_done h =
-      let z : count - k ≡ 0 = omega arith in (
-        ap (λ (j : ℕ). scan_words n (replicate j t) (reading i (drop i ws))) (sym z) ∙ left.goes,
-        left.inside,
-        omega (arith, left.some, left.stands),
-      )
-
-pub references_true : (n w x : ℕ) → x ≡ w → x < n → refers n w ≡ true
-unfolding refers
-references_true n w x e h = lt-ltb w n (omega arith)
-
-pub references_false : (n w x : ℕ) → x ≡ w → n ≤ x → refers n w ≡ false
-unfolding refers
-references_false n w x e h = le-ltb w n (omega arith)
-
-pub step_at : (k : ℕ) (r : Scanned) (n : ℕ) → EndsAt k r → r ≡ Next n → n ≡ k
+pub step_at : (k : ℕ) (r : Result ℕ Refusal) (n : ℕ) → EndsAt k r → r ≡ Ok n → n ≡ k
 step_at k r n h q = subst (EndsAt k) q h
 
 -- A scan that stands at `m`, `k` words behind `base`: the tests `ts` from there on give the whole.
@@ -250,19 +254,44 @@ pub record Left (n : ℕ) (ts : List (ℕ → Bool)) (ws : List ℕ) (whole : Sc
 
 -- One word of them is judged: that stops the whole, or the scan stands one word further.
 module _ {n : ℕ} {t : ℕ → Bool} {ts : List (ℕ → Bool)} {ws : List ℕ} {whole : Scan} {base k m : ℕ} (left : Left n (t ∷ ts) ws whole base k m)
-    (r : Scanned) (e : (scan_of ws r ≡ scan_words n (t ∷ []) (reading m (drop m ws))) × Ends ws r × EndsAt (m + 1) r) where
+    (r : Result ℕ Refusal) (e : (scan_of ws r ≡ scan_words n (t ∷ []) (reading m (drop m ws))) × Ends ws r × EndsAt (m + 1) r) where
   left_step : Step (scan_words n ts) whole ws r
   left_step = step e.0 e.1 (sym (scan_more n t ts (reading m (drop m ws))) ∙ left.goes) (scan_stopped n ts)
 
-  pub left_stops : (v : Refusal) → r ≡ Stop v → (scan_of ws r ≡ whole) × Ends ws r
+  pub left_stops : (v : Refusal) → r ≡ Err v → (scan_of ws r ≡ whole) × Ends ws r
   left_stops v q = (left_step.stops v q, e.1)
 
-  pub left_next : (j : ℕ) → r ≡ Next j → Left n ts ws whole base (suc k) j
+  pub left_next : (j : ℕ) → r ≡ Ok j → Left n ts ws whole base (suc k) j
   left_next j q = record {
     goes = left_step.goes j q;
     inside = left_step.inside j q;
     stands = omega (arith, step_at (m + 1) r j e.2 q, left.stands);
   }
+
+-- Words that all have one test: before one of them, and behind all.
+module _ {n : ℕ} (t : ℕ → Bool) {ws : List ℕ} {whole : Scan} {base count k : ℕ} (left : Left n (replicate (count - k) t) ws whole base k (base + k)) where
+  pub same_first : k < count → Left n (t ∷ replicate (count - (k + 1)) t) ws whole base k (base + k)
+  same_first h =
+      let s : count - k ≡ suc (count - (k + 1)) = omega arith in
+      record {
+        goes = ap (λ (m : ℕ). scan_words n (replicate m t) (reading (base + k) (drop (base + k) ws))) (sym s) ∙ left.goes;
+        inside = left.inside;
+        stands = refl;
+      }
+
+  pub same_done : count ≡ k → (reading (base + count) (drop (base + count) ws) ≡ whole) × (base + count ≤ length ws)
+  unfolding scan_words
+  same_done e =
+      let z : count - k ≡ 0 = omega arith in (
+        (λ i. reading (base + e i) (drop (base + e i) ws)) ∙ ap (λ (j : ℕ). scan_words n (replicate j t) (reading (base + k) (drop (base + k) ws))) (sym z) ∙ left.goes,
+        omega (arith, e, left.inside),
+      )
+
+pub left_at : {n : ℕ} {ts : List (ℕ → Bool)} {ws : List ℕ} {whole : Scan} {base k m : ℕ} → Left n ts ws whole base (suc k) m
+    → Left n ts ws whole base (k + 1) (base + (k + 1))
+left_at {n} {ts} {ws} {whole} {base} {k} {m} left =
+    let e : m ≡ base + (k + 1) = omega (arith, left.stands) in
+    record { goes = rw e at left.goes; inside = omega (arith, e, left.inside); stands = refl }
 
 -- The tests of an interaction, in the order in which its words are judged.
 pub interaction_tests_lem : (n : ℕ) (ws : List ℕ) (at : ℕ)
@@ -298,9 +327,9 @@ module _ {ws : List ℕ} {whole : Scan} {k i : ℕ} (left : SpareLeft ws whole k
       unfolding scan_spare
       spare_word e = sym (rw (ne_eqb (get_or ws i 0) 0 e)) ∙ with_room (suc (126 - (k + 1))) next_room
 
-      pub spare_zero : get_or ws i 0 ≡ 0 → SpareLeft ws whole (k + 1) (i + 1)
+      pub spare_zero : (k' : ℕ) → k' ≡ k + 1 → get_or ws i 0 ≡ 0 → SpareLeft ws whole k' (i + 1)
       unfolding scan_spare
-      spare_zero e = record {
+      spare_zero k' q e = rw q record {
         goes = sym (rw (eq-eqb (get_or ws i 0) 0 e, add-one i)) ∙ with_room (suc (126 - (k + 1))) next_room;
         inside = omega arith;
       }
@@ -314,7 +343,7 @@ module _ {ws : List ℕ} {whole : Scan} {k i : ℕ} (left : SpareLeft ws whole k
       at_end : (room : ℕ) → scan_spare room (reading i []) ≡ reading i []
       at_end room = refl
 
-pub stop_reaches : (k : ℕ) (r : Scanned) (v : Refusal) → r ≡ Stop v → EndsAt k r
+pub stop_reaches : (k : ℕ) (r : Result ℕ Refusal) (v : Refusal) → r ≡ Err v → EndsAt k r
 stop_reaches k r v q = subst (EndsAt k) (sym q) tt
 
 -- Where a scan goes on.
@@ -357,13 +386,11 @@ module _ (p : ℕ) (ws : List ℕ) where
   head_stays m k = ap after_records (parts_stopped 5 (record_tests p) (get_or ws 1 0) 0 m k) ∙ records_stay m k
 
   -- A scan that stopped refuses the sheet; one that went to the end accepts it.
-  pub refuses : (r : Scanned) (v : Refusal) (x : Checked) → r ≡ Stop v → scan_of ws r ≡ scan_sheet p ws → x ≡ refused_of r
-      → checked_outcome x ≡ check_call p ws
+  pub refuses : (r : Result ℕ Refusal) {v : Refusal} → r ≡ Err v → scan_of ws r ≡ scan_sheet p ws → checked_outcome (Err v) ≡ check_call p ws
   unfolding check judged
-  refuses r v x q e h =
-      ap checked_outcome (h ∙ ap refused_of q) ∙ ap (λ (t : Scan). told (judged t (read_sheet ws))) (sym (ap (scan_of ws) q) ∙ e) ∙ check_told p ws
+  refuses r q e = ap (λ (t : Scan). told (judged t (read_sheet ws))) (sym (ap (scan_of ws) q) ∙ e) ∙ check_told p ws
 
-  module _ (n : ℕ) (r : Scanned) (q : r ≡ Next n) (e : scan_of ws r ≡ scan_sheet p ws) where
+  module _ (n : ℕ) (r : Result ℕ Refusal) (q : r ≡ Ok n) (e : scan_of ws r ≡ scan_sheet p ws) where
     accepts : check p ws ≡ good (read_sheet ws)
     unfolding check judged
     accepts = ap (λ (t : Scan). judged t (read_sheet ws)) (sym e ∙ ap (scan_of ws) q)
@@ -376,7 +403,7 @@ module _ (p : ℕ) (ws : List ℕ) where
       abbrev head : Head
       head = record { records = get_or ws 1 0; constraints = get_or ws 2 0; interactions = get_or ws 3 0; start = b; words = l }
 
-      pub is_head : checked_outcome (Sheet head) ≡ check_call p ws
+      pub is_head : checked_outcome (Ok head) ≡ check_call p ws
       is_head =
           let c = check_sound p ws (read_sheet ws) accepts in
           go (read_sheet ws) c.0 c.1.0 c.1.2
@@ -384,7 +411,7 @@ module _ (p : ℕ) (ws : List ℕ) where
           ∙ check_told p ws
         where
           go : (s : semantics.Sheet) → Inside p s → (k : ℕ) → ws ≡ encode s ++ replicate k 0
-              → checked_outcome (Sheet head) ≡ told (good s)
+              → checked_outcome (Ok head) ≡ told (good s)
           go s h k w =
               let zs : List ℕ = replicate k 0 in
               let c₁ : get_or ws 1 0 ≡ length s.records = ap (λ (u : List ℕ). get_or u 1 0) w ∙ unfold encode head_words in refl in
@@ -398,4 +425,4 @@ module _ (p : ℕ) (ws : List ℕ) where
               ∙ (λ i. scan_parts 6 (λ own. interaction_tests (c₁ i)) (c₃ i) 0
               (scan_words 6 (replicate (c₂ i) (refers (c₁ i))) (scan_parts 5 (record_tests p) (c₁ i) 0 (scan_words 3 head_tests (reading 0 (w i))))))
               ∙ scan_to_end p s h zs) in
-              λ i. checked_outcome (Sheet (record { records = c₁ i; constraints = c₂ i; interactions = c₃ i; start = eb i; words = el i }))
+              λ i. checked_outcome (Ok (record { records = c₁ i; constraints = c₂ i; interactions = c₃ i; start = eb i; words = el i }))

@@ -4,15 +4,14 @@
 ghost use Rattle.std.specs.Prelude.{◌≡◌};
 ghost use Rattle.semantics.specs.Check.{prime_of};
 ghost use Rattle.semantics.specs.Call.{check_call};
-ghost use Rattle.sheet.specs.Replies.{checked_outcome, checked_refusal};
+ghost use Rattle.sheet.specs.Replies.{checked_outcome};
 
 mod scan;
 
 use answers::Refusal;
-use scan::Scanned;
 
 // What the check hands on of a sheet: the counts, where the interactions start, and the words without spare ones.
-#[derive(Clone, Copy)]
+#[derive(Clone, Copy, Debug, PartialEq, Eq)]
 pub struct Head {
     pub records: usize,
     pub constraints: usize,
@@ -21,57 +20,38 @@ pub struct Head {
     pub words: usize,
 }
 
-#[derive(Clone, Copy)]
-pub enum Checked {
-    Sheet(Head),
-    Refused(Refusal),
-}
-
 // The sheet check: words are read from the front and the first that fails decides.
-pub fn check_sheet(s: &[u32]) -> Checked
+pub fn check_sheet(s: &[u32]) -> Result<Head, Refusal>
     ensures { checked_outcome result ≡ check_call (prime_of s.now) s.now }
 {
     let head = scan::check_head(s);
-    let Scanned::Next(first) = head else {
-        return scan::refused(head);
+    let Ok(first) = head else {
+        return Err(head.unwrap_err());
     };
-    let records = answers::wide(s[1]);
-    let constraints = answers::wide(s[2]);
-    let interactions = answers::wide(s[3]);
+    let records = s[1] as usize;
+    let constraints = s[2] as usize;
+    let interactions = s[3] as usize;
     let all_records = scan::check_records(s, first, records);
-    let Scanned::Next(references) = all_records else {
-        return scan::refused(all_records);
+    let Ok(references) = all_records else {
+        return Err(all_records.unwrap_err());
     };
     let all_constraints = scan::check_references(s, references, constraints, records);
-    let Scanned::Next(start) = all_constraints else {
-        return scan::refused(all_constraints);
+    let Ok(start) = all_constraints else {
+        return Err(all_constraints.unwrap_err());
     };
     let all_interactions = scan::check_interactions(s, start, interactions, records);
-    let Scanned::Next(words) = all_interactions else {
-        return scan::refused(all_interactions);
+    let Ok(words) = all_interactions else {
+        return Err(all_interactions.unwrap_err());
     };
     let spare = scan::check_spare(s, words);
-    let Scanned::Next(_end) = spare else {
-        return scan::refused(spare);
+    let Ok(_end) = spare else {
+        return Err(spare.unwrap_err());
     };
-    Checked::Sheet(Head {
-        records: records,
-        constraints: constraints,
-        interactions: interactions,
-        start: start,
-        words: words,
+    Ok(Head {
+        records,
+        constraints,
+        interactions,
+        start,
+        words,
     })
-}
-
-// The refusal of a sheet that was refused.
-pub fn refusal_of(checked: Checked) -> Refusal
-    ensures { result ≡ checked_refusal checked }
-{
-    match checked {
-        Checked::Refused(r) => r,
-        Checked::Sheet(_) => Refusal {
-            number: 0,
-            place: 0,
-        },
-    }
 }

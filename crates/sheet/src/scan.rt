@@ -1,347 +1,288 @@
 // The check from the front: the first word that fails decides.
-ghost use Rattle.std.specs.Prelude.{◌≡◌, [], ◌∷◌, map, true, ◌&&◌, ◌+◌, ◌≤◌, eqb, leb, length, drop, replicate};
+ghost use Rattle.std.specs.Prelude.{◌≡◌, Bool, List, ℕ, [], ◌∷◌, map, true, ◌+◌, ◌≤◌, eqb, leb, length, drop, replicate};
 ghost use Rattle.semantics.specs.Arithmetic.{prime};
 ghost use Rattle.semantics.specs.Sheet.{fits, row, record_tests, interaction_tests, head_tests, refers};
 ghost use Rattle.semantics.specs.Check.{prime_of, reading, scan_words, scan_part, scan_parts, scan_spare};
-ghost use Rattle.sheet.specs.Scans.{scan_of, Ends, EndsAt, refused_of};
+ghost use Rattle.answers.specs.Replies.{number_of};
+ghost use Rattle.sheet.specs.Scans.{scan_of, Ends, EndsAt, Judged, Callable, Scans, use_of, IsRow};
 
-use crate::Checked;
-use answers::Refusal;
+use answers::{Reason, Refusal};
 
 const PRIME: u32 = 2013265921;
 
-// How each kind uses its words a to d: 0 not at all, 1 an entry, 2 a part, 3 an offset, 4 any word, 5 a constant, 6 a child.
-const USES: [[u8; 4]; 9] = [
-    [1, 2, 3, 4],
-    [0, 0, 0, 0],
-    [0, 0, 0, 0],
-    [0, 0, 0, 0],
-    [5, 0, 0, 0],
-    [6, 6, 4, 0],
-    [6, 6, 4, 0],
-    [6, 0, 4, 0],
-    [6, 6, 4, 0],
+// What a word of a record is.
+#[derive(Clone, Copy, Debug, PartialEq, Eq)]
+pub enum Use {
+    Unused,
+    Entry,
+    Part,
+    Offset,
+    Any,
+    Constant,
+    Child,
+}
+
+// How each kind uses its words a to d.
+const USES: [[Use; 4]; 9] = [
+    [Use::Entry, Use::Part, Use::Offset, Use::Any],
+    [Use::Unused, Use::Unused, Use::Unused, Use::Unused],
+    [Use::Unused, Use::Unused, Use::Unused, Use::Unused],
+    [Use::Unused, Use::Unused, Use::Unused, Use::Unused],
+    [Use::Constant, Use::Unused, Use::Unused, Use::Unused],
+    [Use::Child, Use::Child, Use::Any, Use::Unused],
+    [Use::Child, Use::Child, Use::Any, Use::Unused],
+    [Use::Child, Use::Unused, Use::Any, Use::Unused],
+    [Use::Child, Use::Child, Use::Any, Use::Unused],
 ];
 
-// The index of the next word to judge, or the refusal.
-#[derive(Clone, Copy)]
-pub enum Scanned {
-    Next(usize),
-    Stop(Refusal),
-}
-
 // A word of record `own`, whose word a is given, used as `how` says.
-fn word_fits(how: u8, own: usize, a: u32, w: u32) -> bool
-    ensures { result ≡ fits prime own a how w }
+fn word_fits(how: Use, own: usize, a: u32, w: u32) -> bool
+    ensures { result ≡ fits prime own a (use_of how) w }
 {
-    if how == 0 {
-        return w == 0;
+    match how {
+        Use::Unused => w == 0,
+        Use::Entry => w <= 3,
+        Use::Part => a == 1 || w == 0,
+        Use::Offset => a <= 1 || w == 0,
+        Use::Any => true,
+        Use::Constant => w < PRIME,
+        Use::Child => (w as usize) < own,
     }
-    if how == 1 {
-        return w <= 3;
-    }
-    if how == 2 {
-        return a == 1 || w == 0;
-    }
-    if how == 3 {
-        return a <= 1 || w == 0;
-    }
-    if how == 5 {
-        return w < PRIME;
-    }
-    if how == 6 {
-        return answers::wide(w) < own;
-    }
-    true
 }
 
-fn is_kind(kind: usize) -> bool
-    ensures { result ≡ leb 1 kind && leb kind 9 }
+// The row of a kind, where there is one.
+fn row_of(kind: usize) -> Option<[Use; 4]>
+    ensures { IsRow kind result }
 {
-    if kind < 1 {
-        return false;
+    if kind < 1 || 9 < kind {
+        return None;
     }
-    kind <= 9
+    Some(USES[kind - 1])
 }
 
-// The row of a kind.
-fn row_of(kind: usize) -> [u8; 4]
-    requires { (1 ≤ kind) × (kind ≤ 9) }
-    ensures { result ≡ row kind }
-{
-    USES[kind - 1]
-}
-
-// One word of a record.
-fn check_word(s: &[u32], at: usize, how: u8, own: usize, a: u32) -> Scanned
-    requires { at ≤ length s.now }
-    ensures { (scan_of s.now result ≡ scan_words 5 (fits (prime_of s.now) own a how ∷ []) (reading at (drop at s.now)))
-        × Ends s.now result }
+// One word, judged by a test.
+fn check_one<F: FnOnce(u32) -> bool>(
+    s: &[u32],
+    at: usize,
+    reason: Reason,
+    passes: F,
+) -> Result<usize, Refusal>
+    requires { (at ≤ length s.now) × F.IsAlwaysCallable passes }
+    ensures { Judged s.now at reason (F.post passes) result }
 {
     if s.len() <= at {
-        return Scanned::Stop(Refusal {
-            number: 4,
+        return Err(Refusal {
+            reason: Reason::PastEnd,
             place: at,
         });
     }
-    if word_fits(how, own, a, s[at]) {
-        return Scanned::Next(at + 1);
+    if passes(s[at]) {
+        return Ok(at + 1);
     }
-    Scanned::Stop(Refusal {
-        number: 5,
-        place: at,
-    })
+    Err(Refusal { reason, place: at })
+}
+
+// One word of a record.
+fn check_word(s: &[u32], at: usize, how: Use, own: usize, a: u32) -> Result<usize, Refusal>
+    requires { at ≤ length s.now }
+    ensures { (scan_of s.now result ≡ scan_words 5 (fits (prime_of s.now) own a (use_of how) ∷ []) (reading at (drop at s.now)))
+        × Ends s.now result }
+{
+    check_one(s, at, Reason::WrongRecord, |w| word_fits(how, own, a, w))
 }
 
 // The words a to d of a record, used as the row of its kind says.
-fn check_row(s: &[u32], at: usize, row: [u8; 4], own: usize, a: u32) -> Scanned
+fn check_row(s: &[u32], at: usize, row: [Use; 4], own: usize, a: u32) -> Result<usize, Refusal>
     requires { at ≤ length s.now }
-    ensures { (scan_of s.now result ≡ scan_words 5 (map (fits (prime_of s.now) own a) row) (reading at (drop at s.now)))
+    ensures { (scan_of s.now result ≡ scan_words 5 (map (fits (prime_of s.now) own a) (map use_of row)) (reading at (drop at s.now)))
         × Ends s.now result }
 {
     let mut next = at;
-    let mut j = 0;
-    while j < 4 {
-        let r = check_word(s, next, row[j], own, a);
-        let Scanned::Next(n) = r else {
+    for how in row {
+        let r = check_word(s, next, how, own, a);
+        let Ok(n) = r else {
             return r;
         };
         next = n;
-        j += 1;
     }
-    Scanned::Next(next)
+    Ok(next)
 }
 
 // A record: its kind, then its words a to d by the row of that kind.
-fn check_record(s: &[u32], at: usize, own: usize) -> Scanned
+fn check_record(s: &[u32], at: usize, own: usize) -> Result<usize, Refusal>
     requires { at ≤ length s.now }
     ensures { (scan_of s.now result ≡ scan_part 5 (record_tests (prime_of s.now) own) (reading at (drop at s.now)))
         × Ends s.now result }
 {
     if s.len() <= at {
-        return Scanned::Stop(Refusal {
-            number: 4,
+        return Err(Refusal {
+            reason: Reason::PastEnd,
             place: at,
         });
     }
-    let kind = answers::wide(s[at]);
-    if !is_kind(kind) {
-        return Scanned::Stop(Refusal {
-            number: 5,
+    let Some(row) = row_of(s[at] as usize) else {
+        return Err(Refusal {
+            reason: Reason::WrongRecord,
             place: at,
         });
-    }
+    };
     let first = at + 1;
     if s.len() <= first {
-        return Scanned::Stop(Refusal {
-            number: 4,
+        return Err(Refusal {
+            reason: Reason::PastEnd,
             place: first,
         });
     }
-    let row = row_of(kind);
     check_row(s, first, row, own, s[first])
 }
 
+// Parts, one behind the other, each judged by its number.
+fn check_parts<F: Fn(usize, usize) -> Result<usize, Refusal>>(
+    s: &[u32],
+    at: usize,
+    count: usize,
+    check: F,
+) -> Result<usize, Refusal>
+    requires { (at ≤ length s.now) × Callable s.now (F.pre check) (F.post check) }
+    ensures { (n : ℕ) (tests : ℕ → List ℕ → List (ℕ → Bool)) → Scans s.now count n tests (F.post check)
+        → (scan_of s.now result ≡ scan_parts n tests count 0 (reading at (drop at s.now))) × Ends s.now result }
+{
+    let mut next = at;
+    for own in 0..count {
+        let r = check(next, own);
+        let Ok(n) = r else {
+            return r;
+        };
+        next = n;
+    }
+    Ok(next)
+}
+
 // The records, from the front.
-pub fn check_records(s: &[u32], at: usize, count: usize) -> Scanned
+pub fn check_records(s: &[u32], at: usize, count: usize) -> Result<usize, Refusal>
     requires { at ≤ length s.now }
     ensures { (scan_of s.now result ≡ scan_parts 5 (record_tests (prime_of s.now)) count 0 (reading at (drop at s.now)))
         × Ends s.now result }
 {
-    let mut next = at;
-    let mut own = 0;
-    while own < count {
-        let r = check_record(s, next, own);
-        let Scanned::Next(n) = r else {
-            return r;
-        };
-        next = n;
-        own += 1;
-    }
-    Scanned::Next(next)
+    check_parts(s, at, count, |next, own| check_record(s, next, own))
 }
 
 // Words that name records, of which there are `records`.
-pub fn check_references(s: &[u32], at: usize, count: usize, records: usize) -> Scanned
+pub fn check_references(
+    s: &[u32],
+    at: usize,
+    count: usize,
+    records: usize,
+) -> Result<usize, Refusal>
     requires { at ≤ length s.now }
     ensures { (scan_of s.now result ≡ scan_words 6 (replicate count (refers records)) (reading at (drop at s.now)))
         × Ends s.now result × EndsAt (at + count) result }
 {
-    let mut i = at;
-    let mut k = 0;
-    while k < count {
-        if s.len() <= i {
-            return Scanned::Stop(Refusal {
-                number: 4,
-                place: i,
-            });
-        }
-        if records <= answers::wide(s[i]) {
-            return Scanned::Stop(Refusal {
-                number: 6,
-                place: i,
-            });
-        }
-        i += 1;
-        k += 1;
+    for k in 0..count {
+        let r = check_one(s, at + k, Reason::WrongName, |w| (w as usize) < records);
+        let Ok(_next) = r else {
+            return r;
+        };
     }
-    Scanned::Next(i)
+    Ok(at + count)
 }
 
 // A word that is at most a limit.
-fn check_limit(s: &[u32], at: usize, number: u32, limit: u32) -> Scanned
+fn check_limit(s: &[u32], at: usize, reason: Reason, limit: u32) -> Result<usize, Refusal>
     requires { at ≤ length s.now }
-    ensures { (scan_of s.now result ≡ scan_words number ((λ w. leb w limit) ∷ []) (reading at (drop at s.now)))
+    ensures { (scan_of s.now result ≡ scan_words (number_of reason) ((λ w. leb w limit) ∷ []) (reading at (drop at s.now)))
         × Ends s.now result × EndsAt (at + 1) result }
 {
-    if s.len() <= at {
-        return Scanned::Stop(Refusal {
-            number: 4,
-            place: at,
-        });
-    }
-    if limit < s[at] {
-        return Scanned::Stop(Refusal {
-            number: number,
-            place: at,
-        });
-    }
-    Scanned::Next(at + 1)
+    check_one(s, at, reason, |w| w <= limit)
 }
 
 // A word that may be any.
-fn check_any(s: &[u32], at: usize) -> Scanned
+fn check_any(s: &[u32], at: usize) -> Result<usize, Refusal>
     requires { at ≤ length s.now }
     ensures { (scan_of s.now result ≡ scan_words 6 ((λ w. true) ∷ []) (reading at (drop at s.now)))
         × Ends s.now result × EndsAt (at + 1) result }
 {
-    if s.len() <= at {
-        return Scanned::Stop(Refusal {
-            number: 4,
-            place: at,
-        });
-    }
-    Scanned::Next(at + 1)
+    check_one(s, at, Reason::WrongName, |_| true)
 }
 
 // An interaction: bus, weight, count, message length, then as many references as that says.
-fn check_interaction(s: &[u32], at: usize, records: usize) -> Scanned
+fn check_interaction(s: &[u32], at: usize, records: usize) -> Result<usize, Refusal>
     requires { at ≤ length s.now }
     ensures { (scan_of s.now result ≡ scan_part 6 (interaction_tests records) (reading at (drop at s.now)))
         × Ends s.now result }
 {
-    let bus = check_limit(s, at, 6, 65535);
-    let Scanned::Next(one) = bus else {
+    let bus = check_limit(s, at, Reason::WrongName, 65535);
+    let Ok(one) = bus else {
         return bus;
     };
     let weight = check_any(s, one);
-    let Scanned::Next(two) = weight else {
+    let Ok(two) = weight else {
         return weight;
     };
     let count = check_references(s, two, 1, records);
-    let Scanned::Next(three) = count else {
+    let Ok(three) = count else {
         return count;
     };
-    let length = check_limit(s, three, 6, 63);
-    let Scanned::Next(four) = length else {
+    let length = check_limit(s, three, Reason::WrongName, 63);
+    let Ok(four) = length else {
         return length;
     };
-    check_references(s, four, answers::wide(s[three]), records)
+    check_references(s, four, s[three] as usize, records)
 }
 
 // The interactions, from the front.
-pub fn check_interactions(s: &[u32], at: usize, count: usize, records: usize) -> Scanned
+pub fn check_interactions(
+    s: &[u32],
+    at: usize,
+    count: usize,
+    records: usize,
+) -> Result<usize, Refusal>
     requires { at ≤ length s.now }
     ensures { (scan_of s.now result ≡ scan_parts 6 (λ own. interaction_tests records) count 0 (reading at (drop at s.now)))
         × Ends s.now result }
 {
-    let mut next = at;
-    let mut i = 0;
-    while i < count {
-        let r = check_interaction(s, next, records);
-        let Scanned::Next(n) = r else {
-            return r;
-        };
-        next = n;
-        i += 1;
-    }
-    Scanned::Next(next)
+    check_parts(s, at, count, |next, _| check_interaction(s, next, records))
 }
 
 // The spare words: at most 126, all zero.
-pub fn check_spare(s: &[u32], at: usize) -> Scanned
+pub fn check_spare(s: &[u32], at: usize) -> Result<usize, Refusal>
     requires { at ≤ length s.now }
     ensures { scan_of s.now result ≡ scan_spare 126 (reading at (drop at s.now)) }
 {
-    let mut i = at;
-    let mut k: usize = 0;
-    while i < s.len() {
-        if 126 <= k {
-            return Scanned::Stop(Refusal {
-                number: 7,
+    for i in at..s.len() {
+        if at + 126 <= i || s[i] != 0 {
+            return Err(Refusal {
+                reason: Reason::WrongSpare,
                 place: i,
             });
         }
-        if s[i] != 0 {
-            return Scanned::Stop(Refusal {
-                number: 7,
-                place: i,
-            });
-        }
-        i += 1;
-        k += 1;
     }
-    Scanned::Next(i)
+    Ok(s.len())
 }
 
 // The form is 1.
-fn check_form(s: &[u32]) -> Scanned
+fn check_form(s: &[u32]) -> Result<usize, Refusal>
     ensures { (scan_of s.now result ≡ scan_words 3 ((λ w. eqb w 1) ∷ []) (reading 0 s.now))
         × Ends s.now result × EndsAt 1 result }
 {
-    if s.len() <= 0 {
-        return Scanned::Stop(Refusal {
-            number: 4,
-            place: 0,
-        });
-    }
-    if s[0] != 1 {
-        return Scanned::Stop(Refusal {
-            number: 3,
-            place: 0,
-        });
-    }
-    Scanned::Next(1)
+    check_one(s, 0, Reason::WrongHead, |w| w == 1)
 }
 
 // The head: form, records, constraints, interactions.
-pub fn check_head(s: &[u32]) -> Scanned
+pub fn check_head(s: &[u32]) -> Result<usize, Refusal>
     ensures { (scan_of s.now result ≡ scan_words 3 head_tests (reading 0 s.now)) × Ends s.now result × EndsAt 4 result }
 {
     let form = check_form(s);
-    let Scanned::Next(one) = form else {
+    let Ok(one) = form else {
         return form;
     };
-    let records = check_limit(s, one, 3, 4096);
-    let Scanned::Next(two) = records else {
+    let records = check_limit(s, one, Reason::WrongHead, 4096);
+    let Ok(two) = records else {
         return records;
     };
-    let constraints = check_limit(s, two, 3, 1024);
-    let Scanned::Next(three) = constraints else {
+    let constraints = check_limit(s, two, Reason::WrongHead, 1024);
+    let Ok(three) = constraints else {
         return constraints;
     };
-    check_limit(s, three, 3, 1024)
-}
-
-// The refusal of a step that stopped.
-pub fn refused(r: Scanned) -> Checked
-    ensures { result ≡ refused_of r }
-{
-    match r {
-        Scanned::Stop(v) => Checked::Refused(v),
-        Scanned::Next(at) => Checked::Refused(Refusal {
-            number: 0,
-            place: at,
-        }),
-    }
+    check_limit(s, three, Reason::WrongHead, 1024)
 }

@@ -10,7 +10,7 @@ use Rattle.block.proofs.words.check_word.Goals as goal
 pub loop-row-init : goal.loop-row-init
 loop-row-init c =
     let a = c.args in
-    (search rules, search rules, search rules, search rules, search rules, omega (arith, rest_all 127 a.bytes.now a.at))
+    (search rules, search rules, search rules, search rules, omega (arith, rest_all 127 a.bytes.now a.at))
 
 pub loop-row-preserved : goal.loop-row-preserved
 loop-row-preserved c =
@@ -24,32 +24,25 @@ loop-row-preserved c =
       search rules,
       search rules,
       search rules,
-      search rules,
-      weighed_more row _ _ _ b.a b.b b.c b.d _ _ _ _ _ _ _ _ b.invariant.5 c.with_word-a.ensures c.with_word-b.ensures
+      weighed_more row _ _ _ b.a b.b b.c b.d _ _ _ _ _ _ _ _ b.invariant.4 c.with_word-a.ensures c.with_word-b.ensures
           c.with_word-c.ensures c.with_word-d.ensures words,
     )
 
 pub overflow_sub-sum : goal.overflow_sub-sum
 overflow_sub-sum c =
-    let end-words : let a = c.args in
-    249 * c.word_at-2.result + 251 * c.word_at-3.result + 253 * c.word_at-4.result ≡ rest 127 a.bytes.now a.at 124 =
-    let a = c.args in
-    last_words a.bytes.now a.at c.word_at-2.ensures c.word_at-3.ensures c.word_at-4.ensures in
-    let rows : c.loop-row.row ≡ 31 =
-    search rules in
     let a = c.args in
     let b = c.loop-row in
-    sums_fit c.args.number (weighted 0 (words_of 127 (drop c.args.at c.args.bytes.now))) b.row a.bytes.now a.at b.a b.b b.c b.d _ _ _ b.invariant.5 rows end-words
+    let end-words : 249 * c.word_at-2.result + 251 * c.word_at-3.result + 253 * c.word_at-4.result ≡ rest 127 a.bytes.now a.at 124 =
+    last_words a.bytes.now a.at c.word_at-2.ensures c.word_at-3.ensures c.word_at-4.ensures in
+    let rows : b.row ≡ 31 = search rules in
+    sums_fit a.number (weighted 0 (words_of 127 (drop a.at a.bytes.now))) b.row a.bytes.now a.at b.a b.b b.c b.d _ _ _ b.invariant.4 rows end-words
 
 pub returns : goal.returns
 returns c =
-    let end-words : let a = c.args in
-    249 * c.word_at-2.result + 251 * c.word_at-3.result + 253 * c.word_at-4.result ≡ rest 127 a.bytes.now a.at 124 =
-    let a = c.args in
-    last_words a.bytes.now a.at c.word_at-2.ensures c.word_at-3.ensures c.word_at-4.ensures in
-    let rows : c.loop-row.row ≡ 31 =
-    search rules in
     let a = c.args in
     let b = c.loop-row in
-    summed c.args.number _ (words_of 127 (drop c.args.at c.args.bytes.now))
-    (sums_taken c.args.number (weighted 0 (words_of 127 (drop c.args.at c.args.bytes.now))) b.row a.bytes.now a.at b.a b.b b.c b.d _ _ _ b.invariant.5 rows end-words)
+    let end-words : 249 * c.word_at-2.result + 251 * c.word_at-3.result + 253 * c.word_at-4.result ≡ rest 127 a.bytes.now a.at 124 =
+    last_words a.bytes.now a.at c.word_at-2.ensures c.word_at-3.ensures c.word_at-4.ensures in
+    let rows : b.row ≡ 31 = search rules in
+    summed a.number _ (words_of 127 (drop a.at a.bytes.now))
+    (sums_taken a.number (weighted 0 (words_of 127 (drop a.at a.bytes.now))) b.row a.bytes.now a.at b.a b.b b.c b.d _ _ _ b.invariant.4 rows end-words)

@@ -1,5 +1,5 @@
 -- Row by row. The loop's invariant: `Weighed`, of the words that are read and those that are left, and each column small enough for one row more (`Low`).
-use Prim.Native.Nat.{ℕ, ◌*◌, ◌-◌, ◌≤◌}
+use Prim.Native.Nat.{ℕ, ◌*◌, ◌≤◌}
 use lib.ListN.{drop}
 use Rattle.semantics.specs.Block.{weighted, words_of}
 use Rattle.block.specs.declared.words.Column.{Column}
@@ -11,8 +11,5 @@ Low row column = (column.sum ≤ 4294967295 * row) × (column.sums ≤ 429496729
 
 abbrev pub invariant-loop-row : goal.invariant-loop-row
 invariant-loop-row l =
-    (l.row ≤ 31) × Low l.row l.a × Low l.row l.b × Low l.row l.c × Low l.row l.d
+    Low l.row l.a × Low l.row l.b × Low l.row l.c × Low l.row l.d
     × Weighed l.row (weighted 0 (words_of 127 (drop l.at l.bytes))) (rest 127 l.bytes l.at (4 * l.row)) l.a l.b l.c l.d
-
-abbrev pub decreases-loop-row : goal.decreases-loop-row
-decreases-loop-row l = 31 - l.row

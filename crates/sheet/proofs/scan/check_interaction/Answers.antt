@@ -25,29 +25,29 @@ returns-in_default c =
 pub returns-in_default-weight : goal.returns-in_default-weight
 returns-in_default-weight c =
     let begin = begins c.args.records c.args.s.now c.args.at c.requires in
-    let bus = left_next begin _ c.check_limit-bus.ensures _ c.in-Next.is in
+    let bus = left_next begin _ c.check_limit-bus.ensures _ c.in-Ok.is in
     left_stops bus _ c.check_any-weight.ensures _ c.in_default-weight.is
 
 pub returns-in_default-count : goal.returns-in_default-count
 returns-in_default-count c =
     let begin = begins c.args.records c.args.s.now c.args.at c.requires in
-    let bus = left_next begin _ c.check_limit-bus.ensures _ c.in-Next.is in
-    let weight = left_next bus _ c.check_any-weight.ensures _ c.in-Next-weight.is in
+    let bus = left_next begin _ c.check_limit-bus.ensures _ c.in-Ok.is in
+    let weight = left_next bus _ c.check_any-weight.ensures _ c.in-Ok-weight.is in
     left_stops weight _ c.check_references-count.ensures _ c.in_default-count.is
 
 pub returns-in_default-length : goal.returns-in_default-length
 returns-in_default-length c =
     let begin = begins c.args.records c.args.s.now c.args.at c.requires in
-    let bus = left_next begin _ c.check_limit-bus.ensures _ c.in-Next.is in
-    let weight = left_next bus _ c.check_any-weight.ensures _ c.in-Next-weight.is in
-    let count = left_next weight _ c.check_references-count.ensures _ c.in-Next-count.is in
+    let bus = left_next begin _ c.check_limit-bus.ensures _ c.in-Ok.is in
+    let weight = left_next bus _ c.check_any-weight.ensures _ c.in-Ok-weight.is in
+    let count = left_next weight _ c.check_references-count.ensures _ c.in-Ok-count.is in
     left_stops count _ c.check_limit-length.ensures _ c.in_default-length.is
 
 pub returns : goal.returns
 returns c =
     let begin = begins c.args.records c.args.s.now c.args.at c.requires in
-    let bus = left_next begin _ c.check_limit-bus.ensures _ c.in-Next.is in
-    let weight = left_next bus _ c.check_any-weight.ensures _ c.in-Next-weight.is in
-    let count = left_next weight _ c.check_references-count.ensures _ c.in-Next-count.is in
-    let length = left_next count _ c.check_limit-length.ensures _ c.in-Next-length.is in
-    (cc (c.check_references.ensures.0, c.wide.ensures, count.stands, length.goes), c.check_references.ensures.1)
+    let bus = left_next begin _ c.check_limit-bus.ensures _ c.in-Ok.is in
+    let weight = left_next bus _ c.check_any-weight.ensures _ c.in-Ok-weight.is in
+    let count = left_next weight _ c.check_references-count.ensures _ c.in-Ok-count.is in
+    let length = left_next count _ c.check_limit-length.ensures _ c.in-Ok-length.is in
+    (cc (c.check_references.ensures.0, count.stands, length.goes), c.check_references.ensures.1)
