@@ -8,10 +8,7 @@ ghost use Rattle.sheet_calls.specs.Replies.{largest};
 fn offset_of(kind: u32, c: u32) -> usize
     ensures { result ≡ cond (eqb kind 1) c 0 }
 {
-    if kind == 1 {
-        return answers::wide(c);
-    }
-    0
+    if kind == 1 { c as usize } else { 0 }
 }
 
 // The largest offset of the records behind the head.
@@ -20,11 +17,9 @@ pub fn largest_offset(s: &[u32], records: usize) -> usize
     ensures { result ≡ largest (read_records records (drop 4 s.now)) }
 {
     let mut most = 0;
-    let mut i = 0;
-    while i < records {
+    for i in 0..records {
         let q = records::record_at(s, i);
-        most = answers::larger(most, offset_of(q.kind, q.c));
-        i += 1;
+        most = most.max(offset_of(q.kind, q.c));
     }
     most
 }

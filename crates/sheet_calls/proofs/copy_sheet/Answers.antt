@@ -18,32 +18,31 @@ pub returns-in_default : goal.returns-in_default
 unfolding conversion_call
 returns-in_default c =
     let a = c.args in
-    sheet_refused prime a.s.now length_of encode a.out.now refl c.check_sheet-checked.ensures c.in_default.is
-    c.refusal_of.ensures
+    sheet_refused prime a.s.now length_of encode a.out.now refl c.check_sheet-checked.ensures c.unwrap_err.ensures
 
 pub returns-then-out-words : goal.returns-then-out-words
 unfolding conversion_call
 returns-then-out-words c =
-    let sheet : (t : Sheet) × (check prime c.args.s.now ≡ good t) × (c.in-Sheet.head ≡ head_of t) =
-    found prime c.args.s.now c.check_sheet-checked.ensures c.in-Sheet.is in
-    let words_are : c.in-Sheet.head.words ≡ length_of sheet.0 =
+    let sheet : (t : Sheet) × (check prime c.args.s.now ≡ good t) × (c.in-Ok.head ≡ head_of t) =
+    found prime c.args.s.now c.check_sheet-checked.ensures c.in-Ok.is in
+    let words_are : c.in-Ok.head.words ≡ length_of sheet.0 =
     ap (λ (h : Head). h.words) sheet.2 in
     sheet_short prime c.args.s.now length_of encode c.args.out.now refl sheet.1 words_are c.if-out-words.true
 
-pub slice_bounds-copy_words-end : goal.slice_bounds-copy_words-end
-slice_bounds-copy_words-end c =
-    let sheet : (t : Sheet) × (check prime c.args.s.now ≡ good t) × (c.in-Sheet.head ≡ head_of t) =
-    found prime c.args.s.now c.check_sheet-checked.ensures c.in-Sheet.is in
+pub slice_bounds-copy_front-end : goal.slice_bounds-copy_front-end
+slice_bounds-copy_front-end c =
+    let sheet : (t : Sheet) × (check prime c.args.s.now ≡ good t) × (c.in-Ok.head ≡ head_of t) =
+    found prime c.args.s.now c.check_sheet-checked.ensures c.in-Ok.is in
     words_inside prime c.args.s.now sheet.1 sheet.2
 
 pub returns : goal.returns
 unfolding conversion_call
 returns c =
-    let sheet : (t : Sheet) × (check prime c.args.s.now ≡ good t) × (c.in-Sheet.head ≡ head_of t) =
-    found prime c.args.s.now c.check_sheet-checked.ensures c.in-Sheet.is in
-    let words_are : c.in-Sheet.head.words ≡ length_of sheet.0 =
+    let sheet : (t : Sheet) × (check prime c.args.s.now ≡ good t) × (c.in-Ok.head ≡ head_of t) =
+    found prime c.args.s.now c.check_sheet-checked.ensures c.in-Ok.is in
+    let words_are : c.in-Ok.head.words ≡ length_of sheet.0 =
     ap (λ (h : Head). h.words) sheet.2 in
-    let copy = c.copy_words in
+    let copy = c.copy_front in
     let t = sheet in
     let front = words_found prime c.args.s.now t.1 t.2 in
     let inside = words_inside prime c.args.s.now t.1 t.2 in

@@ -14,19 +14,18 @@ use Rattle.sheet_calls.proofs.max_rotation.Goals as goal
 pub returns-in_default : goal.returns-in_default
 unfolding max_rotation_call
 returns-in_default c =
-    counted_refused prime c.args.s.now max_rotation c.check_sheet-checked.ensures c.in_default.is
-    c.refusal_of.ensures
+    counted_refused prime c.args.s.now max_rotation c.check_sheet-checked.ensures c.unwrap_err.ensures
 
 pub largest_offset-requires : goal.largest_offset-requires
 largest_offset-requires c =
-    let sheet : (t : Sheet) × (check prime c.args.s.now ≡ good t) × (c.in-Sheet.head ≡ head_of t) =
-    found prime c.args.s.now c.check_sheet-checked.ensures c.in-Sheet.is in
+    let sheet : (t : Sheet) × (check prime c.args.s.now ≡ good t) × (c.in-Ok.head ≡ head_of t) =
+    found prime c.args.s.now c.check_sheet-checked.ensures c.in-Ok.is in
     records_fit prime c.args.s.now sheet.1 sheet.2
 
 pub returns : goal.returns
 unfolding max_rotation_call
 returns c =
-    let sheet : (t : Sheet) × (check prime c.args.s.now ≡ good t) × (c.in-Sheet.head ≡ head_of t) =
-    found prime c.args.s.now c.check_sheet-checked.ensures c.in-Sheet.is in
+    let sheet : (t : Sheet) × (check prime c.args.s.now ≡ good t) × (c.in-Ok.head ≡ head_of t) =
+    found prime c.args.s.now c.check_sheet-checked.ensures c.in-Ok.is in
     let t = sheet in
     counted_found prime c.args.s.now max_rotation t.1 (c.largest_offset.ensures ∙ largest_is prime c.args.s.now t.1 t.2)

@@ -12,11 +12,11 @@ pub returns-in_default : goal.returns-in_default
 unfolding num_constraints_call
 returns-in_default c =
     counted_refused prime c.args.s.now (λ t. length t.constraints) c.check_sheet-checked.ensures
-    c.in_default.is c.refusal_of.ensures
+    c.unwrap_err.ensures
 
 pub returns : goal.returns
 unfolding num_constraints_call
 returns c =
     let ws = c.args.s.now in
-    let t = found prime ws c.check_sheet-checked.ensures c.in-Sheet.is in
+    let t = found prime ws c.check_sheet-checked.ensures c.in-Ok.is in
     counted_found prime ws (λ t. length t.constraints) t.1 (ap (λ (h : Head). h.constraints) t.2)
