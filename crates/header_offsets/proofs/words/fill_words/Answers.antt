@@ -7,7 +7,7 @@ loop-i-init c = filled_none c.args.words.now c.args.n
 pub fill_sixteen-filled-requires : goal.fill_sixteen-filled-requires
 fill_sixteen-filled-requires c =
     let g = c.loop-i.invariant in
-    let k = c.at_most_sixteen-k.ensures in
+    let k = c.min-k.ensures in
     let e = c.take_headers-taken.ensures in
     (vars_room g k e c.requires.1, terms_room g k e c.requires.2)
 
@@ -15,7 +15,7 @@ pub overflow_add-vars : goal.overflow_add-vars
 overflow_add-vars c =
     record {
       fits =
-          vars_fit c.loop-i.invariant c.at_most_sixteen-k.ensures c.take_headers-taken.ensures c.fill_sixteen-filled.ensures
+          vars_fit c.loop-i.invariant c.min-k.ensures c.take_headers-taken.ensures c.fill_sixteen-filled.ensures
           c.requires.1;
     }
 
@@ -23,11 +23,11 @@ pub overflow_add-terms : goal.overflow_add-terms
 overflow_add-terms c =
     record {
       fits =
-          terms_fit c.loop-i.invariant c.at_most_sixteen-k.ensures c.take_headers-taken.ensures
+          terms_fit c.loop-i.invariant c.min-k.ensures c.take_headers-taken.ensures
           c.fill_sixteen-filled.ensures c.requires.2;
     }
 
 pub loop-i-preserved : goal.loop-i-preserved
 loop-i-preserved c =
-    filled_next c.loop-i.invariant c.at_most_sixteen-k.ensures c.take_headers-taken.ensures c.fill_sixteen-filled.ensures
+    filled_next c.loop-i.invariant c.min-k.ensures c.take_headers-taken.ensures c.fill_sixteen-filled.ensures
     c.put_headers.ensures
