@@ -1,5 +1,5 @@
 -- The offsets of headers in words, filled sixteen headers at a time.
-use mathlib.Core.Path.{◌≡◌, refl, sym, ap, ◌∙◌}
+use mathlib.Core.Path.{◌≡◌, refl, sym, ap, subst, ◌∙◌}
 use mathlib.Core.List.{List, ◌++◌, append_assoc}
 use Prim.Native.Nat.{ℕ, ◌+◌, ◌*◌, ◌-◌, ◌≤◌, ◌<◌, ◌^◌, min}
 use native.Mathlib.Omega.{arith}
@@ -129,5 +129,10 @@ module _ {ws₀ : List ℕ} {n : ℕ} {ws : List ℕ} {vars terms i : ℕ} (g : 
         ∙ sym (append_assoc (front i ws₀) (header_words Y) (drop (4 * (i + k)) ws₀)) ∙ ap (λ (r : List ℕ). r ++ drop (4 * (i + k)) ws₀) (sym q)
 
     pub filled_next : {ws' : List ℕ} → ws' ≡ take (4 * i) ws ++ (header_words (take k filled) ++ drop (4 * i + 4 * length (take k filled)) ws)
-        → Filled ws₀ n ws' (last.var_offset + num_vars_of last) (last.term_offset + num_terms_of last) (i + k)
-    filled_next w = record { upto = upto_next; words_are = words_next w; vars_are = vars_next; terms_are = terms_next }
+        → {j : ℕ} → i + k ≡ j → Filled ws₀ n ws' (last.var_offset + num_vars_of last) (last.term_offset + num_terms_of last) j
+    filled_next {ws'} w z =
+        subst (λ (j : ℕ). Filled ws₀ n ws' (last.var_offset + num_vars_of last) (last.term_offset + num_terms_of last) j) z
+        (record { upto = upto_next; words_are = words_next w; vars_are = vars_next; terms_are = terms_next })
+
+pub filled_all : {ws₀ : List ℕ} {n : ℕ} {ws : List ℕ} {vars terms i : ℕ} → Filled ws₀ n ws vars terms i → n ≤ i → ws ≡ filled_words n ws₀
+filled_all {ws₀} {n} {i} g h = let u = g.upto in let e : i ≡ n = omega arith in g.words_are ∙ ap (λ (j : ℕ). filled_words j ws₀) e

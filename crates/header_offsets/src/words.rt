@@ -58,8 +58,7 @@ pub fn fill_words(words: &mut [u32], n: usize)
 {
     let mut vars: u32 = 0;
     let mut terms: u32 = 0;
-    let mut i: usize = 0;
-    while i < n {
+    for i in (0..n).step_by(16) {
         let k = (n - i).min(16);
         let taken = take_headers(words, 4 * i, k);
         let filled = crate::fill_sixteen(taken, vars, terms);
@@ -67,6 +66,5 @@ pub fn fill_words(words: &mut [u32], n: usize)
         let last = filled[15];
         vars = last.var_offset + last.num_vars;
         terms = last.term_offset + last.num_terms;
-        i += k;
     }
 }
