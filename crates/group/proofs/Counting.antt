@@ -18,8 +18,8 @@ use Rattle.semantics.proofs.Sorting.{all_within}
 use Rattle.semantics.proofs.Order.{before_vars_trans, before_vars_total}
 use Rattle.monomial.specs.declared.vars.Order.{Order}
 use Rattle.monomial.specs.declared.vars.Order.TheVariants.{Before, Same, After}
-use Rattle.group.specs.declared.Tallied.TheVariants.{Headers}
-use Rattle.group.specs.declared.Found.TheVariants.{There, Missing}
+use Rattle.std.specs.Prelude.{Some}
+use Rattle.std.specs.Prelude.{Ok, Err}
 use Rattle.monomial.specs.Words.{read_monomial}
 use Rattle.monomial.specs.Orders.{chosen, order_of}
 use Rattle.group.specs.Grouped.{Tally, tally, Ascends, tallied_total, none, tally_row, tallied, RowInside, Rows, Spot, Between, CountedMore}
@@ -40,10 +40,6 @@ order_told v w o e = subst (Told v w) (sym e) (go (before_vars v w) (before_vars
     go true t d e = d
     go false true d e = e
     go false false d e = sym (before_vars_total v w d e)
-
-pub order_words : (v P : List ℕ) (o : Order) (x x' y y' : ℕ) → o ≡ order_of v (take y (drop (x + 2) P)) → x ≡ x' → y ≡ y'
-    → o ≡ order_of v (take y' (drop (x' + 2) P))
-order_words v P o x x' y y' e f g = e ∙ ap (λ (i : ℕ). order_of v (take y (drop (i + 2) P))) f ∙ ap (λ (i : ℕ). order_of v (take i (drop (x' + 2) P))) g
 
 pub told_at : (n k : ℕ) (H P v : List ℕ) (o p : Order) → k < n → o ≡ order_of v (take (get_or H (4 * k + 2) 0) (drop (get_or H (4 * k) 0 + 2) P)) → o ≡ p
     → Told v (get_or (tallied n H P) k none).vars p
@@ -113,7 +109,7 @@ tally_there v (g ∷ gs) (suc k) a h e =
     let b = subst (λ (w : List ℕ). before_vars g.vars w ≡ true) e (all_within (λ (x : Tally). before_vars g.vars x.vars ≡ true) gs k none a.0 (omega arith)) in
     tally_more v g gs b ∙ ap (λ (l : List Tally). g ∷ l) (tally_there v gs k a.1 (omega arith) e)
 
-pub tally_missing : (v : List ℕ) (gs : List Tally) (k : ℕ) → Spot v gs (Missing k) → tally v gs ≡ take k gs ++ (once v ∷ drop k gs)
+pub tally_missing : (v : List ℕ) (gs : List Tally) (k : ℕ) → Spot v gs (Err k) → tally v gs ≡ take k gs ++ (once v ∷ drop k gs)
 tally_missing v [] zero s = tally_nil v
 tally_missing v (g ∷ gs) zero s = tally_less v g gs (s.2 0 (omega arith) (omega arith))
 tally_missing v [] (suc k) s = absurd (omega (arith, s.0))
@@ -161,14 +157,14 @@ tally_row_count P row x h =
 
 -- One count more in row k.
 module _ (n k : ℕ) (H P v : List ℕ) (r : Rows n H P) where
-  pub there_lt : Spot v (tallied n H P) (There k) → k < n
+  pub there_lt : Spot v (tallied n H P) (Ok k) → k < n
   there_lt s = subst (λ (m : ℕ). k < m) (tallied_length n H P) s.0
 
   -- Its count is at most the number of all monomials.
-  pub there_small : Spot v (tallied n H P) (There k) → get_or H (4 * k + 3) 0 ≤ tallied_total (tallied n H P)
+  pub there_small : Spot v (tallied n H P) (Ok k) → get_or H (4 * k + 3) 0 ≤ tallied_total (tallied n H P)
   there_small s = subst (λ (x : ℕ). x ≤ tallied_total (tallied n H P)) (count_at n k H P (there_lt s)) (total_at (tallied n H P) k s.0)
 
-  pub count_more : Spot v (tallied n H P) (There k) → CountedMore (set H (4 * k + 3) (get_or H (4 * k + 3) 0 + 1)) P (tally v (tallied n H P)) (Headers n)
+  pub count_more : Spot v (tallied n H P) (Ok k) → CountedMore (set H (4 * k + 3) (get_or H (4 * k + 3) 0 + 1)) P (tally v (tallied n H P)) (Some n)
   unfolding tallied
   count_more s =
       let h = there_lt s in

@@ -7,18 +7,16 @@ use lib.ListN.{length, get_or, take, drop}
 use Rattle.monomial.specs.declared.vars.Order.{Order}
 use Rattle.monomial.specs.declared.vars.Order.TheVariants.{Before, Same, After}
 use Rattle.monomial.specs.Orders.{order_of}
-use Rattle.group.specs.declared.Found.TheVariants.{There}
+use Rattle.std.specs.Prelude.{Ok}
 use Rattle.group.specs.Grouped.{tallied, Rows, Spot, Between}
 use Rattle.group.specs.Waiting.{pool_vars}
 use Rattle.group.proofs.Headers.{tallied_length, inside_at}
-use Rattle.group.proofs.Counting.{order_words, told_at, between_all, between_low, between_high, read_vars}
+use Rattle.group.proofs.Counting.{told_at, between_all, between_low, between_high, read_vars}
 
 -- Their order, seen from a row, in words that were read.
-pub order_read : (P : List ℕ) (at : ℕ) (o : Order) (z x x' y y' : ℕ) → o ≡ order_of (take z (drop (at + 2) P)) (take y (drop (x + 2) P))
-    → z ≡ get_or P at 0 → x ≡ x' → y ≡ y' → o ≡ order_of (pool_vars P at) (take y' (drop (x' + 2) P))
-order_read P at o z x x' y y' e d f g =
-    let v : take z (drop (at + 2) P) ≡ pool_vars P at = ap (λ (i : ℕ). take i (drop (at + 2) P)) d ∙ sym (read_vars P at) in
-    order_words (pool_vars P at) P o x x' y y' (e ∙ ap (λ (l : List ℕ). order_of l (take y (drop (x + 2) P))) v) f g
+pub order_read : (P : List ℕ) (at : ℕ) (o : Order) (x y : ℕ) → o ≡ order_of (take (get_or P at 0) (drop (at + 2) P)) (take y (drop (x + 2) P))
+    → o ≡ order_of (pool_vars P at) (take y (drop (x + 2) P))
+order_read P at o x y e = e ∙ ap (λ (l : List ℕ). order_of l (take y (drop (x + 2) P))) (sym (read_vars P at))
 
 -- To begin with, all rows are to be searched.
 pub rows_all : (n at : ℕ) (H P : List ℕ) → Between (pool_vars P at) (tallied n H P) 0 n
@@ -36,7 +34,7 @@ module _ (n at : ℕ) (H P : List ℕ) (r : Rows n H P) where
     inside : k < n
     inside = omega (arith, b.1, tallied_length n H P)
 
-    pub row_same : o ≡ Same → Spot (pool_vars P at) (tallied n H P) (There k)
+    pub row_same : o ≡ Same → Spot (pool_vars P at) (tallied n H P) (Ok k)
     row_same q = (omega (arith, b.1), told_at n k H P (pool_vars P at) o Same inside e q)
 
     pub row_before : o ≡ Before → Between (pool_vars P at) (tallied n H P) low k
