@@ -1,11 +1,13 @@
 -- The rows while monomials are counted: the search for variables, one count more, one row more.
 use mathlib.Core.Path.{◌≡◌, refl, sym, ◌∙◌, ap, subst}
-use mathlib.Core.Logic.{◌⊎◌, inl, inr}
 use mathlib.Core.Bool.{Bool, true, false}
 use mathlib.Core.List.{List, [], ◌∷◌, ◌++◌, map}
 use Prim.Native.Nat.{ℕ, zero, suc, ◌+◌, ◌*◌, ◌-◌, ◌≤◌, ◌<◌}
 use native.Mathlib.Numerals.{add-one}
 use native.Mathlib.Omega.{arith}
+use lib.Dec.{ltb}
+use borrow.Author.Count.{below_more}
+use borrow.Author.Tests.{ltb-true, ltb-false}
 use lib.ListN.{length, get_or, take, drop, set, length-drop, length-set}
 use lib.Seq.{drop-set-lt, get_or-set_other, get_or-set_same, drop-drop, length-take-le, get_or-drop}
 use Rattle.slices.proofs.Rows.{rows_length, rows_at, word_at, rows_set}
@@ -63,42 +65,20 @@ module _ (v : List ℕ) (gs : List Tally) where
   between_low low mid high a b h l k = (h, omega (arith, b.1), b.2, behind)
     where
       behind : (i : ℕ) → mid ≤ i → i < length gs → before_vars v (get_or gs i none).vars ≡ true
-      behind i q r = go (split mid i q)
+      behind i q r = go (ltb mid i) refl
         where
-          split : (x y : ℕ) → x ≤ y → (x ≡ y) ⊎ (x < y)
-          split zero zero s = inl refl
-          split zero (suc y) s = inr (omega arith)
-          split (suc x) zero s = absurd (omega arith)
-          split (suc x) (suc y) s = more (split x y (omega arith))
-            where
-              more : (x ≡ y) ⊎ (x < y) → (suc x ≡ suc y) ⊎ (suc x < suc y)
-              more (inl e) = inl (ap suc e)
-              more (inr e) = inr (omega arith)
-
-          go : (mid ≡ i) ⊎ (mid < i) → before_vars v (get_or gs i none).vars ≡ true
-          go (inl e) = subst (λ (j : ℕ). before_vars v (get_or gs j none).vars ≡ true) e k
-          go (inr e) = before_vars_trans v (get_or gs mid none).vars (get_or gs i none).vars k (ascends_at gs mid i a e r)
+          go : (x : Bool) → ltb mid i ≡ x → before_vars v (get_or gs i none).vars ≡ true
+          go true e = before_vars_trans v (get_or gs mid none).vars (get_or gs i none).vars k (ascends_at gs mid i a (ltb-true mid i e) r)
+          go false e =
+              let f : i ≤ mid = ltb-false mid i e in
+              let d : mid ≡ i = omega arith in
+              subst (λ (j : ℕ). before_vars v (get_or gs j none).vars ≡ true) d k
 
   pub between_high : (low mid high : ℕ) → Ascends gs → Between v gs low high → low ≤ mid → mid < high
       → before_vars (get_or gs mid none).vars v ≡ true → Between v gs (mid + 1) high
-  between_high low mid high a b h l k = (omega arith, b.1, front, b.3)
-    where
-      split : (x y : ℕ) → x < suc y → (x ≡ y) ⊎ (x < y)
-      split zero zero s = inl refl
-      split zero (suc y) s = inr (omega arith)
-      split (suc x) zero s = absurd (omega arith)
-      split (suc x) (suc y) s = more (split x y (omega arith))
-        where
-          more : (x ≡ y) ⊎ (x < y) → (suc x ≡ suc y) ⊎ (suc x < suc y)
-          more (inl e) = inl (ap suc e)
-          more (inr e) = inr (omega arith)
-
-      front : (i : ℕ) → i < mid + 1 → before_vars (get_or gs i none).vars v ≡ true
-      front i q = go (split i mid (omega arith))
-        where
-          go : (i ≡ mid) ⊎ (i < mid) → before_vars (get_or gs i none).vars v ≡ true
-          go (inl e) = subst (λ (j : ℕ). before_vars (get_or gs j none).vars v ≡ true) (sym e) k
-          go (inr e) = before_vars_trans (get_or gs i none).vars (get_or gs mid none).vars v (ascends_at gs i mid a e (omega (arith, b.1))) k
+  between_high low mid high a b h l k =
+      let front = λ (i : ℕ) (q : i < mid). before_vars_trans (get_or gs i none).vars (get_or gs mid none).vars v (ascends_at gs i mid a q (omega (arith, b.1))) k in
+      (omega arith, b.1, below_more (λ i. before_vars (get_or gs i none).vars v ≡ true) mid front k, b.3)
 
 -- The tally of variables that are found, and of variables that are not.
 pub tally_there : (v : List ℕ) (gs : List Tally) (k : ℕ) → Ascends gs → k < length gs → (get_or gs k none).vars ≡ v

@@ -5,6 +5,7 @@ use mathlib.Core.List.{List, [], ◌∷◌, ◌++◌, map, flat_map, append_asso
 use Prim.Native.Nat.{ℕ, zero, suc, ◌+◌, ◌*◌, ◌-◌, ◌≤◌, ◌<◌}
 use native.Mathlib.Numerals.{add-one}
 use native.Mathlib.Omega.{arith}
+use Rattle.std.proofs.Math.Nat.{mul-le-mul_left}
 use lib.Dec.{eqb}
 use lib.ListN.{length, get_or, drop, set, length-append, length-set}
 use lib.Seq.{sets, length-sets, drop-set-lt, get_or-set_other, get_or-set_same}
@@ -122,12 +123,6 @@ spot_lt (g ∷ gs) zero done t h e f =
     omega (arith, f.0)
 spot_lt (g ∷ gs) (suc k) done t h e f = omega (arith, spot_lt gs k done t (omega arith) e f.1)
 
-times_le : (w x y : ℕ) → x ≤ y → w * x ≤ w * y
-times_le w x y h = go (y - x) (omega arith)
-  where
-    go : (d : ℕ) → y ≡ x + d → w * x ≤ w * y
-    go d q = rw q (omega arith)
-
 module _ (term : Item → List ℕ) (width : ℕ) (wide : (u : Item) → length (term u) ≡ width) where
   pub placed_length : (gs : List Tally) (done : List Item) → Fit gs done → length (placed term width gs done) ≡ width * tallied_total gs
   unfolding placed tallied_total
@@ -135,7 +130,7 @@ module _ (term : Item → List ℕ) (width : ℕ) (wide : (u : Item) → length 
   placed_length (g ∷ gs) done f =
       let l = flat_length term width wide (select g.vars done) in
       let p = padded_length (flat_map term (select g.vars done)) (width * g.count)
-      (subst (λ (x : ℕ). x ≤ width * g.count) (sym l) (times_le width (length (select g.vars done)) g.count f.0)) in
+      (subst (λ (x : ℕ). x ≤ width * g.count) (sym l) (mul-le-mul_left width f.0)) in
       let ih = placed_length gs done f.1 in
       length-append (padded (flat_map term (select g.vars done)) (width * g.count)) (placed term width gs done) ∙ omega arith
 
@@ -170,7 +165,7 @@ module _ {b : Form} {gs : List Tally} {n : ℕ} {H P T : List ℕ} {done : List 
 
   pub term_fits : term_width b * get_or H (4 * k + 1) 0 + term_width b ≤ length T
   term_fits =
-      let a = times_le (term_width b) (suc (get_or H (4 * k + 1) 0)) (tallied_total gs) cursor_small in
+      let a = mul-le-mul_left (term_width b) cursor_small in
       let f = p.fits in
       omega arith
 
@@ -287,11 +282,14 @@ module _ {b : Form} {n : ℕ} {P : List ℕ} {index field at count : ℕ} {H₀ 
 
     pub listing_step : (H' T' : List ℕ) → length H' ≡ length H → length T' ≡ length T
         → Places b n P H T H' T' (items_at index field (read_monomial (drop place P) ∷ []))
-        → Listing b n P index field at count H₀ T₀ H' T' (place + 2 + get_or P place 0) (i + 1)
-    listing_step H' T' lh lt does = record {
-      standing = (standing_next count i place P h g.standing).3;
-      going = going_step b n P H₀ T₀ (items_at index field (list_in P at count)) H T _ _ _ next_list g.going H' T' lh lt does;
-    }
+        → Listing b n P index field at count H₀ T₀ H' T' (place + (2 + get_or P place 0)) (i + 1)
+    listing_step H' T' lh lt does =
+        let e : place + 2 + get_or P place 0 ≡ place + (2 + get_or P place 0) = omega arith in
+        subst (λ (x : ℕ). Listing b n P index field at count H₀ T₀ H' T' x (i + 1)) e
+        (record {
+          standing = (standing_next count i place P h g.standing).3;
+          going = going_step b n P H₀ T₀ (items_at index field (list_in P at count)) H T _ _ _ next_list g.going H' T' lh lt does;
+        })
 
   pub listing_done : {H T : List ℕ} {place i : ℕ} → Listing b n P index field at count H₀ T₀ H T place i → count ≤ i
       → Places b n P H₀ T₀ H T (items_at index field (list_in P at count))

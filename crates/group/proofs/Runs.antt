@@ -54,7 +54,7 @@ module _ {n : ℕ} {P : List ℕ} {at count : ℕ} {H₀ H : List ℕ} {ws : Lis
 
   pub run_step : i < count → (H' : List ℕ) (ws' : List Waiting) (t : Taken)
       → Nexts n b (non_zero (read_monomial (drop place P) ∷ [])) (batched n b H P ws) H' P ws' (Some t)
-      → Running n P at count H₀ H' ws' (place + 2 + get_or P place 0) t.pending (i + 1)
+      → Running n P at count H₀ H' ws' (place + (2 + get_or P place 0)) t.pending (i + 1)
   run_step h H' ws' taken k =
       let vs : List (List ℕ) = non_zero (read_monomial (drop place P) ∷ []) in
       let s = standing_next count i place P h g.standing in
@@ -63,7 +63,9 @@ module _ {n : ℕ} {P : List ℕ} {at count : ℕ} {H₀ H : List ℕ} {ws : Lis
       let q = g.grown in
       let f = g.few in
       let l = k.0 in
-      record {
+      let e : place + 2 + get_or P place 0 ≡ place + (2 + get_or P place 0) = omega arith in
+      subst (λ (x : ℕ). Running n P at count H₀ H' ws' x taken.pending (i + 1)) e
+      (record {
         few = omega arith;
         batch = k.1;
         standing = s.3;
@@ -71,7 +73,7 @@ module _ {n : ℕ} {P : List ℕ} {at count : ℕ} {H₀ H : List ℕ} {ws : Lis
         left =
             ap (tally_all (non_zero (list_in P (place + 2 + get_or P place 0) (count - (i + 1))))) k.2
             ∙ left_next count i place P (batched n b H P ws) h ∙ g.left;
-      }
+      })
 
 -- Between runs: i monomials are counted.
 pub record Tallying (H₀ : List ℕ) (n : ℕ) (P : List ℕ) (at count : ℕ) (H : List ℕ) (rows place i : ℕ) : Type 0 where

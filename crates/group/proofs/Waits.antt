@@ -6,7 +6,7 @@ use Prim.Native.Nat.{ℕ, zero, suc, ◌+◌, ◌*◌, ◌-◌, ◌≤◌, ◌<�
 use native.Mathlib.Numerals.{add-one}
 use native.Mathlib.Omega.{arith}
 use lib.Dec.{ltb}
-use lib.ListN.{length, get_or, take, drop, set, length-set, length-append, length-drop}
+use lib.ListN.{length, get_or, take, drop, set, drop_of_length-le, length-set, length-append, length-drop}
 use lib.Seq.{get_or-set_same, get_or-set_other, get_or-take, drop-cons, take-suc-set, length-take-le}
 use borrow.Author.Count.{below_more}
 use borrow.Author.Tests.{ltb-true, ltb-false}
@@ -132,13 +132,7 @@ module _ {b : ℕ} {waits : List Waiting} {pool : List ℕ} {gs : List Tally} (p
       ∙ ap (λ (w : Waiting). waiting_vars pool w ∷ waiting_from b waits pool (suc j)) (get_or-take b waits j nobody h)
 
   pub waiting_end : (j : ℕ) → b ≤ j → waiting_from b waits pool j ≡ []
-  waiting_end j h = ap (map (waiting_vars pool)) (none_left (take b waits) j (subst (λ (x : ℕ). x ≤ j) (sym (length-take-le b waits p.room)) h))
-    where
-      none_left : (l : List Waiting) (j : ℕ) → length l ≤ j → drop j l ≡ []
-      none_left [] zero q = refl
-      none_left [] (suc j) q = refl
-      none_left (x ∷ l) zero q = absurd (omega arith)
-      none_left (x ∷ l) (suc j) q = none_left l j (omega arith)
+  waiting_end j h = ap (map (waiting_vars pool)) (drop_of_length-le (take b waits) {i = j} (subst (λ (x : ℕ). x ≤ j) (sym (length-take-le b waits p.room)) h))
 
   -- Each stands before all that follow it.
   behind_from : (d j : ℕ) → suc j + d ≡ b → Behind (waiting_vars pool (get_or waits j nobody)) (waiting_from b waits pool (suc j))

@@ -66,6 +66,7 @@ fn may_follow(waits: &[Waiting], b: usize, pool: &[u32], at: usize) -> bool
 }
 
 // Counts the monomial that stands at `at`, or has it wait. None: those that wait come first.
+#[tactic(auto, using(crate::proofs::Headers::tallied_length))]
 fn tally_near(
     headers: &mut [u32],
     n: usize,
@@ -83,12 +84,21 @@ fn tally_near(
     match search::find_near(headers, n, pool, at, near) {
         Ok(k) => {
             headers[4 * k + 3] += 1;
-            Some(Taken { pending: b, near: k })
+            Some(Taken {
+                pending: b,
+                near: k,
+            })
         }
         Err(k) => {
             if may_follow(waits, b, pool, at) {
-                waits[b] = Waiting { place: at, front: k };
-                return Some(Taken { pending: b + 1, near: k.checked_sub(1).unwrap_or(n) });
+                waits[b] = Waiting {
+                    place: at,
+                    front: k,
+                };
+                return Some(Taken {
+                    pending: b + 1,
+                    near: k.checked_sub(1).unwrap_or(n),
+                });
             }
             None
         }
@@ -111,7 +121,7 @@ fn tally_kept(
         headers.new pool.now waits.new result }
 {
     if pool[at + 1] == 0 {
-        return Some(Taken { pending: b, near: near });
+        return Some(Taken { pending: b, near });
     }
     tally_near(headers, n, pool, at, near, waits, b)
 }
@@ -136,22 +146,23 @@ pub fn tally_run(
         let Some(taken) = next else {
             return Run {
                 done: i,
-                place: place,
+                place,
                 pending: b,
             };
         };
         b = taken.pending;
         near = taken.near;
-        place = place + 2 + pool[place] as usize;
+        place += 2 + pool[place] as usize;
     }
     Run {
         done: count,
-        place: place,
+        place,
         pending: b,
     }
 }
 
 // Puts the b monomials that wait in among the n rows, from the last to the first, and hands back how many rows there are then; None: they have no room.
+#[tactic(auto, using(crate::proofs::Inserts::insert_next))]
 pub fn insert_pending(
     headers: &mut [u32],
     n: usize,

@@ -55,6 +55,7 @@ fn put_term(terms: &mut [u32], at: usize, label: Label, coef: u32)
 }
 
 // Places the term of a monomial that stands at `at`; its row is looked for near row `near`. Hands back where to look for the next.
+#[tactic(auto, using(crate::proofs::Headers::tallied_length))]
 pub fn place_monomial(
     headers: &mut [u32],
     n: usize,
@@ -103,6 +104,7 @@ fn place_kept(
 }
 
 // Places the terms of a list that stands at `at`.
+#[tactic(auto, using(crate::proofs::PoolLists::standing_next))]
 pub fn place_list(
     headers: &mut [u32],
     n: usize,
@@ -121,7 +123,7 @@ pub fn place_list(
     let mut place = at;
     for _i in 0..count {
         near = place_kept(headers, n, pool, place, label, terms, near);
-        place = place + 2 + pool[place] as usize;
+        place += 2 + pool[place] as usize;
     }
 }
 

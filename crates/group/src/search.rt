@@ -25,7 +25,14 @@ fn order_of_row(headers: &[u32], i: usize, pool: &[u32], at: usize) -> Order
 }
 
 // Searches the rows between two, and hands back the row that has the monomial's variables (Ok), or the row that they belong in front of (Err): those below `from` stand before the monomial's variables, those from `to` on behind them.
-fn search_rows(headers: &[u32], n: usize, from: usize, to: usize, pool: &[u32], at: usize) -> Result<usize, usize>
+fn search_rows(
+    headers: &[u32],
+    n: usize,
+    from: usize,
+    to: usize,
+    pool: &[u32],
+    at: usize,
+) -> Result<usize, usize>
     requires { Rows n headers.now pool.now × MonomialInside pool.now at
         × Between (pool_vars pool.now at) (tallied n headers.now pool.now) from to }
     ensures { Spot (pool_vars pool.now at) (tallied n headers.now pool.now) result }
@@ -45,7 +52,13 @@ fn search_rows(headers: &[u32], n: usize, from: usize, to: usize, pool: &[u32], 
 }
 
 // Searches the rows from `from` on, in steps that double: those below stand before the monomial's variables.
-fn search_on(headers: &[u32], n: usize, from: usize, pool: &[u32], at: usize) -> Result<usize, usize>
+fn search_on(
+    headers: &[u32],
+    n: usize,
+    from: usize,
+    pool: &[u32],
+    at: usize,
+) -> Result<usize, usize>
     requires { Rows n headers.now pool.now × MonomialInside pool.now at
         × Between (pool_vars pool.now at) (tallied n headers.now pool.now) from n }
     ensures { Spot (pool_vars pool.now at) (tallied n headers.now pool.now) result }
@@ -68,7 +81,13 @@ fn search_on(headers: &[u32], n: usize, from: usize, pool: &[u32], at: usize) ->
 }
 
 // Searches the n rows for the variables of the monomial that stands at `at`: near row `near` first, where there is one.
-pub fn find_near(headers: &[u32], n: usize, pool: &[u32], at: usize, near: usize) -> Result<usize, usize>
+pub fn find_near(
+    headers: &[u32],
+    n: usize,
+    pool: &[u32],
+    at: usize,
+    near: usize,
+) -> Result<usize, usize>
     requires { Rows n headers.now pool.now × MonomialInside pool.now at }
     ensures { Spot (pool_vars pool.now at) (tallied n headers.now pool.now) result }
 {

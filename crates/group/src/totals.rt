@@ -7,6 +7,7 @@ use header_offsets::words;
 
 // The words of a row that hold how many variables and how many terms it has.
 pub const VARIABLES: usize = 2;
+
 pub const TERMS: usize = 3;
 
 // The total of one word over the n rows.

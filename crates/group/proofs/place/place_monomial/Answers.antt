@@ -1,21 +1,14 @@
 -- The row of the monomial's variables is looked for: room for the term says that there is one (`room_found`). The term is put at the row's cursor,
 -- and the cursor goes on by one, which is one item placed (`place_one`).
 use mathlib.Core.Path.{refl, subst}
-use mathlib.Core.List.{List}
-use Prim.Native.Nat.{ℕ, ◌+◌, ◌*◌, ◌≤◌, ◌<◌}
+use Prim.Native.Nat.{◌+◌, ◌*◌}
 use borrow.Author.Rules.{rules}
-use lib.ListN.{length, get_or, set}
-use Rattle.std.specs.Prelude.{Ok, Err}
-use Rattle.group.specs.Grouped.{tallied, Rows, Spot, monomial_in, item_at}
-use Rattle.group.specs.Waiting.{pool_vars}
-use Rattle.group.proofs.Counting.{there_lt}
+use lib.ListN.{get_or, set}
+use Rattle.std.specs.Prelude.{Err}
+use Rattle.group.specs.Grouped.{tallied, Spot, monomial_in, item_at}
 use Rattle.group.proofs.PoolLists.{read_coef}
 use Rattle.group.proofs.Placements.{room_found, cursor_small, term_fits, place_one}
 use Rattle.group.proofs.place.place_monomial.Goals as goal
-
--- A row that is found is among the n.
-row_inside : {n : ℕ} {H P : List ℕ} (at k : ℕ) → Rows n H P → Spot (pool_vars P at) (tallied n H P) (Ok k) → (k < n) × (4 * n ≤ length H)
-row_inside {n} {H} {P} at k r s = (there_lt n k H P (pool_vars P at) r s, r.room)
 
 pub returns-in_default : goal.returns-in_default
 returns-in_default c =
@@ -23,18 +16,6 @@ returns-in_default c =
     let k = c.in_default.field-0 in
     let m = subst (Spot t.vars (tallied c.args.n c.args.headers.now c.args.pool.now)) c.in_default.is c.find_near-found.ensures in
     λ gs done x y. absurd (room_found gs done t k y (subst (λ l. Spot t.vars l (Err k)) x.tallies_are m))
-
-pub overflow_mul-row : goal.overflow_mul-row
-overflow_mul-row c = let x = row_inside c.args.at c.in-Ok.k c.requires.0.placing.rows_are c.in-Ok.ensures in search rules
-
-pub overflow_add-cursor : goal.overflow_add-cursor
-overflow_add-cursor c = let x = row_inside c.args.at c.in-Ok.k c.requires.0.placing.rows_are c.in-Ok.ensures in search rules
-
-pub offset_bounds-headers-row : goal.offset_bounds-headers-row
-offset_bounds-headers-row c = let x = row_inside c.args.at c.in-Ok.k c.requires.0.placing.rows_are c.in-Ok.ensures in search rules
-
-pub bounds-headers-row : goal.bounds-headers-row
-bounds-headers-row c = let x = row_inside c.args.at c.in-Ok.k c.requires.0.placing.rows_are c.in-Ok.ensures in search rules
 
 pub put_term-requires : goal.put_term-requires
 put_term-requires c =
@@ -48,15 +29,6 @@ overflow_add-headers c =
     let x = cursor_small c.requires.0.placing t c.in-Ok.k c.requires.0.room c.in-Ok.ensures in
     let z = c.requires.0.placing.small in
     search rules
-
-pub overflow_add-headers-2 : goal.overflow_add-headers-2
-overflow_add-headers-2 c = let x = row_inside c.args.at c.in-Ok.k c.requires.0.placing.rows_are c.in-Ok.ensures in search rules
-
-pub offset_bounds-headers-row-2 : goal.offset_bounds-headers-row-2
-offset_bounds-headers-row-2 c = let x = row_inside c.args.at c.in-Ok.k c.requires.0.placing.rows_are c.in-Ok.ensures in search rules
-
-pub bounds-headers-row-2 : goal.bounds-headers-row-2
-bounds-headers-row-2 c = let x = row_inside c.args.at c.in-Ok.k c.requires.0.placing.rows_are c.in-Ok.ensures in search rules
 
 pub returns : goal.returns
 returns c =
