@@ -25,6 +25,7 @@ fn order_of_row(headers: &[u32], i: usize, pool: &[u32], at: usize) -> Order
 }
 
 // Searches the rows between two, and hands back the row that has the monomial's variables (Ok), or the row that they belong in front of (Err): those below `from` stand before the monomial's variables, those from `to` on behind them.
+#[tactic(auto, using(crate::proofs::Headers::tallied_length, crate::proofs::Headers::inside_at))]
 fn search_rows(
     headers: &[u32],
     n: usize,
@@ -52,6 +53,7 @@ fn search_rows(
 }
 
 // Searches the rows from `from` on, in steps that double: those below stand before the monomial's variables.
+#[tactic(auto, using(crate::proofs::Headers::tallied_length, crate::proofs::Headers::inside_at))]
 fn search_on(
     headers: &[u32],
     n: usize,
@@ -81,6 +83,7 @@ fn search_on(
 }
 
 // Searches the n rows for the variables of the monomial that stands at `at`: near row `near` first, where there is one.
+#[tactic(auto, using(crate::proofs::Headers::tallied_length, crate::proofs::Headers::inside_at))]
 pub fn find_near(
     headers: &[u32],
     n: usize,
