@@ -175,7 +175,8 @@ follows_last P ws b at o e q j h =
     let l : ℕ = (get_or ws (b - 1) nobody).place in
     let d : b - 1 ≡ j = omega arith in
     let r : o ≡ order_of (pool_vars P at) (pool_vars P l) = e ∙ (λ i. order_of (sym (read_vars P at) i) (sym (read_vars P l) i)) in
-    subst (λ (i : ℕ). before_vars (waiting_vars P (get_or ws i nobody)) (pool_vars P at) ≡ true) d (subst (Told (pool_vars P at) (pool_vars P l)) q (order_told (pool_vars P at) (pool_vars P l) o r))
+    subst (λ (i : ℕ). before_vars (waiting_vars P (get_or ws i nobody)) (pool_vars P at) ≡ true) d
+    (subst (Told (pool_vars P at) (pool_vars P l)) q (order_told (pool_vars P at) (pool_vars P l) o r))
 
 -- Nothing waits.
 pub batch_none : (n : ℕ) (H P : List ℕ) (ws : List Waiting) → Rows n H P → 0 < length ws → Batch n 0 H P ws

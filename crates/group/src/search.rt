@@ -24,7 +24,8 @@ fn order_of_row(headers: &[u32], i: usize, pool: &[u32], at: usize) -> Order
     )
 }
 
-// Searches the rows between two, and hands back the row that has the monomial's variables (Ok), or the row that they belong in front of (Err): those below `from` stand before the monomial's variables, those from `to` on behind them.
+// Searches the rows between two: those below `from` stand before the monomial's variables, those from `to` on behind them. Ok: the row that has them,
+// Err: the row that they belong in front of.
 #[tactic(auto, using(crate::proofs::Headers::tallied_length, crate::proofs::Headers::inside_at))]
 fn search_rows(
     headers: &[u32],

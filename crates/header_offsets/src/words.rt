@@ -1,5 +1,5 @@
 // Headers in words, four to each: they are taken out of the words, given their offsets, and put back.
-ghost use Rattle.std.specs.Prelude.{◌≡◌, [], ◌∷◌, ◌++◌, ◌+◌, ◌*◌, ◌-◌, ◌≤◌, min, length, take, drop, replicate};
+ghost use Rattle.std.specs.Prelude.{◌≡◌, [], ◌∷◌, ◌++◌, ◌+◌, ◌*◌, ◌-◌, ◌≤◌, length, take, drop, replicate};
 ghost use Rattle.header_offsets.specs.Headers.{num_vars_of, num_terms_of, column_total, no_header, header_in, headers_in, header_words, filled_words};
 
 use crate::MonomialHeader;
