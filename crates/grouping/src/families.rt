@@ -127,7 +127,11 @@ fn place_constraints(
     let mut j: usize = 0;
     while j < count {
         let r = answers::wide(sheet[at + j]);
-        let label = Label { form: Form::Constraint, index: j as u32, field: 0 };
+        let label = Label {
+            form: Form::Constraint,
+            index: j as u32,
+            field: 0,
+        };
         place::place_root(headers, n, pool, r, label, terms);
         j += 1;
     }
@@ -153,7 +157,11 @@ fn place_references(
     let mut j: usize = 0;
     while j < count {
         let r = answers::wide(sheet[at + j]);
-        let label = Label { form: Form::Interaction, index: index, field: j as u32 };
+        let label = Label {
+            form: Form::Interaction,
+            index: index,
+            field: j as u32,
+        };
         place::place_root(headers, n, pool, r, label, terms);
         j += 1;
     }
@@ -216,7 +224,12 @@ fn place_fields(
 }
 
 // Counts the lists of a family's records; the headers are cleared.
-pub fn tally_family(sheet: &[u32], family: Family, headers: &mut [u32], pool: &[u32]) -> Option<usize>
+pub fn tally_family(
+    sheet: &[u32],
+    family: Family,
+    headers: &mut [u32],
+    pool: &[u32],
+) -> Option<usize>
     requires { Grouping sheet.now pool.now (roots_of family (read_sheet sheet.now)) × (headers.old ≡ zeros (length headers.old)) }
     ensures { CountedMore headers.new pool.now
         (tally_all (vars_named pool.now (nodes_of (roots_of family (read_sheet sheet.now)))) []) result }

@@ -31,17 +31,3 @@ pub fn fill_offsets(headers: &mut [MonomialHeader], var_offset: u32, term_offset
         terms += h.num_terms;
     }
 }
-
-// The same for sixteen headers by value, lent as a local array.
-pub fn fill_sixteen(
-    headers: [MonomialHeader; 16],
-    var_offset: u32,
-    term_offset: u32,
-) -> [MonomialHeader; 16]
-    requires { (var_offset + column_total num_vars_of headers ≤ 4294967295) × (term_offset + column_total num_terms_of headers ≤ 4294967295) }
-    ensures { result ≡ with_offsets var_offset term_offset headers }
-{
-    let mut filled = headers;
-    fill_offsets(&mut filled, var_offset, term_offset);
-    filled
-}

@@ -60,10 +60,10 @@ pub fn fill_words(words: &mut [u32], n: usize)
     let mut terms: u32 = 0;
     for i in (0..n).step_by(16) {
         let k = (n - i).min(16);
-        let taken = take_headers(words, 4 * i, k);
-        let filled = crate::fill_sixteen(taken, vars, terms);
-        put_headers(words, 4 * i, &filled[..k]);
-        let last = filled[15];
+        let mut headers = take_headers(words, 4 * i, k);
+        crate::fill_offsets(&mut headers, vars, terms);
+        put_headers(words, 4 * i, &headers[..k]);
+        let last = headers[15];
         vars = last.var_offset + last.num_vars;
         terms = last.term_offset + last.num_terms;
     }
