@@ -1,9 +1,6 @@
-use Rattle.std.proofs.Common.{arith, refl}
+use Rattle.std.proofs.Common.{arith}
 use Rattle.header_offsets.proofs.Filling.{vars_next, terms_next, next, done}
 use Rattle.header_offsets.proofs.fill_offsets.Goals as goal
-
-pub loop-h-init : goal.loop-h-init
-loop-h-init c = record { whole = refl; vars_fit = c.requires.0; terms_fit = c.requires.1 }
 
 pub overflow_add-vars : goal.overflow_add-vars
 overflow_add-vars c = record { fits = vars_next c.loop-h.invariant (omega arith) }

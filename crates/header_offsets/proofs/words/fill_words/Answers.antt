@@ -30,9 +30,6 @@ loop-i-preserved c =
     filled_next c.loop-i.invariant c.min-k.ensures c.take_headers-headers.ensures c.fill_offsets.ensures c.put_headers.ensures
     (omega (arith, c.min-k.ensures))
 
-pub returns : goal.returns
-returns c = filled_all c.loop-i.invariant (omega arith)
-
 pub returns-2 : goal.returns-2
 returns-2 c =
     filled_all (filled_next c.loop-i.invariant c.min-k.ensures c.take_headers-headers.ensures c.fill_offsets.ensures c.put_headers.ensures refl)
