@@ -1,11 +1,13 @@
 -- The rows while monomials are counted: the search for variables, one count more, one row more.
 use mathlib.Core.Path.{◌≡◌, refl, sym, ◌∙◌, ap, subst}
-use mathlib.Core.Logic.{◌⊎◌, inl, inr}
 use mathlib.Core.Bool.{Bool, true, false}
 use mathlib.Core.List.{List, [], ◌∷◌, ◌++◌, map}
 use Prim.Native.Nat.{ℕ, zero, suc, ◌+◌, ◌*◌, ◌-◌, ◌≤◌, ◌<◌}
 use native.Mathlib.Numerals.{add-one}
 use native.Mathlib.Omega.{arith}
+use lib.Dec.{ltb}
+use borrow.Author.Count.{below_more}
+use borrow.Author.Tests.{ltb-true, ltb-false}
 use lib.ListN.{length, get_or, take, drop, set, length-drop, length-set}
 use lib.Seq.{drop-set-lt, get_or-set_other, get_or-set_same, drop-drop, length-take-le, get_or-drop}
 use Rattle.slices.proofs.Rows.{rows_length, rows_at, word_at, rows_set}
@@ -18,8 +20,8 @@ use Rattle.semantics.proofs.Sorting.{all_within}
 use Rattle.semantics.proofs.Order.{before_vars_trans, before_vars_total}
 use Rattle.monomial.specs.declared.vars.Order.{Order}
 use Rattle.monomial.specs.declared.vars.Order.TheVariants.{Before, Same, After}
-use Rattle.group.specs.declared.Tallied.TheVariants.{Headers}
-use Rattle.group.specs.declared.Found.TheVariants.{There, Missing}
+use Rattle.std.specs.Prelude.{Some}
+use Rattle.std.specs.Prelude.{Ok, Err}
 use Rattle.monomial.specs.Words.{read_monomial}
 use Rattle.monomial.specs.Orders.{chosen, order_of}
 use Rattle.group.specs.Grouped.{Tally, tally, Ascends, tallied_total, none, tally_row, tallied, RowInside, Rows, Spot, Between, CountedMore}
@@ -40,10 +42,6 @@ order_told v w o e = subst (Told v w) (sym e) (go (before_vars v w) (before_vars
     go true t d e = d
     go false true d e = e
     go false false d e = sym (before_vars_total v w d e)
-
-pub order_words : (v P : List ℕ) (o : Order) (x x' y y' : ℕ) → o ≡ order_of v (take y (drop (x + 2) P)) → x ≡ x' → y ≡ y'
-    → o ≡ order_of v (take y' (drop (x' + 2) P))
-order_words v P o x x' y y' e f g = e ∙ ap (λ (i : ℕ). order_of v (take y (drop (i + 2) P))) f ∙ ap (λ (i : ℕ). order_of v (take i (drop (x' + 2) P))) g
 
 pub told_at : (n k : ℕ) (H P v : List ℕ) (o p : Order) → k < n → o ≡ order_of v (take (get_or H (4 * k + 2) 0) (drop (get_or H (4 * k) 0 + 2) P)) → o ≡ p
     → Told v (get_or (tallied n H P) k none).vars p
@@ -67,42 +65,20 @@ module _ (v : List ℕ) (gs : List Tally) where
   between_low low mid high a b h l k = (h, omega (arith, b.1), b.2, behind)
     where
       behind : (i : ℕ) → mid ≤ i → i < length gs → before_vars v (get_or gs i none).vars ≡ true
-      behind i q r = go (split mid i q)
+      behind i q r = go (ltb mid i) refl
         where
-          split : (x y : ℕ) → x ≤ y → (x ≡ y) ⊎ (x < y)
-          split zero zero s = inl refl
-          split zero (suc y) s = inr (omega arith)
-          split (suc x) zero s = absurd (omega arith)
-          split (suc x) (suc y) s = more (split x y (omega arith))
-            where
-              more : (x ≡ y) ⊎ (x < y) → (suc x ≡ suc y) ⊎ (suc x < suc y)
-              more (inl e) = inl (ap suc e)
-              more (inr e) = inr (omega arith)
-
-          go : (mid ≡ i) ⊎ (mid < i) → before_vars v (get_or gs i none).vars ≡ true
-          go (inl e) = subst (λ (j : ℕ). before_vars v (get_or gs j none).vars ≡ true) e k
-          go (inr e) = before_vars_trans v (get_or gs mid none).vars (get_or gs i none).vars k (ascends_at gs mid i a e r)
+          go : (x : Bool) → ltb mid i ≡ x → before_vars v (get_or gs i none).vars ≡ true
+          go true e = before_vars_trans v (get_or gs mid none).vars (get_or gs i none).vars k (ascends_at gs mid i a (ltb-true mid i e) r)
+          go false e =
+              let f : i ≤ mid = ltb-false mid i e in
+              let d : mid ≡ i = omega arith in
+              subst (λ (j : ℕ). before_vars v (get_or gs j none).vars ≡ true) d k
 
   pub between_high : (low mid high : ℕ) → Ascends gs → Between v gs low high → low ≤ mid → mid < high
       → before_vars (get_or gs mid none).vars v ≡ true → Between v gs (mid + 1) high
-  between_high low mid high a b h l k = (omega arith, b.1, front, b.3)
-    where
-      split : (x y : ℕ) → x < suc y → (x ≡ y) ⊎ (x < y)
-      split zero zero s = inl refl
-      split zero (suc y) s = inr (omega arith)
-      split (suc x) zero s = absurd (omega arith)
-      split (suc x) (suc y) s = more (split x y (omega arith))
-        where
-          more : (x ≡ y) ⊎ (x < y) → (suc x ≡ suc y) ⊎ (suc x < suc y)
-          more (inl e) = inl (ap suc e)
-          more (inr e) = inr (omega arith)
-
-      front : (i : ℕ) → i < mid + 1 → before_vars (get_or gs i none).vars v ≡ true
-      front i q = go (split i mid (omega arith))
-        where
-          go : (i ≡ mid) ⊎ (i < mid) → before_vars (get_or gs i none).vars v ≡ true
-          go (inl e) = subst (λ (j : ℕ). before_vars (get_or gs j none).vars v ≡ true) (sym e) k
-          go (inr e) = before_vars_trans (get_or gs i none).vars (get_or gs mid none).vars v (ascends_at gs i mid a e (omega (arith, b.1))) k
+  between_high low mid high a b h l k =
+      let front = λ (i : ℕ) (q : i < mid). before_vars_trans (get_or gs i none).vars (get_or gs mid none).vars v (ascends_at gs i mid a q (omega (arith, b.1))) k in
+      (omega arith, b.1, below_more (λ i. before_vars (get_or gs i none).vars v ≡ true) mid front k, b.3)
 
 -- The tally of variables that are found, and of variables that are not.
 pub tally_there : (v : List ℕ) (gs : List Tally) (k : ℕ) → Ascends gs → k < length gs → (get_or gs k none).vars ≡ v
@@ -113,7 +89,7 @@ tally_there v (g ∷ gs) (suc k) a h e =
     let b = subst (λ (w : List ℕ). before_vars g.vars w ≡ true) e (all_within (λ (x : Tally). before_vars g.vars x.vars ≡ true) gs k none a.0 (omega arith)) in
     tally_more v g gs b ∙ ap (λ (l : List Tally). g ∷ l) (tally_there v gs k a.1 (omega arith) e)
 
-pub tally_missing : (v : List ℕ) (gs : List Tally) (k : ℕ) → Spot v gs (Missing k) → tally v gs ≡ take k gs ++ (once v ∷ drop k gs)
+pub tally_missing : (v : List ℕ) (gs : List Tally) (k : ℕ) → Spot v gs (Err k) → tally v gs ≡ take k gs ++ (once v ∷ drop k gs)
 tally_missing v [] zero s = tally_nil v
 tally_missing v (g ∷ gs) zero s = tally_less v g gs (s.2 0 (omega arith) (omega arith))
 tally_missing v [] (suc k) s = absurd (omega (arith, s.0))
@@ -161,14 +137,14 @@ tally_row_count P row x h =
 
 -- One count more in row k.
 module _ (n k : ℕ) (H P v : List ℕ) (r : Rows n H P) where
-  pub there_lt : Spot v (tallied n H P) (There k) → k < n
+  pub there_lt : Spot v (tallied n H P) (Ok k) → k < n
   there_lt s = subst (λ (m : ℕ). k < m) (tallied_length n H P) s.0
 
   -- Its count is at most the number of all monomials.
-  pub there_small : Spot v (tallied n H P) (There k) → get_or H (4 * k + 3) 0 ≤ tallied_total (tallied n H P)
+  pub there_small : Spot v (tallied n H P) (Ok k) → get_or H (4 * k + 3) 0 ≤ tallied_total (tallied n H P)
   there_small s = subst (λ (x : ℕ). x ≤ tallied_total (tallied n H P)) (count_at n k H P (there_lt s)) (total_at (tallied n H P) k s.0)
 
-  pub count_more : Spot v (tallied n H P) (There k) → CountedMore (set H (4 * k + 3) (get_or H (4 * k + 3) 0 + 1)) P (tally v (tallied n H P)) (Headers n)
+  pub count_more : Spot v (tallied n H P) (Ok k) → CountedMore (set H (4 * k + 3) (get_or H (4 * k + 3) 0 + 1)) P (tally v (tallied n H P)) (Some n)
   unfolding tallied
   count_more s =
       let h = there_lt s in

@@ -6,6 +6,7 @@ use Prim.Native.Nat.{ℕ, suc, ◌+◌, ◌*◌, ◌-◌, ◌≤◌, ◌<◌}
 use native.Mathlib.Omega.{arith}
 use lib.ListN.{length, get_or, take, drop, length-append, length-drop, take-append-drop}
 use lib.Seq.{sets, sets-eq, drop-drop, drop_at, take-append-le, drop-append-le, take-take, length-take-le, take-add}
+use Rattle.std.specs.List.{copy_within}
 use Rattle.slices.proofs.Rows.{rows_front, rows_insert}
 use Rattle.slices.proofs.Lists.{map_insert}
 use Rattle.slices.specs.Rows.{rows}
@@ -13,22 +14,23 @@ use Rattle.semantics.specs.Monomial.{before_vars}
 use Rattle.semantics.specs.Call.{zeros}
 use Rattle.semantics.specs.Lists.{All}
 use Rattle.semantics.proofs.Calls.{drop_zeros}
-use Rattle.group.specs.declared.Found.TheVariants.{Missing}
-use Rattle.group.specs.declared.Tallied.TheVariants.{Headers}
+use Rattle.std.specs.Prelude.{Err}
+use Rattle.std.specs.Prelude.{Some}
 use Rattle.group.specs.Grouped.{Tally, tally, tally_all, tally_row, tallied, Ascends, RowInside, Rows, Spot, CountedMore}
-use Rattle.group.specs.Waiting.{PlaceInside, pool_vars, Batch, batched}
+use Rattle.group.specs.declared.pending.Waiting.{Waiting}
+use Rattle.group.specs.Waiting.{PlaceInside, nobody, waiting_vars, Batch, batched}
 use Rattle.group.proofs.Tallies.{once, tally_ascends}
 use Rattle.group.proofs.Headers.{tallied_length}
 use Rattle.group.proofs.Counting.{tally_missing, all_insert, tally_once, read_vars}
 use Rattle.group.proofs.Waits.{waiting_from, waiting_end, spot_from, tally_from, length_waiting, missing_le_missing, batched_is}
 
 -- A row put in.
-module _ (m k : ℕ) (W P v : List ℕ) (r : Rows m W P) (s : Spot v (tallied m W P) (Missing k)) where
+module _ (m k : ℕ) (W P v : List ℕ) (r : Rows m W P) (s : Spot v (tallied m W P) (Err k)) where
   inner_le : k ≤ m
   inner_le = subst (λ (x : ℕ). k ≤ x) (tallied_length m W P) s.0
 
   pub row_in : (at c : ℕ) (W' : List ℕ) → at + 2 + c ≤ length P → c ≤ 14 → v ≡ take c (drop (at + 2) P)
-      → W' ≡ take (4 * k) W ++ ((at ∷ 0 ∷ c ∷ 1 ∷ []) ++ drop (4 * k) W) → CountedMore W' P (tally v (tallied m W P)) (Headers (m + 1))
+      → W' ≡ take (4 * k) W ++ ((at ∷ 0 ∷ c ∷ 1 ∷ []) ++ drop (4 * k) W) → CountedMore W' P (tally v (tallied m W P)) (Some (m + 1))
   unfolding tallied
   row_in at c W' i f e w =
       let h = inner_le in
@@ -109,26 +111,35 @@ gap_in H S H' row k end j h l r s e =
     drop-append-le (4 * k) (take (4 * end) H) Y (omega arith) ∙ ap (λ (x : List ℕ). x ++ Y) c ∙ ap (λ (x : ℕ). M ++ drop x H) d in
     (λ i. f i ++ g i) ∙ sym (λ i. u i ++ (row ++ v i))
 
+-- What moving the rows from k to `end` up by j + 1 rows leaves.
+raised_is : (H : List ℕ) (k end j : ℕ) → k ≤ end
+    → copy_within H (4 * k) (4 * end) (4 * k + 4 * j + 4) ≡ take (4 * k + (4 * j + 4)) H ++ (take (4 * end - 4 * k) (drop (4 * k) H) ++ drop (4 * end + (4 * j + 4)) H)
+raised_is H k end j h =
+    let a : 4 * k + 4 * j + 4 ≡ 4 * k + (4 * j + 4) = omega arith in
+    let b : 4 * k + 4 * j + 4 + (4 * end - 4 * k) ≡ 4 * end + (4 * j + 4) = omega arith in
+    append_assoc (take (4 * k + 4 * j + 4) H) (take (4 * end - 4 * k) (drop (4 * k) H)) (drop (4 * k + 4 * j + 4 + (4 * end - 4 * k)) H)
+    ∙ λ i. take (a i) H ++ (take (4 * end - 4 * k) (drop (4 * k) H) ++ drop (b i) H)
+
 -- While they are put in: j are still to come, and `end` rows in front are as they were.
-pub record Inserting (H₀ : List ℕ) (n : ℕ) (P pl : List ℕ) (b : ℕ) (H : List ℕ) (end j : ℕ) : Type 0 where
+pub record Inserting (H₀ : List ℕ) (n : ℕ) (P : List ℕ) (ws : List Waiting) (b : ℕ) (H : List ℕ) (end j : ℕ) : Type 0 where
   pub upto : j ≤ b
   pub fits : 4 * n + 4 * b ≤ length H
   pub inner : end ≤ n
   pub long : length H ≡ length H₀
   pub rows_are : Rows (n + (b - j)) (closed H end j) P
-  pub tallies_are : tallied (n + (b - j)) (closed H end j) P ≡ tally_all (waiting_from b pl P j) (tallied n H₀ P)
-  pub low : (v : List ℕ) (k : ℕ) → Spot v (tallied n H₀ P) (Missing k) → (j < b → before_vars v (pool_vars P (get_or pl j 0)) ≡ true) → k ≤ end
+  pub tallies_are : tallied (n + (b - j)) (closed H end j) P ≡ tally_all (waiting_from b ws P j) (tallied n H₀ P)
+  pub low : (v : List ℕ) (k : ℕ) → Spot v (tallied n H₀ P) (Err k) → (j < b → before_vars v (waiting_vars P (get_or ws j nobody)) ≡ true) → k ≤ end
 
-module _ {n b : ℕ} {H₀ P pl fr : List ℕ} (t : Batch n b H₀ P pl fr) where
+module _ {n b : ℕ} {H₀ P : List ℕ} {ws : List Waiting} (t : Batch n b H₀ P ws) where
   -- No room.
-  pub insert_full : length H₀ - 4 * n < 4 * b → length H₀ < 4 * length (batched n b H₀ P pl)
+  pub insert_full : length H₀ - 4 * n < 4 * b → length H₀ < 4 * length (batched n b H₀ P ws)
   insert_full h =
-      let e = ap length (batched_is n b H₀ P pl) ∙ length_waiting t.waiting in
+      let e = ap length (batched_is n b H₀ P ws) ∙ length_waiting t.waiting in
       let l = tallied_length n H₀ P in
       let o = t.rows_are.room in
       omega arith
 
-  pub insert_start : 4 * b ≤ length H₀ - 4 * n → Inserting H₀ n P pl b H₀ n b
+  pub insert_start : 4 * b ≤ length H₀ - 4 * n → Inserting H₀ n P ws b H₀ n b
   unfolding tallied tally_all
   insert_start h =
       let o = t.rows_are.room in
@@ -160,29 +171,29 @@ module _ {n b : ℕ} {H₀ P pl fr : List ℕ} (t : Batch n b H₀ P pl fr) wher
         low = λ v i s _. subst (λ (y : ℕ). i ≤ y) (tallied_length n H₀ P) s.0;
       }
 
-  module _ {H : List ℕ} {end j : ℕ} (g : Inserting H₀ n P pl b H end j) where
+  module _ {H : List ℕ} {end j : ℕ} (g : Inserting H₀ n P ws b H end j) where
     -- What the next one asks.
-    pub insert_next : (i : ℕ) → j ≡ suc i → (get_or fr i 0 ≤ end) × PlaceInside P (get_or pl i 0)
+    pub insert_next : (i : ℕ) → j ≡ suc i → ((get_or ws i nobody).front ≤ end) × PlaceInside P (get_or ws i nobody).place
     insert_next i e =
         let u = g.upto in
         let p = t.waiting in
         let h : i < b = omega arith in (
-          g.low (pool_vars P (get_or pl i 0)) (get_or fr i 0) (p.missing i h)
-              (λ l. subst (λ (x : ℕ). before_vars (pool_vars P (get_or pl i 0)) (pool_vars P (get_or pl x 0)) ≡ true) (sym e) (p.ascends i (omega arith))),
+          g.low (waiting_vars P (get_or ws i nobody)) (get_or ws i nobody).front (p.missing i h)
+              (λ l. subst (λ (x : ℕ). before_vars (waiting_vars P (get_or ws i nobody)) (waiting_vars P (get_or ws x nobody)) ≡ true) (sym e) (p.ascends i (omega arith))),
           p.inside i h,
         )
 
     pub insert_step : (i : ℕ) → j ≡ suc i → (S H' : List ℕ) → length H' ≡ length H
-        → S ≡ take (4 * get_or fr i 0 + (4 * i + 4)) H ++ (take (4 * end - 4 * get_or fr i 0) (drop (4 * get_or fr i 0) H) ++ drop (4 * end + (4 * i + 4)) H)
-        → H' ≡ sets S (4 * get_or fr i 0 + 4 * i) (get_or pl i 0 ∷ 0 ∷ get_or P (get_or pl i 0) 0 ∷ 1 ∷ [])
-        → Inserting H₀ n P pl b H' (get_or fr i 0) i
+        → S ≡ copy_within H (4 * (get_or ws i nobody).front) (4 * end) (4 * (get_or ws i nobody).front + 4 * i + 4)
+        → H' ≡ sets S (4 * (get_or ws i nobody).front + 4 * i) ((get_or ws i nobody).place ∷ 0 ∷ get_or P (get_or ws i nobody).place 0 ∷ 1 ∷ [])
+        → Inserting H₀ n P ws b H' (get_or ws i nobody).front i
     insert_step i e S H' z s w =
         let p = t.waiting in
         let u = g.upto in
         let h : i < b = omega arith in
-        let k : ℕ = get_or fr i 0 in
-        let at : ℕ = get_or pl i 0 in
-        let v : List ℕ = pool_vars P at in
+        let k : ℕ = (get_or ws i nobody).front in
+        let at : ℕ = (get_or ws i nobody).place in
+        let v : List ℕ = waiting_vars P (get_or ws i nobody) in
         let A : List Tally = tallied n H₀ P in
         let x = insert_next i e in
         let f = g.fits in
@@ -192,11 +203,13 @@ module _ {n b : ℕ} {H₀ P pl fr : List ℕ} (t : Batch n b H₀ P pl fr) wher
         let c : n + (b - suc i) ≡ n + (b - j) = omega arith in
         let m : ℕ = n + (b - suc i) in
         let r : Rows m W P = subst (λ (y : ℕ). Rows (n + (b - y)) (closed H end y) P) e g.rows_are in
-        let q : tallied m W P ≡ tally_all (waiting_from b pl P (suc i)) A =
-        subst (λ (y : ℕ). tallied (n + (b - y)) (closed H end y) P ≡ tally_all (waiting_from b pl P y) A) e g.tallies_are in
-        let sp : Spot v (tallied m W P) (Missing k) = subst (λ (l : List Tally). Spot v l (Missing k)) (sym q) (spot_from p i h) in
+        let q : tallied m W P ≡ tally_all (waiting_from b ws P (suc i)) A =
+        subst (λ (y : ℕ). tallied (n + (b - y)) (closed H end y) P ≡ tally_all (waiting_from b ws P y) A) e g.tallies_are in
+        let sp : Spot v (tallied m W P) (Err k) = subst (λ (l : List Tally). Spot v l (Err k)) (sym q) (spot_from p i h) in
+        let raised : S ≡ take (4 * k + (4 * i + 4)) H ++ (take (4 * end - 4 * k) (drop (4 * k) H) ++ drop (4 * end + (4 * i + 4)) H) =
+        s ∙ raised_is H k end i x.0 in
         let gap : W' ≡ take (4 * k) W ++ ((at ∷ 0 ∷ get_or P at 0 ∷ 1 ∷ []) ++ drop (4 * k) W) =
-        gap_in H S H' (at ∷ 0 ∷ get_or P at 0 ∷ 1 ∷ []) k end i x.0 (omega arith) refl s w in
+        gap_in H S H' (at ∷ 0 ∷ get_or P at 0 ∷ 1 ∷ []) k end i x.0 (omega arith) refl raised w in
         let d = row_in m k W P v r sp at (get_or P at 0) W' x.1.1 x.1.0 (read_vars P at) gap in
         let y : m + 1 ≡ n + (b - i) = omega arith in
         let l = p.missing i h in
@@ -206,20 +219,20 @@ module _ {n b : ℕ} {H₀ P pl fr : List ℕ} (t : Batch n b H₀ P pl fr) wher
           inner = subst (λ (y : ℕ). k ≤ y) (tallied_length n H₀ P) l.0;
           long = z ∙ g.long;
           rows_are = subst (λ (y : ℕ). Rows y W' P) y d.0;
-          tallies_are = subst (λ (y : ℕ). tallied y W' P ≡ tally_all (waiting_from b pl P i) A) y (d.1 ∙ ap (tally v) q ∙ sym (tally_from p i h));
+          tallies_are = subst (λ (y : ℕ). tallied y W' P ≡ tally_all (waiting_from b ws P i) A) y (d.1 ∙ ap (tally v) q ∙ sym (tally_from p i h));
           low = λ a y s' a'. missing_le_missing a v A y k s' l (a' h);
         }
 
-    pub insert_done : j ≤ 0 → CountedMore H P (batched n b H₀ P pl) (Headers (n + b))
+    pub insert_done : j ≤ 0 → CountedMore H P (batched n b H₀ P ws) (Some (n + b))
     insert_done h =
         let z : j ≡ 0 = omega arith in
         let x : n + (b - 0) ≡ n + b = omega arith in
         let y : 4 * end + 4 * 0 ≡ 4 * end = omega arith in
         let c : closed H end 0 ≡ H = ap (λ (i : ℕ). take (4 * end) H ++ drop i H) y ∙ take-append-drop (4 * end) H in
         let r = subst (λ (i : ℕ). Rows (n + (b - i)) (closed H end i) P) z g.rows_are in
-        let q = subst (λ (i : ℕ). tallied (n + (b - i)) (closed H end i) P ≡ tally_all (waiting_from b pl P i) (tallied n H₀ P)) z g.tallies_are in (
+        let q = subst (λ (i : ℕ). tallied (n + (b - i)) (closed H end i) P ≡ tally_all (waiting_from b ws P i) (tallied n H₀ P)) z g.tallies_are in (
           subst (λ (i : ℕ). Rows i H P) x (subst (λ (l : List ℕ). Rows (n + (b - 0)) l P) c r),
-          subst (λ (i : ℕ). tallied i H P ≡ tally_all (waiting_from b pl P 0) (tallied n H₀ P)) x
-              (subst (λ (l : List ℕ). tallied (n + (b - 0)) l P ≡ tally_all (waiting_from b pl P 0) (tallied n H₀ P)) c q)
-              ∙ sym (batched_is n b H₀ P pl),
+          subst (λ (i : ℕ). tallied i H P ≡ tally_all (waiting_from b ws P 0) (tallied n H₀ P)) x
+              (subst (λ (l : List ℕ). tallied (n + (b - 0)) l P ≡ tally_all (waiting_from b ws P 0) (tallied n H₀ P)) c q)
+              ∙ sym (batched_is n b H₀ P ws),
         )

@@ -1,10 +1,11 @@
 -- One term more in the slices, and the items of a list one after another.
 use mathlib.Core.Path.{◌≡◌, refl, sym, ◌∙◌, ap, subst}
-use mathlib.Core.Bool.{Bool, true, false, cond, true≢false}
+use mathlib.Core.Bool.{Bool, true, false, cond}
 use mathlib.Core.List.{List, [], ◌∷◌, ◌++◌, map, flat_map, append_assoc, append-nil}
 use Prim.Native.Nat.{ℕ, zero, suc, ◌+◌, ◌*◌, ◌-◌, ◌≤◌, ◌<◌}
 use native.Mathlib.Numerals.{add-one}
 use native.Mathlib.Omega.{arith}
+use Rattle.std.proofs.Math.Nat.{mul-le-mul_left}
 use lib.Dec.{eqb}
 use lib.ListN.{length, get_or, drop, set, length-append, length-set}
 use lib.Seq.{sets, length-sets, drop-set-lt, get_or-set_other, get_or-set_same}
@@ -21,9 +22,11 @@ use Rattle.semantics.proofs.Sorting.{all_within}
 use Rattle.semantics.proofs.Grouping.{constraint_wide, interaction_wide}
 use Rattle.semantics.proofs.Lists.{get_or_map}
 use Rattle.semantics.proofs.Calls.{padded_is, padded_length}
-use Rattle.group.specs.declared.Found.TheVariants.{There, Missing}
+use Rattle.std.specs.Prelude.{Ok, Err}
 use Rattle.monomial.specs.Words.{read_monomial, list_in, read_list}
 use Rattle.monomial.proofs.ListLaws.{list_in_suc}
+use Rattle.group.specs.declared.place.Form.{Form}
+use Rattle.group.specs.declared.place.Form.TheVariants.{Constraint, Interaction}
 use Rattle.group.specs.Grouped.{Tally, Ascends, tallied_count, tallied_total, none, tallied, tally_row, RowInside, Rows, Spot, select, placed, cursors, RoomForTerms, column}
 use Rattle.group.specs.Grouped.{Standing, term_of, term_width, item_at, items_at, Placing, ToPlace, Places}
 use Rattle.group.proofs.Gathering.{less_is, more_is}
@@ -34,22 +37,20 @@ use Rattle.group.proofs.Counting.{all_set, row_long, tally_row_cursor}
 use Rattle.group.proofs.PoolLists.{left_suc, standing_next}
 
 -- The two forms of a term.
-pub term_wide : (b : Bool) (t : Item) → length (term_of b t) ≡ term_width b
-term_wide false t = constraint_wide t
-term_wide true t = interaction_wide t
+pub term_wide : (b : Form) (t : Item) → length (term_of b t) ≡ term_width b
+term_wide Constraint t = constraint_wide t
+term_wide Interaction t = interaction_wide t
 
 module _ (T T' : List ℕ) (at i f c : ℕ) where
-  pub put_interaction : (b : Bool) → b ≡ true → T' ≡ sets T (3 * at) (c ∷ i ∷ f ∷ [])
-      → (t : Item) → t.index ≡ i → t.field ≡ f → t.coef ≡ c → T' ≡ sets T (term_width b * at) (term_of b t)
+  pub put_interaction : T' ≡ sets T (3 * at) (c ∷ i ∷ f ∷ []) → (t : Item) → t.index ≡ i → t.field ≡ f → t.coef ≡ c
+      → T' ≡ sets T (term_width Interaction * at) (term_of Interaction t)
   unfolding interaction_term
-  put_interaction true e h t p q r = h ∙ (λ j. sets T (3 * at) (sym r j ∷ sym p j ∷ sym q j ∷ []))
-  put_interaction false e h t p q r = absurd (true≢false (sym e))
+  put_interaction h t p q r = h ∙ (λ j. sets T (3 * at) (sym r j ∷ sym p j ∷ sym q j ∷ []))
 
-  pub put_constraint : (b : Bool) → b ≡ false → T' ≡ sets T (2 * at) (i ∷ c ∷ [])
-      → (t : Item) → t.index ≡ i → t.field ≡ f → t.coef ≡ c → T' ≡ sets T (term_width b * at) (term_of b t)
+  pub put_constraint : T' ≡ sets T (2 * at) (i ∷ c ∷ []) → (t : Item) → t.index ≡ i → t.field ≡ f → t.coef ≡ c
+      → T' ≡ sets T (term_width Constraint * at) (term_of Constraint t)
   unfolding constraint_term
-  put_constraint false e h t p q r = h ∙ (λ j. sets T (2 * at) (sym p j ∷ sym r j ∷ []))
-  put_constraint true e h t p q r = absurd (true≢false e)
+  put_constraint h t p q r = h ∙ (λ j. sets T (2 * at) (sym p j ∷ sym r j ∷ []))
 
 -- The cursor of row k changed.
 module _ (n k x : ℕ) (H P : List ℕ) (r : Rows n H P) (h : k < n) where
@@ -98,7 +99,7 @@ module _ (n k x : ℕ) (H P : List ℕ) (r : Rows n H P) (h : k < n) where
 pub room_front : (gs : List Tally) (ts us : List Item) → RoomForTerms gs (ts ++ us) → RoomForTerms gs ts
 room_front gs ts us r v = let e = ap length (select_append v ts us) ∙ length-append (select v ts) (select v us) in omega (arith, r v)
 
-count_missing : (v : List ℕ) (gs : List Tally) (k : ℕ) → Spot v gs (Missing k) → tallied_count v gs ≡ 0
+count_missing : (v : List ℕ) (gs : List Tally) (k : ℕ) → Spot v gs (Err k) → tallied_count v gs ≡ 0
 unfolding tallied_count
 count_missing v [] k s = refl
 count_missing v (g ∷ gs) zero s = less_is v g.vars 0 (tallied_count v gs) g.count (s.2 0 (omega arith) (omega arith))
@@ -107,7 +108,7 @@ count_missing v (g ∷ gs) (suc k) s =
     ∙ count_missing v gs k (omega (arith, s.0), (λ i h. s.1 (suc i) (omega arith)), (λ i h l. s.2 (suc i) (omega arith) (omega arith)))
 
 -- Variables with room for an item are found.
-pub room_found : (gs : List Tally) (done : List Item) (t : Item) (k : ℕ) → RoomForTerms gs (done ++ (t ∷ [])) → Spot t.vars gs (Missing k) → ⊥
+pub room_found : (gs : List Tally) (done : List Item) (t : Item) (k : ℕ) → RoomForTerms gs (done ++ (t ∷ [])) → Spot t.vars gs (Err k) → ⊥
 room_found gs done t k r s =
     let e = ap length (select_same t.vars t done refl) ∙ length-append (select t.vars done) (t ∷ []) in
     let z = count_missing t.vars gs k s in
@@ -122,12 +123,6 @@ spot_lt (g ∷ gs) zero done t h e f =
     omega (arith, f.0)
 spot_lt (g ∷ gs) (suc k) done t h e f = omega (arith, spot_lt gs k done t (omega arith) e f.1)
 
-times_le : (w x y : ℕ) → x ≤ y → w * x ≤ w * y
-times_le w x y h = go (y - x) (omega arith)
-  where
-    go : (d : ℕ) → y ≡ x + d → w * x ≤ w * y
-    go d q = rw q (omega arith)
-
 module _ (term : Item → List ℕ) (width : ℕ) (wide : (u : Item) → length (term u) ≡ width) where
   pub placed_length : (gs : List Tally) (done : List Item) → Fit gs done → length (placed term width gs done) ≡ width * tallied_total gs
   unfolding placed tallied_total
@@ -135,13 +130,13 @@ module _ (term : Item → List ℕ) (width : ℕ) (wide : (u : Item) → length 
   placed_length (g ∷ gs) done f =
       let l = flat_length term width wide (select g.vars done) in
       let p = padded_length (flat_map term (select g.vars done)) (width * g.count)
-      (subst (λ (x : ℕ). x ≤ width * g.count) (sym l) (times_le width (length (select g.vars done)) g.count f.0)) in
+      (subst (λ (x : ℕ). x ≤ width * g.count) (sym l) (mul-le-mul_left width f.0)) in
       let ih = placed_length gs done f.1 in
       length-append (padded (flat_map term (select g.vars done)) (width * g.count)) (placed term width gs done) ∙ omega arith
 
 -- The next term of row k.
-module _ {b : Bool} {gs : List Tally} {n : ℕ} {H P T : List ℕ} {done : List Item} (p : Placing b gs n H P T done)
-    (t : Item) (k : ℕ) (m : RoomForTerms gs (done ++ (t ∷ []))) (s : Spot t.vars (tallied n H P) (There k)) where
+module _ {b : Form} {gs : List Tally} {n : ℕ} {H P T : List ℕ} {done : List Item} (p : Placing b gs n H P T done)
+    (t : Item) (k : ℕ) (m : RoomForTerms gs (done ++ (t ∷ []))) (s : Spot t.vars (tallied n H P) (Ok k)) where
   row_lt : k < n
   row_lt = subst (λ (i : ℕ). k < i) (tallied_length n H P) s.0
 
@@ -170,7 +165,7 @@ module _ {b : Bool} {gs : List Tally} {n : ℕ} {H P T : List ℕ} {done : List 
 
   pub term_fits : term_width b * get_or H (4 * k + 1) 0 + term_width b ≤ length T
   term_fits =
-      let a = times_le (term_width b) (suc (get_or H (4 * k + 1) 0)) (tallied_total gs) cursor_small in
+      let a = mul-le-mul_left (term_width b) cursor_small in
       let f = p.fits in
       omega arith
 
@@ -225,14 +220,14 @@ module _ (index field : ℕ) (m : Monomial) where
       go false = refl
 
 -- While the items `all` are placed, of which `rest` are left.
-pub record Going (b : Bool) (n : ℕ) (P H₀ T₀ : List ℕ) (all : List Item) (H T : List ℕ) (rest : List Item) : Type 0 where
+pub record Going (b : Form) (n : ℕ) (P H₀ T₀ : List ℕ) (all : List Item) (H T : List ℕ) (rest : List Item) : Type 0 where
   pub long : length H ≡ length H₀
   pub terms_long : length T ≡ length T₀
   pub front : List Item
   pub whole : front ++ rest ≡ all
   pub placing : (gs : List Tally) → (done : List Item) → Placing b gs n H₀ P T₀ done → RoomForTerms gs (done ++ all) → Placing b gs n H P T (done ++ front)
 
-module _ (b : Bool) (n : ℕ) (P H₀ T₀ : List ℕ) (all : List Item) where
+module _ (b : Form) (n : ℕ) (P H₀ T₀ : List ℕ) (all : List Item) where
   module _ (H T : List ℕ) (rest here rest' : List Item) (e : rest ≡ here ++ rest') (g : Going b n P H₀ T₀ all H T rest) where
     next_items : (g.front ++ here) ++ rest' ≡ all
     next_items = append_assoc g.front here rest' ∙ ap (λ (l : List Item). g.front ++ l) (sym e) ∙ g.whole
@@ -269,12 +264,11 @@ module _ (b : Bool) (n : ℕ) (P H₀ T₀ : List ℕ) (all : List Item) where
       (sym (append-nil g.front) ∙ ap (λ (l : List Item). g.front ++ l) (sym e) ∙ g.whole) (g.placing gs done x y)
 
 -- While a list is placed.
-pub record Listing (b : Bool) (n : ℕ) (P : List ℕ) (index field at count : ℕ) (H₀ T₀ H T : List ℕ) (place i : ℕ) : Type 0 where
-  pub upto : i ≤ count
+pub record Listing (b : Form) (n : ℕ) (P : List ℕ) (index field at count : ℕ) (H₀ T₀ H T : List ℕ) (place i : ℕ) : Type 0 where
   pub standing : Standing (count - i) P place
   pub going : Going b n P H₀ T₀ (items_at index field (list_in P at count)) H T (items_at index field (list_in P place (count - i)))
 
-module _ {b : Bool} {n : ℕ} {P : List ℕ} {index field at count : ℕ} {H₀ T₀ : List ℕ} where
+module _ {b : Form} {n : ℕ} {P : List ℕ} {index field at count : ℕ} {H₀ T₀ : List ℕ} where
   module _ {H T : List ℕ} {place i : ℕ} (g : Listing b n P index field at count H₀ T₀ H T place i) (h : i < count) where
     next_list : items_at index field (list_in P place (count - i))
         ≡ items_at index field (read_monomial (drop place P) ∷ []) ++ items_at index field (list_in P (place + 2 + get_or P place 0) (count - (i + 1)))
@@ -288,12 +282,14 @@ module _ {b : Bool} {n : ℕ} {P : List ℕ} {index field at count : ℕ} {H₀ 
 
     pub listing_step : (H' T' : List ℕ) → length H' ≡ length H → length T' ≡ length T
         → Places b n P H T H' T' (items_at index field (read_monomial (drop place P) ∷ []))
-        → Listing b n P index field at count H₀ T₀ H' T' (place + 2 + get_or P place 0) (i + 1)
-    listing_step H' T' lh lt does = record {
-      upto = omega arith;
-      standing = (standing_next count i place P h g.standing).3;
-      going = going_step b n P H₀ T₀ (items_at index field (list_in P at count)) H T _ _ _ next_list g.going H' T' lh lt does;
-    }
+        → Listing b n P index field at count H₀ T₀ H' T' (place + (2 + get_or P place 0)) (i + 1)
+    listing_step H' T' lh lt does =
+        let e : place + 2 + get_or P place 0 ≡ place + (2 + get_or P place 0) = omega arith in
+        subst (λ (x : ℕ). Listing b n P index field at count H₀ T₀ H' T' x (i + 1)) e
+        (record {
+          standing = (standing_next count i place P h g.standing).3;
+          going = going_step b n P H₀ T₀ (items_at index field (list_in P at count)) H T _ _ _ next_list g.going H' T' lh lt does;
+        })
 
   pub listing_done : {H T : List ℕ} {place i : ℕ} → Listing b n P index field at count H₀ T₀ H T place i → count ≤ i
       → Places b n P H₀ T₀ H T (items_at index field (list_in P at count))

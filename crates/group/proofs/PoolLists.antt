@@ -124,18 +124,11 @@ list_standing (m ∷ ms) P at f w i b =
     let j = inside_is m ms P at w i in
     (omega arith, omega arith, omega arith, list_standing ms P (at + 2 + get_or P at 0) f.1 (rest_is m ms P at w i) j (omega arith))
 
-stands : (P : List ℕ) (i : ℕ) → InPool P i → Standing (get_or P (2 * i + 1) 0) P (get_or P (2 * i) 0)
+-- The list of a record stands in the pool.
+pub stands : (P : List ℕ) (i : ℕ) → InPool P i → Standing (get_or P (2 * i + 1) 0) P (get_or P (2 * i) 0)
 stands P i s =
     subst (λ (m : ℕ). Standing m P (get_or P (2 * i) 0)) (sym s.count_is)
     (list_standing (list_of P i) P (get_or P (2 * i) 0) s.fit s.words_are s.inside s.low)
-
--- A record's list, where it starts and its length being read from the pool.
-module _ (P : List ℕ) (i : ℕ) {at count : ℕ} (a : at ≡ get_or P (2 * i) 0) (c : count ≡ get_or P (2 * i + 1) 0) where
-  pub list_read : list_in P at count ≡ list_of P i
-  list_read j = list_in P (a j) (c j)
-
-  pub stands_read : InPool P i → Standing count P at
-  stands_read s = subst (λ (k : ℕ). Standing count P k) (sym a) (subst (λ (m : ℕ). Standing m P (get_or P (2 * i) 0)) (sym c) (stands P i s))
 
 -- The list that is read from the pool stands there, where any list does.
 pub stored_in : (P : List ℕ) (i : ℕ) (l : List Monomial) → Stored P i l → InPool P i

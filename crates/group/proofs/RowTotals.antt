@@ -38,34 +38,33 @@ sum_from j n i H h l =
 
 -- While a column is summed.
 abbrev pub Summing : (j n : ℕ) (H : List ℕ) (total i : ℕ) → Type 0
-Summing j n H total i = (i ≤ n) × (total ≤ i * 4294967295) × (total + sum (words j (drop i (rows 4 n H))) ≡ sum (column j n H))
+Summing j n H total i = (total ≤ i * 4294967295) × (total + sum (words j (drop i (rows 4 n H))) ≡ sum (column j n H))
 
 pub summing_start : (j n : ℕ) (H : List ℕ) → Summing j n H 0 0
-summing_start j n H = (omega arith, omega arith, omega (arith, ap sum (column_words j n H)))
+summing_start j n H = (omega arith, omega (arith, ap sum (column_words j n H)))
 
-pub summing_step : (j n : ℕ) (H : List ℕ) (total i x : ℕ) → j < 4 → i < n → x ≡ get_or H (4 * i + j) 0 → x ≤ 4294967295
-    → Summing j n H total i → Summing j n H (total + x) (i + 1)
-summing_step j n H total i x l h e b s =
+pub summing_step : (j n : ℕ) (H : List ℕ) (total i : ℕ) → j < 4 → i < n → get_or H (4 * i + j) 0 ≤ 4294967295
+    → Summing j n H total i → Summing j n H (total + get_or H (4 * i + j) 0) (i + 1)
+summing_step j n H total i l h b s =
     let f = sum_from j n i H h l in
-    let t = s.2 in
-    (omega arith, omega (arith, s.1), omega arith)
+    let t = s.1 in
+    (omega (arith, s.0), omega arith)
 
 pub summing_done : (j n : ℕ) (H : List ℕ) (total i : ℕ) → n ≤ i → Summing j n H total i → total ≡ sum (column j n H)
 unfolding sum
 summing_done j n H total i h s =
     let e : sum (words j (drop i (rows 4 n H))) ≡ 0 = ap (λ (r : List (List ℕ)). sum (words j r)) (rows_end n i H h) in
-    omega (arith, s.2)
+    omega (arith, s.1)
 
 -- While running totals are written: what is left to write gives the whole.
 pub record Running (H₀ : List ℕ) (n to from : ℕ) (H : List ℕ) (total i : ℕ) : Type 0 where
-  pub upto : i ≤ n
   pub long : length H ≡ length H₀
   pub rest : drop (4 * n) H ≡ drop (4 * n) H₀
   pub whole : take i (rows 4 n H) ++ totalled to from total (drop i (rows 4 n H)) ≡ totalled to from 0 (rows 4 n H₀)
   pub sums : total + sum (words from (drop i (rows 4 n H))) ≡ sum (column from n H₀)
 
 pub running_start : (H : List ℕ) (n to from : ℕ) → Running H n to from H 0 0
-running_start H n to from = record { upto = omega arith; long = refl; rest = refl; whole = refl; sums = omega (arith, ap sum (column_words from n H)) }
+running_start H n to from = record { long = refl; rest = refl; whole = refl; sums = omega (arith, ap sum (column_words from n H)) }
 
 module _ (H₀ : List ℕ) (n to from : ℕ) (H : List ℕ) (total i : ℕ) (g : Running H₀ n to from H total i) where
   pub running_small : i < n → from < 4 → total + get_or H (4 * i + from) 0 ≤ sum (column from n H₀)
@@ -87,7 +86,6 @@ module _ (H₀ : List ℕ) (n to from : ℕ) (H : List ℕ) (total i : ℕ) (g :
       let z = sum_from from n i H h f in
       let s = g.sums in
       record {
-        upto = omega arith;
         long = length-set H (4 * i + to) total ∙ g.long;
         rest = drop-set-lt (4 * n) H (4 * i + to) total (omega arith) ∙ g.rest;
         whole =

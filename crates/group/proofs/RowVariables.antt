@@ -25,11 +25,11 @@ vars_nil = refl
 -- The first i rows are written.
 abbrev pub Written : (gs : List Tally) (U₀ U : List ℕ) (at i : ℕ) → Type 0
 Written gs U₀ U at i =
-    (i ≤ length gs) × (length U ≡ length U₀) × (at ≡ length (vars_in (take i gs))) × (U ≡ vars_in (take i gs) ++ drop at U₀)
+    (at ≡ length (vars_in (take i gs))) × (U ≡ vars_in (take i gs) ++ drop at U₀)
 
 pub written_none : (gs : List Tally) (U : List ℕ) → Written gs U U 0 0
 unfolding vars_in flat_map
-written_none gs U = (omega arith, refl, refl, refl)
+written_none gs U = (refl, refl)
 
 module _ (gs : List Tally) (U₀ U : List ℕ) (at i : ℕ) (w : Written gs U₀ U at i) (h : i < length gs) where
   vars_next : vars_in (take (i + 1) gs) ≡ vars_in (take i gs) ++ (get_or gs i none).vars
@@ -37,26 +37,24 @@ module _ (gs : List Tally) (U₀ U : List ℕ) (at i : ℕ) (w : Written gs U₀
       ap (λ (k : ℕ). vars_in (take k gs)) (add-one i) ∙ ap vars_in (take-suc gs i none h) ∙ vars_append (take i gs) (get_or gs i none ∷ [])
       ∙ ap (λ (l : List ℕ). vars_in (take i gs) ++ l) (vars_cons (get_or gs i none) [] ∙ ap (λ (l : List ℕ). (get_or gs i none).vars ++ l) vars_nil ∙ append-nil (get_or gs i none).vars)
 
-  pub written_fits : length (vars_in gs) ≤ length U₀ → at + length (get_or gs i none).vars ≤ length U
+  pub written_fits : length (vars_in gs) ≤ length U → at + length (get_or gs i none).vars ≤ length U
   written_fits b =
       let a = ap length vars_next ∙ length-append (vars_in (take i gs)) (get_or gs i none).vars in
       let e = ap (λ (l : List Tally). length (vars_in l)) (sym (take-append-drop (i + 1) gs)) ∙ ap length (vars_append (take (i + 1) gs) (drop (i + 1) gs))
       ∙ length-append (vars_in (take (i + 1) gs)) (vars_in (drop (i + 1) gs)) in
-      omega (arith, w.1, w.2)
+      omega (arith, w.0)
 
-  pub written_more : (U' : List ℕ) (at' c : ℕ) → c ≡ length (get_or gs i none).vars → at' ≡ at + c → length U' ≡ length U
+  pub written_more : (U' : List ℕ) (at' c : ℕ) → c ≡ length (get_or gs i none).vars → at' ≡ at + c
       → U' ≡ take at U ++ ((get_or gs i none).vars ++ drop (at + c) U) → Written gs U₀ U' at' (i + 1)
-  written_more U' at' c e f l q =
+  written_more U' at' c e f q =
       let A : List ℕ = vars_in (take i gs) in
       let X : List ℕ = (get_or gs i none).vars in
-      let t : take at U ≡ A = ap (take at) w.3 ∙ take_at A (drop at U₀) at (sym w.2) in
+      let t : take at U ≡ A = ap (take at) w.1 ∙ take_at A (drop at U₀) at (sym w.0) in
       let d : drop (at + c) U ≡ drop at' U₀ =
-      ap (drop (at + c)) w.3 ∙ ap (λ (k : ℕ). drop (k + c) (A ++ drop at U₀)) w.2 ∙ drop-append-add A (drop at U₀) c
+      ap (drop (at + c)) w.1 ∙ ap (λ (k : ℕ). drop (k + c) (A ++ drop at U₀)) w.0 ∙ drop-append-add A (drop at U₀) c
       ∙ drop-drop c at U₀ ∙ ap (λ (k : ℕ). drop k U₀) (sym f) in
       let n = ap length vars_next ∙ length-append A X in (
-        omega arith,
-        l ∙ w.1,
-        omega (arith, w.2),
+        omega (arith, w.0),
         q ∙ ap (λ (x : List ℕ). x ++ (X ++ drop (at + c) U)) t ∙ sym (append_assoc A X (drop (at + c) U))
             ∙ ap (λ (x : List ℕ). x ++ drop (at + c) U) (sym vars_next) ∙ ap (λ (x : List ℕ). vars_in (take (i + 1) gs) ++ x) d,
       )
@@ -64,7 +62,7 @@ module _ (gs : List Tally) (U₀ U : List ℕ) (at i : ℕ) (w : Written gs U₀
 pub written_all : (gs : List Tally) (U₀ U : List ℕ) (at i : ℕ) → Written gs U₀ U at i → length gs ≤ i → U ≡ vars_in gs ++ drop (length (vars_in gs)) U₀
 written_all gs U₀ U at i w h =
     let e : take i gs ≡ gs = take_all i gs h in
-    w.3 ∙ ap (λ (k : ℕ). vars_in (take i gs) ++ drop k U₀) w.2 ∙ ap (λ (l : List Tally). vars_in l ++ drop (length (vars_in l)) U₀) e
+    w.1 ∙ ap (λ (k : ℕ). vars_in (take i gs) ++ drop k U₀) w.0 ∙ ap (λ (l : List Tally). vars_in l ++ drop (length (vars_in l)) U₀) e
 
 -- A row's variables are as many as its word says.
 pub vars_long : (n k : ℕ) (H P : List ℕ) → Rows n H P → k < n → get_or H (4 * k + 2) 0 ≡ length (get_or (tallied n H P) k none).vars

@@ -1,5 +1,5 @@
 -- Grouping in memory: rows of four words while monomials are counted, the terms as they are placed, and the finished headers.
-use Rattle.std.specs.Prelude.{◌≡◌, Bool, true, false, cond, ℕ, zero, suc, ◌+◌, ◌*◌, ◌-◌, ◌≤◌, ◌<◌, eqb, length, get_or, take, drop, set}
+use Rattle.std.specs.Prelude.{◌≡◌, Option, Some, None, Result, Ok, Err, true, cond, ℕ, zero, suc, ◌+◌, ◌*◌, ◌-◌, ◌≤◌, ◌<◌, eqb, length, get_or, take, drop, set}
 use mathlib.Core.List.{List, [], ◌∷◌, ◌++◌, map, flat_map}
 use Rattle.slices.specs.Rows.{rows}
 use Rattle.semantics.specs.Monomial.{BeforeVars, Monomial, before_vars}
@@ -7,10 +7,8 @@ use Rattle.semantics.specs.Group.{Item, items_of, constraint_term, interaction_t
 use Rattle.semantics.specs.Call.{zeros, padded}
 use Rattle.semantics.specs.Lists.{AscendBy, All}
 use Rattle.monomial.specs.Words.{read_monomial, list_in, Stored}
-use Rattle.group.specs.declared.Found.{Found}
-use Rattle.group.specs.declared.Found.TheVariants.{There, Missing}
-use Rattle.group.specs.declared.Tallied.{Tallied}
-use Rattle.group.specs.declared.Tallied.TheVariants.{Headers, Full}
+use Rattle.group.specs.declared.place.Form.{Form}
+use Rattle.group.specs.declared.place.Form.TheVariants.{Constraint, Interaction}
 
 -- A choice by where one variable list stands, seen from another: before it, behind it, or the same.
 unfoldable pub by_order : {X : Type 0} → (v w : List ℕ) → (less more same : X) → X
@@ -96,9 +94,9 @@ abbrev pub none : Tally
 none = record { vars = []; count = 0 }
 
 -- Where variables are found among tallies, or where they belong.
-abbrev pub Spot : List ℕ → List Tally → Found → Type 0
-Spot v gs (There k) = (k < length gs) × ((get_or gs k none).vars ≡ v)
-Spot v gs (Missing k) =
+abbrev pub Spot : List ℕ → List Tally → Result ℕ ℕ → Type 0
+Spot v gs (Ok k) = (k < length gs) × ((get_or gs k none).vars ≡ v)
+Spot v gs (Err k) =
     (k ≤ length gs)
     × ((i : ℕ) → i < k → before_vars (get_or gs i none).vars v ≡ true)
     × ((i : ℕ) → k ≤ i → i < length gs → before_vars v (get_or gs i none).vars ≡ true)
@@ -111,9 +109,9 @@ Between v gs low high =
     × ((i : ℕ) → high ≤ i → i < length gs → before_vars v (get_or gs i none).vars ≡ true)
 
 -- After counting: the rows have these tallies, or the slice is too short for them.
-abbrev pub CountedMore : (headers pool : List ℕ) (gs : List Tally) → Tallied → Type 0
-CountedMore headers pool gs (Headers n) = Rows n headers pool × (tallied n headers pool ≡ gs)
-CountedMore headers pool gs Full = length headers < 4 * length gs
+abbrev pub CountedMore : (headers pool : List ℕ) (gs : List Tally) → Option ℕ → Type 0
+CountedMore headers pool gs (Some n) = Rows n headers pool × (tallied n headers pool ≡ gs)
+CountedMore headers pool gs None = length headers < 4 * length gs
 
 -- The variables of the monomials whose coefficient is not 0.
 unfoldable pub non_zero : List Monomial → List (List ℕ)
@@ -159,14 +157,14 @@ unfoldable pub totalled : (to from start : ℕ) → List (List ℕ) → List (Li
 totalled to from start [] = []
 totalled to from start (row ∷ rs) = set row to start ∷ totalled to from (start + get_or row from 0) rs
 
--- A family's terms: those of constraints, two words, or of interactions, three.
-abbrev pub term_of : (interaction : Bool) → Item → List ℕ
-term_of false t = constraint_term t
-term_of true t = interaction_term t
+-- A term in its form: of a constraint, two words, or of an interaction, three.
+abbrev pub term_of : Form → Item → List ℕ
+term_of Constraint t = constraint_term t
+term_of Interaction t = interaction_term t
 
-abbrev pub term_width : (interaction : Bool) → ℕ
-term_width false = 2
-term_width true = 3
+abbrev pub term_width : Form → ℕ
+term_width Constraint = 2
+term_width Interaction = 3
 
 -- A monomial as an item, and the items of a list, for a label.
 abbrev pub item_at : (index field : ℕ) → Monomial → Item
@@ -176,19 +174,19 @@ abbrev pub items_at : (index field : ℕ) → List Monomial → List Item
 items_at index field ms = items_of (record { node = 0; index = index; field = field }) ms
 
 -- Headers and terms while the items `done` are placed into the groups `gs`.
-pub record Placing (interaction : Bool) (gs : List Tally) (n : ℕ) (headers pool terms : List ℕ) (done : List Item) : Type 0 where
+pub record Placing (form : Form) (gs : List Tally) (n : ℕ) (headers pool terms : List ℕ) (done : List Item) : Type 0 where
   pub rows_are : Rows n headers pool
   pub tallies_are : tallied n headers pool ≡ gs
   pub cursors_are : column 1 n headers ≡ cursors 0 gs done
-  pub terms_are : terms ≡ padded (placed (term_of interaction) (term_width interaction) gs done) (length terms)
-  pub fits : term_width interaction * tallied_total gs ≤ length terms
+  pub terms_are : terms ≡ padded (placed (term_of form) (term_width form) gs done) (length terms)
+  pub fits : term_width form * tallied_total gs ≤ length terms
   pub small : tallied_total gs ≤ 4294967295
 
 -- What placing some items asks.
-pub record ToPlace (interaction : Bool) (n : ℕ) (headers pool terms : List ℕ) (ts : List Item) : Type 0 where
+pub record ToPlace (form : Form) (n : ℕ) (headers pool terms : List ℕ) (ts : List Item) : Type 0 where
   pub gs : List Tally
   pub done : List Item
-  pub placing : Placing interaction gs n headers pool terms done
+  pub placing : Placing form gs n headers pool terms done
   pub room : RoomForTerms gs (done ++ ts)
 
 -- The variables of the groups.
@@ -201,10 +199,10 @@ tallied_headers vo to [] = []
 tallied_headers vo to (g ∷ gs) = vo ∷ to ∷ length g.vars ∷ g.count ∷ tallied_headers (vo + length g.vars) (to + g.count) gs
 
 -- What placing the items `ts` does, whatever was placed before.
-abbrev pub Places : (interaction : Bool) (n : ℕ) (pool headers terms headers' terms' : List ℕ) (ts : List Item) → Type 0
-Places interaction n pool headers terms headers' terms' ts =
-    (gs : List Tally) → (done : List Item) → Placing interaction gs n headers pool terms done → RoomForTerms gs (done ++ ts)
-    → Placing interaction gs n headers' pool terms' (done ++ ts)
+abbrev pub Places : (form : Form) (n : ℕ) (pool headers terms headers' terms' : List ℕ) (ts : List Item) → Type 0
+Places form n pool headers terms headers' terms' ts =
+    (gs : List Tally) → (done : List Item) → Placing form gs n headers pool terms done → RoomForTerms gs (done ++ ts)
+    → Placing form gs n headers' pool terms' (done ++ ts)
 
 -- The variables of the monomials that the lists of these records have, zero coefficients left out.
 unfoldable pub vars_named : (pool references : List ℕ) → List (List ℕ)

@@ -10,22 +10,11 @@ pub mod place;
 mod search;
 pub mod totals;
 
-// The variables of a monomial are those of a row, or belong in front of one.
-#[derive(Clone, Copy)]
-pub enum Found {
-    There(usize),
-    Missing(usize),
-}
+use pending::Waiting;
 
-// How many rows there are, or the slice is too short.
-#[derive(Clone, Copy)]
-pub enum Tallied {
-    Headers(usize),
-    Full,
-}
-
-// Counts the monomials of a list that stands at `at`: in runs, each of which has the monomials without a row put in at its end.
-fn tally_list(headers: &mut [u32], n: usize, pool: &[u32], at: usize, count: usize) -> Tallied
+// Counts the monomials of a list that stands at `at`, in runs, each of which has the monomials without a row put in at its end. Hands back how many rows
+// there are then; None: the slice is too short for them.
+fn tally_list(headers: &mut [u32], n: usize, pool: &[u32], at: usize, count: usize) -> Option<usize>
     requires { ToCount n headers.old pool.now at count }
     ensures { CountedMore headers.new pool.now
         (tally_all (non_zero (list_in pool.now at count)) (tallied n headers.old pool.now)) result }
@@ -34,36 +23,23 @@ fn tally_list(headers: &mut [u32], n: usize, pool: &[u32], at: usize, count: usi
     let mut place = at;
     let mut i: usize = 0;
     while i < count {
-        let mut places: [usize; 32] = [0; 32];
-        let mut fronts: [usize; 32] = [0; 32];
-        let run = pending::tally_run(
-            headers,
-            rows,
-            pool,
-            place,
-            count - i,
-            &mut places,
-            &mut fronts,
-        );
-        let next = pending::insert_pending(headers, rows, pool, &places, &fronts, run.pending);
-        let Tallied::Headers(k) = next else {
-            return Tallied::Full;
-        };
-        rows = k;
+        let mut waits = [Waiting::default(); 32];
+        let run = pending::tally_run(headers, rows, pool, place, count - i, &mut waits);
+        rows = pending::insert_pending(headers, rows, pool, &waits, run.pending)?;
         place = run.place;
         i += run.done;
     }
-    Tallied::Headers(rows)
+    Some(rows)
 }
 
-// Counts the monomials of a record's list.
-pub fn tally_root(headers: &mut [u32], n: usize, pool: &[u32], node: usize) -> Tallied
+// Counts the monomials of a record's list, and hands back how many rows there are then; None: the slice is too short for them.
+pub fn tally_root(headers: &mut [u32], n: usize, pool: &[u32], node: usize) -> Option<usize>
     requires { Rows n headers.old pool.now × InPool pool.now node
         × (tallied_total (tallied n headers.old pool.now) + length (list_of pool.now node) ≤ 4294967295) }
     ensures { CountedMore headers.new pool.now
         (tally_all (non_zero (list_of pool.now node)) (tallied n headers.old pool.now)) result }
 {
-    let at = answers::wide(pool[2 * node]);
-    let count = answers::wide(pool[2 * node + 1]);
+    let at = pool[2 * node] as usize;
+    let count = pool[2 * node + 1] as usize;
     tally_list(headers, n, pool, at, count)
 }

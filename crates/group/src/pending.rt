@@ -2,23 +2,28 @@
 ghost use Rattle.std.specs.Prelude.{◌≡◌, [], ◌∷◌, ℕ, ◌+◌, ◌*◌, ◌-◌, ◌≤◌, ◌<◌, length, get_or};
 ghost use Rattle.std.proofs.lemmas.List.Edits.{sets};
 ghost use Rattle.group.specs.Grouped.{tallied, tallied_total, CountedMore, non_zero, monomial_in, ToCount};
-ghost use Rattle.group.specs.Waiting.{PlaceInside, pool_vars, Batch, batched, MayFollow, Nexts, Ran};
+ghost use Rattle.group.specs.Waiting.{nobody, PlaceInside, pool_vars, Batch, batched, MayFollow, Nexts, Ran};
 
-use crate::{Found, Tallied, search};
+use crate::search;
 use monomial::vars;
 use monomial::vars::Order;
-use slices::shift;
 
-// What becomes of the next monomial: it is counted or waits, with how many wait then and near which row the one after it is looked for;
-// or those that wait come first.
-#[derive(Clone, Copy)]
-pub enum Next {
-    Taken(usize, usize),
-    Stopped,
+// A monomial that waits: where it stands in the pool, and the row that it goes in front of.
+#[derive(Clone, Copy, Debug, Default, PartialEq, Eq)]
+pub struct Waiting {
+    pub place: usize,
+    pub front: usize,
+}
+
+// After a monomial that is counted or waits: how many wait then, and near which row the one after it is looked for.
+#[derive(Clone, Copy, Debug, PartialEq, Eq)]
+pub struct Taken {
+    pub pending: usize,
+    pub near: usize,
 }
 
 // How many monomials a run took, where the next one stands, and how many wait.
-#[derive(Clone, Copy)]
+#[derive(Clone, Copy, Debug, PartialEq, Eq)]
 pub struct Run {
     pub done: usize,
     pub place: usize,
@@ -37,68 +42,65 @@ fn put_row(headers: &mut [u32], at: usize, place: u32, count: u32)
 }
 
 // Whether the monomial that stands at `at` may wait behind the b that do: there is room, and it comes after the last of them.
-fn may_follow(places: &[usize], b: usize, pool: &[u32], at: usize) -> bool
-    requires { (b ≤ length places.now) × (0 < length places.now) × ((j : ℕ) → j < b → PlaceInside pool.now (get_or places.now j 0))
+fn may_follow(waits: &[Waiting], b: usize, pool: &[u32], at: usize) -> bool
+    requires { (b ≤ length waits.now) × (0 < length waits.now) × ((j : ℕ) → j < b → PlaceInside pool.now (get_or waits.now j nobody).place)
         × PlaceInside pool.now at }
-    ensures { MayFollow b places.now pool.now at result }
+    ensures { MayFollow b waits.now pool.now at result }
 {
     if b == 0 {
         return true;
     }
-    if places.len() <= b {
+    if waits.len() <= b {
         return false;
     }
-    let last = places[b - 1];
+    let last = waits[b - 1].place;
     let order = vars::order_at(
         pool,
         at + 2,
-        answers::wide(pool[at]),
+        pool[at] as usize,
         pool,
         last + 2,
-        answers::wide(pool[last]),
+        pool[last] as usize,
     );
-    match order {
-        Order::After => true,
-        Order::Same => false,
-        Order::Before => false,
-    }
+    matches!(order, Order::After)
 }
 
-// The row before row k, or n where there is none.
-fn row_before(k: usize, n: usize) -> usize {
-    if 0 < k { k - 1 } else { n }
-}
-
-// Counts the monomial that stands at `at`, or has it wait.
+// Counts the monomial that stands at `at`, or has it wait. None: those that wait come first.
+#[tactic(auto, using(crate::proofs::Headers::tallied_length))]
 fn tally_near(
     headers: &mut [u32],
     n: usize,
     pool: &[u32],
     at: usize,
     near: usize,
-    places: &mut [usize],
-    fronts: &mut [usize],
+    waits: &mut [Waiting],
     b: usize,
-) -> Next
-    requires { Batch n b headers.old pool.now places.old fronts.old × PlaceInside pool.now at
+) -> Option<Taken>
+    requires { Batch n b headers.old pool.now waits.old × PlaceInside pool.now at
         × (tallied_total (tallied n headers.old pool.now) < 4294967295) }
-    ensures { Nexts n b (pool_vars pool.now at ∷ []) (batched n b headers.old pool.now places.old)
-        headers.new pool.now places.new fronts.new result }
+    ensures { Nexts n b (pool_vars pool.now at ∷ []) (batched n b headers.old pool.now waits.old)
+        headers.new pool.now waits.new result }
 {
-    let found = search::find_near(headers, n, pool, at, near);
-    match found {
-        Found::There(k) => {
-            let row = 4 * k;
-            headers[row + 3] = headers[row + 3] + 1;
-            Next::Taken(b, k)
+    match search::find_near(headers, n, pool, at, near) {
+        Ok(k) => {
+            headers[4 * k + 3] += 1;
+            Some(Taken {
+                pending: b,
+                near: k,
+            })
         }
-        Found::Missing(k) => {
-            if may_follow(places, b, pool, at) {
-                places[b] = at;
-                fronts[b] = k;
-                return Next::Taken(b + 1, row_before(k, n));
+        Err(k) => {
+            if may_follow(waits, b, pool, at) {
+                waits[b] = Waiting {
+                    place: at,
+                    front: k,
+                };
+                return Some(Taken {
+                    pending: b + 1,
+                    near: k.checked_sub(1).unwrap_or(n),
+                });
             }
-            Next::Stopped
+            None
         }
     }
 }
@@ -110,19 +112,18 @@ fn tally_kept(
     pool: &[u32],
     at: usize,
     near: usize,
-    places: &mut [usize],
-    fronts: &mut [usize],
+    waits: &mut [Waiting],
     b: usize,
-) -> Next
-    requires { Batch n b headers.old pool.now places.old fronts.old × PlaceInside pool.now at
+) -> Option<Taken>
+    requires { Batch n b headers.old pool.now waits.old × PlaceInside pool.now at
         × (tallied_total (tallied n headers.old pool.now) < 4294967295) }
-    ensures { Nexts n b (non_zero (monomial_in pool.now at ∷ [])) (batched n b headers.old pool.now places.old)
-        headers.new pool.now places.new fronts.new result }
+    ensures { Nexts n b (non_zero (monomial_in pool.now at ∷ [])) (batched n b headers.old pool.now waits.old)
+        headers.new pool.now waits.new result }
 {
     if pool[at + 1] == 0 {
-        return Next::Taken(b, near);
+        return Some(Taken { pending: b, near });
     }
-    tally_near(headers, n, pool, at, near, places, fronts, b)
+    tally_near(headers, n, pool, at, near, waits, b)
 }
 
 // Takes monomials of a list that stands at `at` until it ends, or until those that wait come first.
@@ -132,62 +133,56 @@ pub fn tally_run(
     pool: &[u32],
     at: usize,
     count: usize,
-    places: &mut [usize],
-    fronts: &mut [usize],
+    waits: &mut [Waiting],
 ) -> Run
-    requires { ToCount n headers.old pool.now at count × (0 < length places.old) × (length fronts.old ≡ length places.old) }
-    ensures { Ran n pool.now at count (tallied n headers.old pool.now) headers.new
-        places.new fronts.new result }
+    requires { ToCount n headers.old pool.now at count × (0 < length waits.old) }
+    ensures { Ran n pool.now at count (tallied n headers.old pool.now) headers.new waits.new result }
 {
     let mut place = at;
     let mut near = n;
     let mut b: usize = 0;
-    let mut i: usize = 0;
-    while i < count {
-        let next = tally_kept(headers, n, pool, place, near, places, fronts, b);
-        let Next::Taken(c, k) = next else {
+    for i in 0..count {
+        let next = tally_kept(headers, n, pool, place, near, waits, b);
+        let Some(taken) = next else {
             return Run {
                 done: i,
-                place: place,
+                place,
                 pending: b,
             };
         };
-        b = c;
-        near = k;
-        place = place + 2 + answers::wide(pool[place]);
-        i += 1;
+        b = taken.pending;
+        near = taken.near;
+        place += 2 + pool[place] as usize;
     }
     Run {
-        done: i,
-        place: place,
+        done: count,
+        place,
         pending: b,
     }
 }
 
-// Puts the b monomials that wait in among the n rows, from the last to the first.
+// Puts the b monomials that wait in among the n rows, from the last to the first, and hands back how many rows there are then; None: they have no room.
+#[tactic(auto, using(crate::proofs::Inserts::insert_next))]
 pub fn insert_pending(
     headers: &mut [u32],
     n: usize,
     pool: &[u32],
-    places: &[usize],
-    fronts: &[usize],
+    waits: &[Waiting],
     b: usize,
-) -> Tallied
-    requires { Batch n b headers.old pool.now places.now fronts.now }
-    ensures { CountedMore headers.new pool.now (batched n b headers.old pool.now places.now) result }
+) -> Option<usize>
+    requires { Batch n b headers.old pool.now waits.now }
+    ensures { CountedMore headers.new pool.now (batched n b headers.old pool.now waits.now) result }
 {
     if headers.len() - 4 * n < 4 * b {
-        return Tallied::Full;
+        return None;
     }
     let mut end = n;
-    let mut j = b;
-    while 0 < j {
-        j -= 1;
-        let at = places[j];
-        let k = fronts[j];
-        shift::shift_up(headers, 4 * k, 4 * end, 4 * j + 4);
+    for j in (0..b).rev() {
+        let at = waits[j].place;
+        let k = waits[j].front;
+        headers.copy_within(4 * k..4 * end, 4 * k + 4 * j + 4);
         put_row(headers, 4 * k + 4 * j, at as u32, pool[at]);
         end = k;
     }
-    Tallied::Headers(n + b)
+    Some(n + b)
 }

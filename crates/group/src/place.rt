@@ -1,12 +1,25 @@
 // Placing the terms of monomials into their groups, and writing the groups' variables.
-ghost use Rattle.std.specs.Prelude.{◌≡◌, [], ◌∷◌, ◌++◌, ◌+◌, ◌*◌, ◌≤◌, ◌<◌, length, get_or, take, drop};
+ghost use Rattle.std.specs.Prelude.{◌≡◌, [], ◌∷◌, ◌++◌, ◌+◌, ◌*◌, ◌≤◌, length, get_or, take, drop};
 ghost use Rattle.std.proofs.lemmas.List.Edits.{sets};
 ghost use Rattle.semantics.specs.Group.{Item};
 ghost use Rattle.monomial.specs.Words.{list_in};
 ghost use Rattle.group.specs.Grouped.{Rows, tallied, row_place, row_size, row_vars, monomial_in, MonomialInside, Standing};
 ghost use Rattle.group.specs.Grouped.{list_of, InPool, term_of, term_width, item_at, items_at, ToPlace, Places, vars_in};
 
-use crate::Found;
+// The form of a term: two words in a constraint, three in an interaction.
+#[derive(Clone, Copy, Debug, PartialEq, Eq)]
+pub enum Form {
+    Constraint,
+    Interaction,
+}
+
+// What the terms of one list are placed under: their form, the index of the constraint or the interaction, and the field.
+#[derive(Clone, Copy, Debug, PartialEq, Eq)]
+pub struct Label {
+    pub form: Form,
+    pub index: u32,
+    pub field: u32,
+}
 
 // A term of a constraint, two words; `at` counts terms.
 fn put_constraint_term(terms: &mut [u32], at: usize, index: u32, coef: u32)
@@ -29,51 +42,42 @@ fn put_interaction_term(terms: &mut [u32], at: usize, coef: u32, index: u32, fie
     terms[i + 2] = field;
 }
 
-// A term of one of the two families.
-fn put_term(terms: &mut [u32], at: usize, interaction: bool, index: u32, field: u32, coef: u32)
-    requires { term_width interaction * at + term_width interaction ≤ length terms.old }
-    ensures { (t : Item) → (t.index ≡ index) → (t.field ≡ field) → (t.coef ≡ coef)
-        → terms.new ≡ sets terms.old (term_width interaction * at) (term_of interaction t) }
+// A term under a label.
+fn put_term(terms: &mut [u32], at: usize, label: Label, coef: u32)
+    requires { term_width label.form * at + term_width label.form ≤ length terms.old }
+    ensures { (t : Item) → (t.index ≡ label.index) → (t.field ≡ label.field) → (t.coef ≡ coef)
+        → terms.new ≡ sets terms.old (term_width label.form * at) (term_of label.form t) }
 {
-    if interaction {
-        put_interaction_term(terms, at, coef, index, field);
-        return;
+    match label.form {
+        Form::Constraint => put_constraint_term(terms, at, label.index, coef),
+        Form::Interaction => put_interaction_term(terms, at, coef, label.index, label.field),
     }
-    put_constraint_term(terms, at, index, coef)
 }
 
 // Places the term of a monomial that stands at `at`; its row is looked for near row `near`. Hands back where to look for the next.
+#[tactic(auto, using(crate::proofs::Headers::tallied_length))]
 pub fn place_monomial(
     headers: &mut [u32],
     n: usize,
     pool: &[u32],
     at: usize,
-    interaction: bool,
-    index: u32,
-    field: u32,
+    label: Label,
     terms: &mut [u32],
     near: usize,
 ) -> usize
-    requires { ToPlace interaction n headers.old pool.now terms.old (item_at index field (monomial_in pool.now at) ∷ [])
+    requires { ToPlace label.form n headers.old pool.now terms.old (item_at label.index label.field (monomial_in pool.now at) ∷ [])
         × (get_or pool.now at 0 ≤ 14) × MonomialInside pool.now at }
-    ensures { Places interaction n pool.now headers.old terms.old headers.new terms.new
-        (item_at index field (monomial_in pool.now at) ∷ []) }
+    ensures { Places label.form n pool.now headers.old terms.old headers.new terms.new
+        (item_at label.index label.field (monomial_in pool.now at) ∷ []) }
 {
     let coef = pool[at + 1];
     let found = crate::search::find_near(headers, n, pool, at, near);
-    let Found::There(k) = found else {
+    let Ok(k) = found else {
         return near;
     };
     let row = 4 * k;
     let cursor = headers[row + 1];
-    put_term(
-        terms,
-        answers::wide(cursor),
-        interaction,
-        index,
-        field,
-        coef,
-    );
+    put_term(terms, cursor as usize, label, coef);
     headers[row + 1] = cursor + 1;
     k
 }
@@ -84,57 +88,42 @@ fn place_kept(
     n: usize,
     pool: &[u32],
     at: usize,
-    interaction: bool,
-    index: u32,
-    field: u32,
+    label: Label,
     terms: &mut [u32],
     near: usize,
 ) -> usize
-    requires { ToPlace interaction n headers.old pool.now terms.old (items_at index field (monomial_in pool.now at ∷ []))
+    requires { ToPlace label.form n headers.old pool.now terms.old (items_at label.index label.field (monomial_in pool.now at ∷ []))
         × (get_or pool.now at 0 ≤ 14) × MonomialInside pool.now at }
-    ensures { Places interaction n pool.now headers.old terms.old headers.new terms.new
-        (items_at index field (monomial_in pool.now at ∷ [])) }
+    ensures { Places label.form n pool.now headers.old terms.old headers.new terms.new
+        (items_at label.index label.field (monomial_in pool.now at ∷ [])) }
 {
     if pool[at + 1] == 0 {
         return near;
     }
-    place_monomial(headers, n, pool, at, interaction, index, field, terms, near)
+    place_monomial(headers, n, pool, at, label, terms, near)
 }
 
 // Places the terms of a list that stands at `at`.
+#[tactic(auto, using(crate::proofs::PoolLists::standing_next))]
 pub fn place_list(
     headers: &mut [u32],
     n: usize,
     pool: &[u32],
     at: usize,
     count: usize,
-    interaction: bool,
-    index: u32,
-    field: u32,
+    label: Label,
     terms: &mut [u32],
 )
-    requires { ToPlace interaction n headers.old pool.now terms.old (items_at index field (list_in pool.now at count))
+    requires { ToPlace label.form n headers.old pool.now terms.old (items_at label.index label.field (list_in pool.now at count))
         × Standing count pool.now at }
-    ensures { Places interaction n pool.now headers.old terms.old headers.new terms.new
-        (items_at index field (list_in pool.now at count)) }
+    ensures { Places label.form n pool.now headers.old terms.old headers.new terms.new
+        (items_at label.index label.field (list_in pool.now at count)) }
 {
     let mut near = n;
     let mut place = at;
-    let mut i: usize = 0;
-    while i < count {
-        near = place_kept(
-            headers,
-            n,
-            pool,
-            place,
-            interaction,
-            index,
-            field,
-            terms,
-            near,
-        );
-        place = place + 2 + answers::wide(pool[place]);
-        i += 1;
+    for _i in 0..count {
+        near = place_kept(headers, n, pool, place, label, terms, near);
+        place += 2 + pool[place] as usize;
     }
 }
 
@@ -144,28 +133,16 @@ pub fn place_root(
     n: usize,
     pool: &[u32],
     node: usize,
-    interaction: bool,
-    index: u32,
-    field: u32,
+    label: Label,
     terms: &mut [u32],
 )
-    requires { ToPlace interaction n headers.old pool.now terms.old (items_at index field (list_of pool.now node)) × InPool pool.now node }
-    ensures { Places interaction n pool.now headers.old terms.old headers.new terms.new
-        (items_at index field (list_of pool.now node)) }
+    requires { ToPlace label.form n headers.old pool.now terms.old (items_at label.index label.field (list_of pool.now node)) × InPool pool.now node }
+    ensures { Places label.form n pool.now headers.old terms.old headers.new terms.new
+        (items_at label.index label.field (list_of pool.now node)) }
 {
-    let at = answers::wide(pool[2 * node]);
-    let count = answers::wide(pool[2 * node + 1]);
-    place_list(
-        headers,
-        n,
-        pool,
-        at,
-        count,
-        interaction,
-        index,
-        field,
-        terms,
-    )
+    let at = pool[2 * node] as usize;
+    let count = pool[2 * node + 1] as usize;
+    place_list(headers, n, pool, at, count, label, terms)
 }
 
 // The variables of row i go to `at`; hands back where the next go.
@@ -176,10 +153,9 @@ fn write_row(headers: &[u32], i: usize, pool: &[u32], variables: &mut [u32], at:
         ≡ take at variables.old ++ (row_vars headers.now pool.now i ++ drop (at + row_size headers.now i) variables.old)) }
 {
     let row = 4 * i;
-    let from = answers::wide(headers[row]) + 2;
-    let count = answers::wide(headers[row + 2]);
-    let end = from + count;
-    slices::copy_words(&pool[from..end], &mut variables[at..]);
+    let from = headers[row] as usize + 2;
+    let count = headers[row + 2] as usize;
+    variables[at..at + count].copy_from_slice(&pool[from..from + count]);
     at + count
 }
 
@@ -190,9 +166,7 @@ pub fn write_variables(headers: &[u32], n: usize, pool: &[u32], variables: &mut 
         ++ drop (length (vars_in (tallied n headers.now pool.now))) variables.old }
 {
     let mut at: usize = 0;
-    let mut i: usize = 0;
-    while i < n {
+    for i in 0..n {
         at = write_row(headers, i, pool, variables, at);
-        i += 1;
     }
 }

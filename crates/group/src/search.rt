@@ -4,7 +4,6 @@ ghost use Rattle.monomial.specs.Orders.{order_of};
 ghost use Rattle.group.specs.Grouped.{Rows, tallied, row_place, row_size, row_vars, Spot, Between, MonomialInside};
 ghost use Rattle.group.specs.Waiting.{pool_vars};
 
-use crate::Found;
 use monomial::vars;
 use monomial::vars::Order;
 
@@ -18,15 +17,24 @@ fn order_of_row(headers: &[u32], i: usize, pool: &[u32], at: usize) -> Order
     vars::order_at(
         pool,
         at + 2,
-        answers::wide(pool[at]),
+        pool[at] as usize,
         pool,
-        answers::wide(headers[row]) + 2,
-        answers::wide(headers[row + 2]),
+        headers[row] as usize + 2,
+        headers[row + 2] as usize,
     )
 }
 
-// Searches the rows between two: those below `from` stand before the monomial's variables, those from `to` on behind them.
-fn search_rows(headers: &[u32], n: usize, from: usize, to: usize, pool: &[u32], at: usize) -> Found
+// Searches the rows between two: those below `from` stand before the monomial's variables, those from `to` on behind them. Ok: the row that has them,
+// Err: the row that they belong in front of.
+#[tactic(auto, using(crate::proofs::Headers::tallied_length, crate::proofs::Headers::inside_at))]
+fn search_rows(
+    headers: &[u32],
+    n: usize,
+    from: usize,
+    to: usize,
+    pool: &[u32],
+    at: usize,
+) -> Result<usize, usize>
     requires { Rows n headers.now pool.now × MonomialInside pool.now at
         × Between (pool_vars pool.now at) (tallied n headers.now pool.now) from to }
     ensures { Spot (pool_vars pool.now at) (tallied n headers.now pool.now) result }
@@ -37,16 +45,23 @@ fn search_rows(headers: &[u32], n: usize, from: usize, to: usize, pool: &[u32], 
         let mid = low + (high - low) / 2;
         let order = order_of_row(headers, mid, pool, at);
         match order {
-            Order::Same => return Found::There(mid),
+            Order::Same => return Ok(mid),
             Order::Before => high = mid,
             Order::After => low = mid + 1,
         }
     }
-    Found::Missing(low)
+    Err(low)
 }
 
 // Searches the rows from `from` on, in steps that double: those below stand before the monomial's variables.
-fn search_on(headers: &[u32], n: usize, from: usize, pool: &[u32], at: usize) -> Found
+#[tactic(auto, using(crate::proofs::Headers::tallied_length, crate::proofs::Headers::inside_at))]
+fn search_on(
+    headers: &[u32],
+    n: usize,
+    from: usize,
+    pool: &[u32],
+    at: usize,
+) -> Result<usize, usize>
     requires { Rows n headers.now pool.now × MonomialInside pool.now at
         × Between (pool_vars pool.now at) (tallied n headers.now pool.now) from n }
     ensures { Spot (pool_vars pool.now at) (tallied n headers.now pool.now) result }
@@ -57,7 +72,7 @@ fn search_on(headers: &[u32], n: usize, from: usize, pool: &[u32], at: usize) ->
         let k = low + step;
         let order = order_of_row(headers, k, pool, at);
         match order {
-            Order::Same => return Found::There(k),
+            Order::Same => return Ok(k),
             Order::Before => return search_rows(headers, n, low, k, pool, at),
             Order::After => {
                 low = k + 1;
@@ -69,7 +84,14 @@ fn search_on(headers: &[u32], n: usize, from: usize, pool: &[u32], at: usize) ->
 }
 
 // Searches the n rows for the variables of the monomial that stands at `at`: near row `near` first, where there is one.
-pub fn find_near(headers: &[u32], n: usize, pool: &[u32], at: usize, near: usize) -> Found
+#[tactic(auto, using(crate::proofs::Headers::tallied_length, crate::proofs::Headers::inside_at))]
+pub fn find_near(
+    headers: &[u32],
+    n: usize,
+    pool: &[u32],
+    at: usize,
+    near: usize,
+) -> Result<usize, usize>
     requires { Rows n headers.now pool.now × MonomialInside pool.now at }
     ensures { Spot (pool_vars pool.now at) (tallied n headers.now pool.now) result }
 {
@@ -78,7 +100,7 @@ pub fn find_near(headers: &[u32], n: usize, pool: &[u32], at: usize, near: usize
     }
     let order = order_of_row(headers, near, pool, at);
     match order {
-        Order::Same => Found::There(near),
+        Order::Same => Ok(near),
         Order::Before => search_rows(headers, n, 0, near, pool, at),
         Order::After => search_on(headers, n, near + 1, pool, at),
     }

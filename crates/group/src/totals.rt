@@ -5,34 +5,21 @@ ghost use Rattle.group.specs.Grouped.{column, sum, totalled};
 
 use header_offsets::words;
 
+// The words of a row that hold how many variables and how many terms it has.
+pub const VARIABLES: usize = 2;
+
+pub const TERMS: usize = 3;
+
 // The total of one word over the n rows.
-fn column_total(headers: &[u32], n: usize, word: usize) -> usize
+pub fn column_total(headers: &[u32], n: usize, word: usize) -> usize
     requires { (word < 4) × (4 * n ≤ length headers.now) × (n ≤ 4294967295) }
     ensures { result ≡ sum (column word n headers.now) }
 {
     let mut total: usize = 0;
-    let mut i: usize = 0;
-    while i < n {
-        total += answers::wide(headers[4 * i + word]);
-        i += 1;
+    for i in 0..n {
+        total += headers[4 * i + word] as usize;
     }
     total
-}
-
-// How many variables the rows have in all.
-pub fn total_variables(headers: &[u32], n: usize) -> usize
-    requires { (4 * n ≤ length headers.now) × (n ≤ 4294967295) }
-    ensures { result ≡ sum (column 2 n headers.now) }
-{
-    column_total(headers, n, 2)
-}
-
-// How many terms the rows have in all.
-pub fn total_terms(headers: &[u32], n: usize) -> usize
-    requires { (4 * n ≤ length headers.now) × (n ≤ 4294967295) }
-    ensures { result ≡ sum (column 3 n headers.now) }
-{
-    column_total(headers, n, 3)
 }
 
 // The cursor of each row is set to where its first term goes: the total of the terms before it.
@@ -42,13 +29,11 @@ pub fn start_terms(headers: &mut [u32], n: usize)
         × (drop (4 * n) headers.new ≡ drop (4 * n) headers.old) }
 {
     let mut total: u32 = 0;
-    let mut i: usize = 0;
-    while i < n {
+    for i in 0..n {
         let row = 4 * i;
         let terms = headers[row + 3];
         headers[row + 1] = total;
         total += terms;
-        i += 1;
     }
 }
 

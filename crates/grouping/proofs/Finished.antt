@@ -1,6 +1,6 @@
 -- The rows before and after the terms are placed, and the slices of a family when all is written.
 use mathlib.Core.Path.{◌≡◌, refl, sym, ◌∙◌, ap, subst}
-use mathlib.Core.Bool.{Bool, cond}
+use mathlib.Core.Bool.{cond}
 use mathlib.Core.List.{List, [], ◌∷◌, ◌++◌, map, flat_map}
 use Prim.Native.Nat.{ℕ, zero, suc, ◌+◌, ◌*◌, ◌-◌, ◌≤◌}
 use native.Mathlib.Omega.{arith}
@@ -14,6 +14,7 @@ use Rattle.semantics.specs.Group.{Root, Item, items_of}
 use Rattle.semantics.specs.Call.{zeros, padded}
 use Rattle.semantics.specs.Lists.{All}
 use Rattle.semantics.proofs.Calls.{zeros_add, zeros_long, padded_is}
+use Rattle.group.specs.declared.place.Form.{Form}
 use Rattle.group.specs.Grouped.{Tally, tally_all, Ascends, tallied_total, tally_row, tallied, RowInside, Rows, column, sum, totalled, cursors, select, placed}
 use Rattle.group.specs.Grouped.{items_at, term_of, term_width, Placing, vars_in, tallied_headers, InPool, vars_named}
 use Rattle.group.proofs.Tallies.{total_all, length_all}
@@ -72,7 +73,7 @@ zeros_padded ws m n e h =
     let b : n - m ≡ n - length ws = omega arith in
     ap zeros (sym a) ∙ zeros_add m (n - m) ∙ ap (λ (k : ℕ). zeros m ++ zeros k) b ∙ ap (λ (l : List ℕ). l ++ zeros (n - length ws)) (sym e) ∙ sym (padded_is ws n)
 
-pub placing_start : (b : Bool) (n : ℕ) (H H' P T : List ℕ) → Rows n H P → rows 4 n H' ≡ totalled 1 3 0 (rows 4 n H) → drop (4 * n) H' ≡ drop (4 * n) H
+pub placing_start : (b : Form) (n : ℕ) (H H' P T : List ℕ) → Rows n H P → rows 4 n H' ≡ totalled 1 3 0 (rows 4 n H) → drop (4 * n) H' ≡ drop (4 * n) H
     → length H' ≡ length H → Vacant (placed (term_of b) (term_width b) (tallied n H P) []) T → tallied_total (tallied n H P) ≤ 4294967295
     → Placing b (tallied n H P) n H' P T []
 unfolding tallied
@@ -206,7 +207,7 @@ family_small n H P references g a h =
     let e = sym (tallied_length n H P) ∙ ap length g in
     (omega arith, omega arith)
 
-pub vacant_terms : (b : Bool) (gs : List Tally) (T : List ℕ) → T ≡ zeros (length T) → term_width b * tallied_total gs ≤ length T
+pub vacant_terms : (b : Form) (gs : List Tally) (T : List ℕ) → T ≡ zeros (length T) → term_width b * tallied_total gs ≤ length T
     → Vacant (placed (term_of b) (term_width b) gs []) T
 vacant_terms b gs T e h = (e, let q = ap length (placed_none (term_of b) (term_width b) gs) ∙ zeros_long (term_width b * tallied_total gs) in omega arith)
 

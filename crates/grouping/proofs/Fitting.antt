@@ -1,7 +1,6 @@
 -- A family of roots, from counting to the finished slices: what its groups are, and the first slice that is too short.
 use mathlib.Core.Path.{◌≡◌, refl, sym, ap, subst, ◌∙◌}
 use mathlib.Core.Logic.{◌⊎◌, inl, inr}
-use mathlib.Core.Bool.{Bool, true, false}
 use mathlib.Core.List.{List, [], ◌∷◌, ◌++◌, map, flat_map}
 use Prim.Native.Nat.{ℕ, ◌+◌, ◌*◌, ◌-◌, ◌≤◌, ◌<◌}
 use native.Mathlib.Omega.{arith}
@@ -26,13 +25,14 @@ use Rattle.semantics.proofs.RecordLists.{lists_ascend}
 use Rattle.records.specs.Access.{records_of}
 use Rattle.records.proofs.Steps.{inside}
 use Rattle.monomial.specs.Words.{Stored}
-use Rattle.group.specs.declared.Tallied.{Tallied}
-use Rattle.group.specs.declared.Tallied.TheVariants.{Headers, Full}
+use Rattle.std.specs.Prelude.{Option, Some, None}
 use Rattle.grouping.specs.declared.families.Family.{Family}
 use Rattle.grouping.specs.declared.families.Family.TheVariants.{Constraints, Counts, Fields}
 use Rattle.grouping.specs.declared.Lengths.{Lengths}
 use Rattle.grouping.specs.declared.Grouped.{Grouped}
 use Rattle.grouping.specs.declared.Grouped.TheVariants.{Written, Short}
+use Rattle.group.specs.declared.place.Form.{Form}
+use Rattle.group.specs.declared.place.Form.TheVariants.{Constraint, Interaction}
 use Rattle.group.specs.Grouped.{Tally, tally_all, tallied_total, tallied, Rows, CountedMore, select, tallied_count, placed, RoomForTerms, column, sum, list_of, InPool, vars_named, term_of}
 use Rattle.group.specs.Grouped.{term_width, Placing, Places, vars_in, tallied_headers}
 use Rattle.grouping.specs.Families.{roots_of, nodes_of, ToTally, ToPlaceRoots, Grouping, groups_of, Measured, Front, Laid}
@@ -59,7 +59,7 @@ unfolding vars_in variables flat_map
 vars_are [] = refl
 vars_are (g ∷ gs) = ap (λ (l : List ℕ). g.vars ++ l) (vars_are gs)
 
-terms_count : (b : Bool) (gs : List Group) → length (terms (term_of b) gs) ≡ term_width b * tallied_total (map counted gs)
+terms_count : (b : Form) (gs : List Group) → length (terms (term_of b) gs) ≡ term_width b * tallied_total (map counted gs)
 unfolding terms tallied_total flat_map
 terms_count b [] = omega arith
 terms_count b (g ∷ gs) =
@@ -124,12 +124,12 @@ pub record Rowed (ws P : List ℕ) (roots : List Root) (n : ℕ) (H : List ℕ) 
   pub rows_few : n ≤ 16777216
 
 -- There is room for all.
-pub record Fits (ws P : List ℕ) (roots : List Root) (b : Bool) (n : ℕ) (H W T : List ℕ) (c : Lengths) : Type 0 where
+pub record Fits (ws P : List ℕ) (roots : List Root) (b : Form) (n : ℕ) (H W T : List ℕ) (c : Lengths) : Type 0 where
   pub rowed : Rowed ws P roots n H
   pub measured : Measured n (term_width b) (sum (column 2 n H)) (sum (column 3 n H)) (length W) (length T) (Written c)
 
 -- Headers and terms are ready for the terms of the roots.
-pub record Started (ws P : List ℕ) (roots : List Root) (b : Bool) (n : ℕ) (H W T : List ℕ) (c : Lengths) (H₁ T₁ : List ℕ) : Type 0 where
+pub record Started (ws P : List ℕ) (roots : List Root) (b : Form) (n : ℕ) (H W T : List ℕ) (c : Lengths) (H₁ T₁ : List ℕ) : Type 0 where
   pub fits : Fits ws P roots b n H W T c
   pub placing : Placing b (tallied n H P) n H₁ P T₁ []
 
@@ -195,38 +195,38 @@ module _ {ws P : List ℕ} {roots : List Root} (f : Known ws P roots) {H referen
       let k = nodes_few f in
       record { rows_are = r.0; lists = subst (All (InPool P)) (sym e) (named f); small = omega arith }
 
-  pub fit_counted : (H' : List ℕ) (u : Tallied) → CountedMore H' P (tally_all (vars_named P references) (tallied 0 H P)) u
+  pub fit_counted : (H' : List ℕ) (u : Option ℕ) → CountedMore H' P (tally_all (vars_named P references) (tallied 0 H P)) u
       → CountedMore H' P (tally_all (vars_named P (nodes_of roots)) []) u
   fit_counted H' u c = subst (λ (gs : List Tally). CountedMore H' P gs u) (λ i. tally_all (vars_named P (e i)) ((rows_none H P z).1 i)) c
 
 -- What counting answers.
-module _ {ws P : List ℕ} {roots : List Root} (f : Known ws P roots) (H : List ℕ) (u : Tallied) (c : CountedMore H P (tally_all (vars_named P (nodes_of roots)) []) u) where
-  pub fit_full : u ≡ Full → (b : Bool) (W T : List ℕ) → Laid (term_of b) (groups_of ws roots) H W T (Short 1)
+module _ {ws P : List ℕ} {roots : List Root} (f : Known ws P roots) (H : List ℕ) (u : Option ℕ) (c : CountedMore H P (tally_all (vars_named P (nodes_of roots)) []) u) where
+  pub fit_full : u ≡ None → (b : Form) (W T : List ℕ) → Laid (term_of b) (groups_of ws roots) H W T (Short 1)
   fit_full e b W T =
       let d = subst (CountedMore H P (tally_all (vars_named P (nodes_of roots)) [])) e c in
       let s = headers_size f in
       (short_one (term_of b) (groups_of ws roots) (length H) (length W) (length T) (omega arith), λ z. absurd (omega arith))
 
-  pub fit_rows : {n : ℕ} → u ≡ Headers n → Rowed ws P roots n H
+  pub fit_rows : {n : ℕ} → u ≡ Some n → Rowed ws P roots n H
   fit_rows {n} e =
       let d = subst (CountedMore H P (tally_all (vars_named P (nodes_of roots)) [])) e c in
       let s = family_small n H P (nodes_of roots) d.1 (named f) (nodes_few f) in
       record { known = f; rows_are = d.0; tallies_are = d.1; total_small = s.0; rows_few = s.1 }
 
 -- A term has at most three words.
-width_few : (b : Bool) → term_width b ≤ 3
-width_few false = omega arith
-width_few true = omega arith
+width_few : (b : Form) → term_width b ≤ 3
+width_few Constraint = omega arith
+width_few Interaction = omega arith
 
 -- The rows are counted.
 module _ {ws P : List ℕ} {roots : List Root} {n : ℕ} {H : List ℕ} (r : Rowed ws P roots n H) where
-  pub fit_room : (b : Bool) {w : ℕ} → w ≡ term_width b → (4 * n ≤ length H) × (n ≤ 16777216) × (sum (column 3 n H) ≤ 16777216) × (w ≤ 3)
+  pub fit_room : (b : Form) {w : ℕ} → w ≡ term_width b → (4 * n ≤ length H) × (n ≤ 16777216) × (sum (column 3 n H) ≤ 16777216) × (w ≤ 3)
   fit_room b e =
       let t = total_is n H P r.rows_are in
       let s = r.total_small in
       (r.rows_are.room, r.rows_few, omega arith, omega (arith, width_few b))
 
-  sizes : (b : Bool)
+  sizes : (b : Form)
       → (length (headers 0 0 (groups_of ws roots)) ≡ 4 * n) × (length (variables (groups_of ws roots)) ≡ sum (column 2 n H))
       × (length (terms (term_of b) (groups_of ws roots)) ≡ term_width b * sum (column 3 n H))
   sizes b =
@@ -239,7 +239,7 @@ module _ {ws P : List ℕ} {roots : List Root} {n : ℕ} {H : List ℕ} (r : Row
             ∙ ap (λ (k : ℕ). term_width b * k) (sym (total_is n H P r.rows_are)),
       )
 
-  module _ (b : Bool) {w : ℕ} (q : w ≡ term_width b) (W T : List ℕ) (u : Grouped) (m : Measured n w (sum (column 2 n H)) (sum (column 3 n H)) (length W) (length T) u) where
+  module _ (b : Form) {w : ℕ} (q : w ≡ term_width b) (W T : List ℕ) (u : Grouped) (m : Measured n w (sum (column 2 n H)) (sum (column 3 n H)) (length W) (length T) u) where
     measured_as : {v : Grouped} → u ≡ v → Measured n (term_width b) (sum (column 2 n H)) (sum (column 3 n H)) (length W) (length T) v
     measured_as {v} e =
         subst (λ (w : ℕ). Measured n w (sum (column 2 n H)) (sum (column 3 n H)) (length W) (length T) v) q
@@ -268,12 +268,12 @@ module _ {ws P : List ℕ} {roots : List Root} {n : ℕ} {H : List ℕ} (r : Row
               λ z. absurd (omega (arith, h.0)),
             )
 
-pub fit_terms : {ws P : List ℕ} {roots : List Root} {b : Bool} {n : ℕ} {H W T : List ℕ} {c : Lengths} → Fits ws P roots b n H W T c
+pub fit_terms : {ws P : List ℕ} {roots : List Root} {b : Form} {n : ℕ} {H W T : List ℕ} {c : Lengths} → Fits ws P roots b n H W T c
     → term_width b * tallied_total (tallied n H P) ≤ length T
 fit_terms {ws} {P} {roots} {b} {n} {H} {W} {T} g = subst (λ (k : ℕ). term_width b * k ≤ length T) (total_is n H P g.rowed.rows_are) g.measured.4
 
 -- The terms are placed.
-module _ {ws P : List ℕ} {roots : List Root} {b : Bool} {n : ℕ} {H W T : List ℕ} {c : Lengths} {H₁ T₁ : List ℕ}
+module _ {ws P : List ℕ} {roots : List Root} {b : Form} {n : ℕ} {H W T : List ℕ} {c : Lengths} {H₁ T₁ : List ℕ}
     (g : Started ws P roots b n H W T c H₁ T₁) where
   abbrev r : Rowed ws P roots n H
   r = g.fits.rowed

@@ -11,8 +11,7 @@ use Rattle.semantics.proofs.Lists.{all_front, all_back}
 use Rattle.records.specs.declared.Interaction.{Interaction}
 use Rattle.records.specs.Access.{words_from, each_words, RootsInside, AllRootsInside}
 use Rattle.records.proofs.Takings.{Taken, taken_words, taken_references}
-use Rattle.group.specs.declared.Tallied.{Tallied}
-use Rattle.group.specs.declared.Tallied.TheVariants.{Headers, Full}
+use Rattle.std.specs.Prelude.{Option, Some, None}
 use Rattle.group.specs.Grouped.{tally_all, tallied_total, tallied, CountedMore, non_zero, list_of, InPool, vars_named}
 use Rattle.grouping.specs.Families.{ToTally, interaction_in}
 use Rattle.group.proofs.Tallies.{tally_all_append, tally_all_grows, total_all}
@@ -90,7 +89,7 @@ pub record NamesLeft (H₀ : List ℕ) (n : ℕ) (P references H : List ℕ) (ro
   pub same : tally_all (vars_named P left) (tallied rows H P) ≡ tally_all (vars_named P references) (tallied n H₀ P)
 
 module _ {H₀ : List ℕ} {n : ℕ} {P references H : List ℕ} {rows : ℕ} {left : List ℕ} (g : NamesLeft H₀ n P references H rows left) where
-  pub references_done : left ≡ [] → CountedMore H P (tally_all (vars_named P references) (tallied n H₀ P)) (Headers rows)
+  pub references_done : left ≡ [] → CountedMore H P (tally_all (vars_named P references) (tallied n H₀ P)) (Some rows)
   unfolding vars_named flat_map tally_all
   references_done e = (g.ready.rows_are, sym (ap (λ (l : List ℕ). tally_all (vars_named P l) (tallied rows H P)) e) ∙ g.same)
 
@@ -111,8 +110,8 @@ module _ {H₀ : List ℕ} {n : ℕ} {P references H : List ℕ} {rows : ℕ} {l
         ∙ g.same
 
     -- What counting the next references answers.
-    module _ (H' : List ℕ) (u : Tallied) (c : CountedMore H' P (tally_all (vars_named P xs) (tallied rows H P)) u) where
-      pub references_more : length H' ≡ length H → {k : ℕ} → u ≡ Headers k → NamesLeft H₀ n P references H' k ys
+    module _ (H' : List ℕ) (u : Option ℕ) (c : CountedMore H' P (tally_all (vars_named P xs) (tallied rows H P)) u) where
+      pub references_more : length H' ≡ length H → {k : ℕ} → u ≡ Some k → NamesLeft H₀ n P references H' k ys
       references_more z q =
           let d = subst (CountedMore H' P (tally_all (vars_named P xs) (tallied rows H P))) q c in
           let s = g.ready.small in
@@ -126,12 +125,12 @@ module _ {H₀ : List ℕ} {n : ℕ} {P references H : List ℕ} {rows : ℕ} {l
           }
 
       -- However much more comes, the slice stays too short.
-      pub references_full : u ≡ Full → CountedMore H' P (tally_all (vars_named P references) (tallied n H₀ P)) Full
-      references_full q =
+      pub references_full : u ≡ None → {v : Option ℕ} → v ≡ None → CountedMore H' P (tally_all (vars_named P references) (tallied n H₀ P)) v
+      references_full q p =
           let d = subst (CountedMore H' P (tally_all (vars_named P xs) (tallied rows H P))) q c in
           let w = tally_all_grows (vars_named P ys) (tally_all (vars_named P xs) (tallied rows H P)) in
           let b = ap length both in
-          omega arith
+          subst (CountedMore H' P (tally_all (vars_named P references) (tallied n H₀ P))) (sym p) (omega arith)
 
 -- The words from `at` on name the records; j of them are passed.
 pub record NamesAt (ws : List ℕ) (at count : ℕ) (H₀ : List ℕ) (n : ℕ) (P H : List ℕ) (rows j : ℕ) : Type 0 where
@@ -139,7 +138,7 @@ pub record NamesAt (ws : List ℕ) (at count : ℕ) (H₀ : List ℕ) (n : ℕ) 
   pub left : NamesLeft H₀ n P (words_from at count ws) H rows (words_from (at + j) (count - j) ws)
 
 module _ {ws : List ℕ} {at count : ℕ} {H₀ : List ℕ} {n : ℕ} {P H : List ℕ} {rows j : ℕ} (g : NamesAt ws at count H₀ n P H rows j) where
-  pub at_done : count ≤ j → CountedMore H P (tally_all (vars_named P (words_from at count ws)) (tallied n H₀ P)) (Headers rows)
+  pub at_done : count ≤ j → CountedMore H P (tally_all (vars_named P (words_from at count ws)) (tallied n H₀ P)) (Some rows)
   at_done h = references_done g.left (part_end ws at count j h)
 
   module _ (h : j < count) (l : at + count ≤ length ws) {r : ℕ} (e : r ≡ get_or ws (at + j) 0) where
@@ -149,14 +148,14 @@ module _ {ws : List ℕ} {at count : ℕ} {H₀ : List ℕ} {n : ℕ} {P H : Lis
     next_is : words_from (at + j) (count - j) ws ≡ (r ∷ []) ++ rest
     next_is = part_next ws at count j h l ∙ ap (λ (x : ℕ). x ∷ rest) (sym e)
 
-    module _ (H' : List ℕ) (u : Tallied) (c : CountedMore H' P (tally_all (non_zero (list_of P r)) (tallied rows H P)) u) where
+    module _ (H' : List ℕ) (u : Option ℕ) (c : CountedMore H' P (tally_all (non_zero (list_of P r)) (tallied rows H P)) u) where
       named : CountedMore H' P (tally_all (vars_named P (r ∷ [])) (tallied rows H P)) u
       named = subst (λ (v : List (List ℕ)). CountedMore H' P (tally_all v (tallied rows H P)) u) (sym (vars_one P r)) c
 
-      pub at_more : length H' ≡ length H → {k : ℕ} → u ≡ Headers k → NamesAt ws at count H₀ n P H' k (j + 1)
+      pub at_more : length H' ≡ length H → {k : ℕ} → u ≡ Some k → NamesAt ws at count H₀ n P H' k (j + 1)
       at_more z q = record { upto = omega arith; left = references_more g.left (r ∷ []) rest next_is H' u named z q }
 
-      pub at_full : u ≡ Full → CountedMore H' P (tally_all (vars_named P (words_from at count ws)) (tallied n H₀ P)) Full
+      pub at_full : u ≡ None → {v : Option ℕ} → v ≡ None → CountedMore H' P (tally_all (vars_named P (words_from at count ws)) (tallied n H₀ P)) v
       at_full q = references_full g.left (r ∷ []) rest next_is H' u named q
 
 -- The same for interactions: `one` is what is taken of each, and i of them are passed.
@@ -165,7 +164,7 @@ pub record EachAt (one : ℕ → List ℕ) (ws : List ℕ) (at count : ℕ) (H�
   pub left : NamesLeft H₀ n P (each_words one ws at count) H rows (each_words one ws from (count - i))
 
 module _ {one : ℕ → List ℕ} {ws : List ℕ} {at count : ℕ} {H₀ : List ℕ} {n : ℕ} {P H : List ℕ} {rows from i : ℕ} (g : EachAt one ws at count H₀ n P H rows from i) where
-  pub each_done : count ≤ i → CountedMore H P (tally_all (vars_named P (each_words one ws at count)) (tallied n H₀ P)) (Headers rows)
+  pub each_done : count ≤ i → CountedMore H P (tally_all (vars_named P (each_words one ws at count)) (tallied n H₀ P)) (Some rows)
   each_done h = references_done g.left (each_end one ws from count i h)
 
   module _ (h : i < count) {place size : Interaction → ℕ} (t : Taken one ws place size) {x : Interaction} (e : x ≡ interaction_in ws from) where
@@ -178,12 +177,12 @@ module _ {one : ℕ → List ℕ} {ws : List ℕ} {at count : ℕ} {H₀ : List 
     pub each_ready : (place x + size x ≤ length ws) × ToTally rows H P (words_from (place x) (size x) ws)
     each_ready = ((taken_references t e (rest_next g.rest h)).inside, references_next g.left (words_from (place x) (size x) ws) behind next_each)
 
-    module _ (H' : List ℕ) (u : Tallied) (c : CountedMore H' P (tally_all (vars_named P (words_from (place x) (size x) ws)) (tallied rows H P)) u) where
-      pub each_more : length H' ≡ length H → {k : ℕ} → u ≡ Headers k → EachAt one ws at count H₀ n P H' k x.next (i + 1)
+    module _ (H' : List ℕ) (u : Option ℕ) (c : CountedMore H' P (tally_all (vars_named P (words_from (place x) (size x) ws)) (tallied rows H P)) u) where
+      pub each_more : length H' ≡ length H → {k : ℕ} → u ≡ Some k → EachAt one ws at count H₀ n P H' k x.next (i + 1)
       each_more z q = record {
         rest = rest_more g.rest h (ap (λ (y : Interaction). y.next) e);
         left = references_more g.left (words_from (place x) (size x) ws) behind next_each H' u c z q;
       }
 
-      pub each_full : u ≡ Full → CountedMore H' P (tally_all (vars_named P (each_words one ws at count)) (tallied n H₀ P)) Full
+      pub each_full : u ≡ None → {v : Option ℕ} → v ≡ None → CountedMore H' P (tally_all (vars_named P (each_words one ws at count)) (tallied n H₀ P)) v
       each_full q = references_full g.left (words_from (place x) (size x) ws) behind next_each H' u c q

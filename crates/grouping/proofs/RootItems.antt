@@ -1,6 +1,5 @@
 -- Placing the terms of roots: what is left to place gives the whole; the roots that the words name.
 use mathlib.Core.Path.{◌≡◌, refl, sym, ap, subst, ◌∙◌}
-use mathlib.Core.Bool.{Bool}
 use mathlib.Core.List.{List, [], ◌∷◌, ◌++◌, flat_map, append_assoc, append-nil, map-append}
 use Prim.Native.Nat.{ℕ, suc, ◌+◌, ◌-◌, ◌≤◌, ◌<◌}
 use native.Mathlib.Omega.{arith}
@@ -20,6 +19,7 @@ use Rattle.records.specs.Access.{constraints_at, interactions_at, words_from, co
 use Rattle.records.proofs.Reading.{count_word, message_is, next_stands, first_stands, counts_small, constraints_are, constraints_inside, interactions_stand}
 use Rattle.records.proofs.Reading.{interactions_inside, counts_are, fields_are}
 use Rattle.semantics.proofs.Demands as demands
+use Rattle.group.specs.declared.place.Form.{Form}
 use Rattle.group.specs.Grouped.{RoomForTerms, list_of, InPool, items_at, Placing, ToPlace, Places, vars_named}
 use Rattle.grouping.specs.declared.families.Family.{Family}
 use Rattle.grouping.specs.declared.families.Family.TheVariants.{Constraints, Counts, Fields}
@@ -48,7 +48,7 @@ items_named P (r ∷ rs) =
     map-append (λ (t : Item). t.vars) (items_of r (list_of P r.node)) (items (list_of P) rs)
     ∙ (λ i. items_vars r (list_of P r.node) i ++ items_named P rs i)
 
-pub places_both : (b : Bool) (n : ℕ) (P H T H' T' H'' T'' : List ℕ) (ts us : List Item) → Places b n P H T H' T' ts → Places b n P H' T' H'' T'' us
+pub places_both : (b : Form) (n : ℕ) (P H T H' T' H'' T'' : List ℕ) (ts us : List Item) → Places b n P H T H' T' ts → Places b n P H' T' H'' T'' us
     → Places b n P H T H'' T'' (ts ++ us)
 places_both b n P H T H' T' H'' T'' ts us f g gs done p r =
     let e = append_assoc done ts us in
@@ -56,7 +56,7 @@ places_both b n P H T H' T' H'' T'' ts us f g gs done p r =
     subst (Placing b gs n H'' P T'') e (g gs (done ++ ts) (f gs done p (room_front gs (done ++ ts) us q)) q)
 
 -- While terms are placed: those of the roots `left` are still to place.
-pub record RootsLeft (b : Bool) (n : ℕ) (P H₀ T₀ : List ℕ) (roots : List Root) (H T : List ℕ) (left : List Root) : Type 0 where
+pub record RootsLeft (b : Form) (n : ℕ) (P H₀ T₀ : List ℕ) (roots : List Root) (H T : List ℕ) (left : List Root) : Type 0 where
   pub ready : ToPlaceRoots b n H P T left
   pub passed : List Item
   pub places : Places b n P H₀ T₀ H T passed
@@ -64,7 +64,7 @@ pub record RootsLeft (b : Bool) (n : ℕ) (P H₀ T₀ : List ℕ) (roots : List
   pub headers_long : length H ≡ length H₀
   pub terms_long_lem : length T ≡ length T₀
 
-module _ {b : Bool} {n : ℕ} {P H₀ T₀ : List ℕ} {roots : List Root} {H T : List ℕ} {left : List Root} (g : RootsLeft b n P H₀ T₀ roots H T left) where
+module _ {b : Form} {n : ℕ} {P H₀ T₀ : List ℕ} {roots : List Root} {H T : List ℕ} {left : List Root} (g : RootsLeft b n P H₀ T₀ roots H T left) where
   pub roots_done : left ≡ [] → Places b n P H₀ T₀ H T (items (list_of P) roots)
   unfolding items flat_map
   roots_done e =
@@ -116,11 +116,11 @@ module _ {b : Bool} {n : ℕ} {P H₀ T₀ : List ℕ} {roots : List Root} {H T 
     }
 
 -- The words from `at` on name the records of roots, one each; j of them are passed.
-pub record RootsAt (f : ℕ → ℕ → Root) (b : Bool) (ws : List ℕ) (at count n : ℕ) (P H₀ T₀ H T : List ℕ) (j : ℕ) : Type 0 where
+pub record RootsAt (f : ℕ → ℕ → Root) (b : Form) (ws : List ℕ) (at count n : ℕ) (P H₀ T₀ H T : List ℕ) (j : ℕ) : Type 0 where
   pub upto : j ≤ count
   pub left : RootsLeft b n P H₀ T₀ (labelled (λ i c. f i c ∷ []) 0 (words_from at count ws)) H T (labelled (λ i c. f i c ∷ []) j (words_from (at + j) (count - j) ws))
 
-module _ {f : ℕ → ℕ → Root} {b : Bool} {ws : List ℕ} {at count n : ℕ} {P H₀ T₀ H T : List ℕ} {j : ℕ} (g : RootsAt f b ws at count n P H₀ T₀ H T j) where
+module _ {f : ℕ → ℕ → Root} {b : Form} {ws : List ℕ} {at count n : ℕ} {P H₀ T₀ H T : List ℕ} {j : ℕ} (g : RootsAt f b ws at count n P H₀ T₀ H T j) where
   abbrev roots_from : ℕ → List ℕ → List Root
   roots_from j xs = labelled (λ i c. f i c ∷ []) j xs
 
@@ -174,11 +174,11 @@ pub field_roots_taken : (ws : List ℕ) → TakenRoots (field_roots_at ws) ws (�
 field_roots_taken ws = record { references = fields_at ws; taken = fields_taken ws; roots = λ i at h. refl }
 
 -- The roots of interactions; i of them are passed.
-pub record EachRoots (one : ℕ → ℕ → List Root) (b : Bool) (ws : List ℕ) (at count n : ℕ) (P H₀ T₀ H T : List ℕ) (from i : ℕ) : Type 0 where
+pub record EachRoots (one : ℕ → ℕ → List Root) (b : Form) (ws : List ℕ) (at count n : ℕ) (P H₀ T₀ H T : List ℕ) (from i : ℕ) : Type 0 where
   pub rest : Rest ws count from i
   pub left : RootsLeft b n P H₀ T₀ (each_roots one ws 0 at count) H T (each_roots one ws i from (count - i))
 
-module _ {one : ℕ → ℕ → List Root} {b : Bool} {ws : List ℕ} {at count n : ℕ} {P H₀ T₀ H T : List ℕ} {from i : ℕ}
+module _ {one : ℕ → ℕ → List Root} {b : Form} {ws : List ℕ} {at count n : ℕ} {P H₀ T₀ H T : List ℕ} {from i : ℕ}
     (g : EachRoots one b ws at count n P H₀ T₀ H T from i) where
   pub each_roots_done : count ≤ i → Places b n P H₀ T₀ H T (items (list_of P) (each_roots one ws 0 at count))
   unfolding each_roots
@@ -304,11 +304,11 @@ module _ (ws : List ℕ) (checked : check prime ws ≡ good (read_sheet ws)) whe
       field_labelled = (λ i. each_roots (field_roots_at ws) ws 0 (a i) (c i)) ∙ sym (field_roots_lem ws checked) ∙ roots_as ws k
 
 -- Placing the terms of roots that words name.
-module _ {b' b : Bool} {named roots : List Root} (k : b ≡ b') (e : named ≡ roots) (n : ℕ) (P H T : List ℕ) where
+module _ {b' b : Form} {named roots : List Root} (k : b ≡ b') (e : named ≡ roots) (n : ℕ) (P H T : List ℕ) where
   pub named_ready : ToPlaceRoots b n H P T roots → ToPlaceRoots b' n H P T named
-  named_ready t = subst (λ (c : Bool). ToPlaceRoots c n H P T named) k (subst (ToPlaceRoots b n H P T) (sym e) t)
+  named_ready t = subst (λ (c : Form). ToPlaceRoots c n H P T named) k (subst (ToPlaceRoots b n H P T) (sym e) t)
 
   pub named_placed : (H' T' : List ℕ) → Places b' n P H T H' T' (items (list_of P) named) → Places b n P H T H' T' (items (list_of P) roots)
   named_placed H' T' p =
-      subst (λ (c : Bool). Places c n P H T H' T' (items (list_of P) roots)) (sym k)
+      subst (λ (c : Form). Places c n P H T H' T' (items (list_of P) roots)) (sym k)
       (subst (λ (l : List Root). Places b' n P H T H' T' (items (list_of P) l)) e p)

@@ -1,30 +1,32 @@
 -- The families of roots as a sheet's words name them: what counting their lists and placing their terms asks and does.
-use Rattle.std.specs.Prelude.{◌≡◌, ◌⊎◌, Bool, true, false, List, [], ◌∷◌, ◌++◌, map, ℕ, zero, suc, ◌+◌, ◌*◌, ◌≤◌, ◌<◌, length, get_or, take}
+use Rattle.std.specs.Prelude.{◌≡◌, ◌⊎◌, List, [], ◌∷◌, ◌++◌, map, ℕ, zero, suc, ◌+◌, ◌*◌, ◌≤◌, ◌<◌, length, get_or, take}
 use Rattle.semantics.specs.Sheet.{Sheet}
 use Rattle.semantics.specs.Check.{prime_of}
 use Rattle.semantics.specs.Monomial.{list_at}
 use Rattle.semantics.specs.Group.{Root, labelled, constraint_roots, count_roots, field_roots, Item, items, Group, groups, headers, variables, terms, layout}
 use Rattle.semantics.specs.Call.{first_short}
 use Rattle.semantics.specs.Lists.{All}
-use Rattle.records.specs.declared.Interaction.{Interaction}
+use Rattle.records.specs.declared.Interaction as places
 use Rattle.records.specs.Access.{IsSheet, records_of, message_length, interaction_from, fields_at}
 use Rattle.monomial.specs.Words.{Stored}
 use Rattle.grouping.specs.declared.Grouped.{Grouped}
 use Rattle.grouping.specs.declared.Grouped.TheVariants.{Written, Short}
 use Rattle.grouping.specs.declared.families.Family.{Family}
 use Rattle.grouping.specs.declared.families.Family.TheVariants.{Constraints, Counts, Fields}
+use Rattle.group.specs.declared.place.Form.{Form}
+use Rattle.group.specs.declared.place.Form.TheVariants.{Constraint, Interaction}
 use Rattle.group.specs.Grouped.{Tally, tallied_total, tallied, Rows, list_of, InPool, term_width, Placing, ToPlace}
 
--- The roots of a family, and whether its terms are those of interactions.
+-- The roots of a family, and the form of its terms.
 abbrev pub roots_of : Family → Sheet → List Root
 roots_of Constraints s = constraint_roots s
 roots_of Counts s = count_roots s
 roots_of Fields s = field_roots s
 
-abbrev pub is_interaction : Family → Bool
-is_interaction Constraints = false
-is_interaction Counts = true
-is_interaction Fields = true
+abbrev pub form_of : Family → Form
+form_of Constraints = Constraint
+form_of Counts = Interaction
+form_of Fields = Interaction
 
 -- The records of roots.
 unfoldable pub nodes_of : List Root → List ℕ
@@ -44,7 +46,7 @@ abbrev pub field_root : (i j c : ℕ) → List Root
 field_root i j c = record { node = c; index = i; field = j } ∷ []
 
 -- Where the words of the interaction at `at` stand.
-abbrev pub interaction_in : (ws : List ℕ) (at : ℕ) → Interaction
+abbrev pub interaction_in : (ws : List ℕ) (at : ℕ) → places.Interaction
 interaction_in ws at = interaction_from at (message_length ws at)
 
 -- The roots of n interactions from `at` on, numbered from i; `one` gives those of each.
@@ -72,11 +74,11 @@ FewTerms n headers pool = tallied_total (tallied n headers pool) ≤ 16777216
 
 -- The slices are ready for terms of either width, where there is room for all.
 abbrev pub StartsPlacing : (gs : List Tally) (n : ℕ) (headers pool terms : List ℕ) (room : ℕ) → Type 0
-StartsPlacing gs n headers pool terms room = (b : Bool) → term_width b * tallied_total gs ≤ room → Placing b gs n headers pool terms []
+StartsPlacing gs n headers pool terms room = (form : Form) → term_width form * tallied_total gs ≤ room → Placing form gs n headers pool terms []
 
 -- What placing the terms of these roots asks.
-pub record ToPlaceRoots (interaction : Bool) (n : ℕ) (headers pool terms : List ℕ) (roots : List Root) : Type 0 where
-  pub to_place : ToPlace interaction n headers pool terms (items (list_of pool) roots)
+pub record ToPlaceRoots (form : Form) (n : ℕ) (headers pool terms : List ℕ) (roots : List Root) : Type 0 where
+  pub to_place : ToPlace form n headers pool terms (items (list_of pool) roots)
   pub lists : All (λ (r : Root). InPool pool r.node) roots
 
 -- What grouping a family asks: a checked sheet, and the finished list of every root in the pool.

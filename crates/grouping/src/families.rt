@@ -1,13 +1,15 @@
 // The families of roots: the lists of the records that words name are counted, and their terms are placed under the roots' labels.
-ghost use Rattle.std.specs.Prelude.{◌≡◌, true, false, [], ◌+◌, ◌≤◌, length};
+ghost use Rattle.std.specs.Prelude.{◌≡◌, [], ◌+◌, ◌≤◌, length};
 ghost use Rattle.semantics.specs.Check.{read_sheet};
 ghost use Rattle.semantics.specs.Group.{labelled, items};
 ghost use Rattle.semantics.specs.Call.{zeros};
 ghost use Rattle.records.specs.Access.{IsSheet, words_from, count_words, field_words, AllRootsInside};
+ghost use Rattle.group.specs.declared.place.Form.TheVariants.{Constraint, Interaction};
 ghost use Rattle.group.specs.Grouped.{tally_all, tallied, CountedMore, list_of, vars_named, term_width, Places};
-ghost use Rattle.grouping.specs.Families.{ToTally, constraint_root, field_root, count_roots_from, field_roots_from, ToPlaceRoots, Grouping, roots_of, is_interaction, nodes_of};
+ghost use Rattle.grouping.specs.Families.{ToTally, constraint_root, field_root, count_roots_from, field_roots_from, ToPlaceRoots, Grouping, roots_of, form_of, nodes_of};
 
-use group::{Tallied, place};
+use group::place;
+use group::place::{Form, Label};
 
 // Which records of a sheet are grouped: its constraints, the counts of its interactions, or their fields.
 #[derive(Clone, Copy)]
@@ -19,7 +21,7 @@ pub enum Family {
 
 // How many words a family's terms have.
 pub fn width_of(family: Family) -> usize
-    ensures { result ≡ term_width (is_interaction family) }
+    ensures { result ≡ term_width (form_of family) }
 {
     match family {
         Family::Constraints => 2,
@@ -36,7 +38,7 @@ fn tally_references(
     headers: &mut [u32],
     n: usize,
     pool: &[u32],
-) -> Tallied
+) -> Option<usize>
     requires { (at + count ≤ length sheet.now) × ToTally n headers.old pool.now (words_from at count sheet.now) }
     ensures { CountedMore headers.new pool.now
         (tally_all (vars_named pool.now (words_from at count sheet.now))
@@ -46,14 +48,10 @@ fn tally_references(
     let mut j: usize = 0;
     while j < count {
         let r = answers::wide(sheet[at + j]);
-        let answer = group::tally_root(headers, rows, pool, r);
-        let Tallied::Headers(next) = answer else {
-            return Tallied::Full;
-        };
-        rows = next;
+        rows = group::tally_root(headers, rows, pool, r)?;
         j += 1;
     }
-    Tallied::Headers(rows)
+    Some(rows)
 }
 
 // Counts the lists of the counts of the interactions from `at` on.
@@ -64,7 +62,7 @@ fn tally_counts(
     headers: &mut [u32],
     n: usize,
     pool: &[u32],
-) -> Tallied
+) -> Option<usize>
     requires { AllRootsInside sheet.now at count
         × ToTally n headers.old pool.now (count_words sheet.now at count) }
     ensures { CountedMore headers.new pool.now
@@ -76,15 +74,11 @@ fn tally_counts(
     let mut i: usize = 0;
     while i < count {
         let x = records::interaction_at(sheet, from);
-        let answer = tally_references(sheet, x.count, 1, headers, rows, pool);
-        let Tallied::Headers(next) = answer else {
-            return Tallied::Full;
-        };
-        rows = next;
+        rows = tally_references(sheet, x.count, 1, headers, rows, pool)?;
         from = x.next;
         i += 1;
     }
-    Tallied::Headers(rows)
+    Some(rows)
 }
 
 // Counts the lists of the fields of the interactions from `at` on.
@@ -95,7 +89,7 @@ fn tally_fields(
     headers: &mut [u32],
     n: usize,
     pool: &[u32],
-) -> Tallied
+) -> Option<usize>
     requires { AllRootsInside sheet.now at count
         × ToTally n headers.old pool.now (field_words sheet.now at count) }
     ensures { CountedMore headers.new pool.now
@@ -107,15 +101,11 @@ fn tally_fields(
     let mut i: usize = 0;
     while i < count {
         let x = records::interaction_at(sheet, from);
-        let answer = tally_references(sheet, x.fields, x.message, headers, rows, pool);
-        let Tallied::Headers(next) = answer else {
-            return Tallied::Full;
-        };
-        rows = next;
+        rows = tally_references(sheet, x.fields, x.message, headers, rows, pool)?;
         from = x.next;
         i += 1;
     }
-    Tallied::Headers(rows)
+    Some(rows)
 }
 
 // Places the terms of the constraints that the words from `at` on name.
@@ -129,15 +119,20 @@ fn place_constraints(
     terms: &mut [u32],
 )
     requires { (at + count ≤ length sheet.now) × (count ≤ 4294967295)
-        × ToPlaceRoots false n headers.old pool.now terms.old (labelled constraint_root 0 (words_from at count sheet.now)) }
-    ensures { Places false n pool.now headers.old terms.old
+        × ToPlaceRoots Constraint n headers.old pool.now terms.old (labelled constraint_root 0 (words_from at count sheet.now)) }
+    ensures { Places Constraint n pool.now headers.old terms.old
         headers.new terms.new
         (items (list_of pool.now) (labelled constraint_root 0 (words_from at count sheet.now))) }
 {
     let mut j: usize = 0;
     while j < count {
         let r = answers::wide(sheet[at + j]);
-        place::place_root(headers, n, pool, r, false, j as u32, 0, terms);
+        let label = Label {
+            form: Form::Constraint,
+            index: j as u32,
+            field: 0,
+        };
+        place::place_root(headers, n, pool, r, label, terms);
         j += 1;
     }
 }
@@ -154,15 +149,20 @@ fn place_references(
     terms: &mut [u32],
 )
     requires { (at + count ≤ length sheet.now) × (count ≤ 4294967295)
-        × ToPlaceRoots true n headers.old pool.now terms.old (labelled (field_root index) 0 (words_from at count sheet.now)) }
-    ensures { Places true n pool.now headers.old terms.old
+        × ToPlaceRoots Interaction n headers.old pool.now terms.old (labelled (field_root index) 0 (words_from at count sheet.now)) }
+    ensures { Places Interaction n pool.now headers.old terms.old
         headers.new terms.new
         (items (list_of pool.now) (labelled (field_root index) 0 (words_from at count sheet.now))) }
 {
     let mut j: usize = 0;
     while j < count {
         let r = answers::wide(sheet[at + j]);
-        place::place_root(headers, n, pool, r, true, index, j as u32, terms);
+        let label = Label {
+            form: Form::Interaction,
+            index: index,
+            field: j as u32,
+        };
+        place::place_root(headers, n, pool, r, label, terms);
         j += 1;
     }
 }
@@ -178,9 +178,9 @@ fn place_counts(
     terms: &mut [u32],
 )
     requires { AllRootsInside sheet.now at count × (count ≤ 4294967295)
-        × ToPlaceRoots true n headers.old pool.now terms.old
+        × ToPlaceRoots Interaction n headers.old pool.now terms.old
         (count_roots_from sheet.now at count) }
-    ensures { Places true n pool.now headers.old terms.old
+    ensures { Places Interaction n pool.now headers.old terms.old
         headers.new terms.new
         (items (list_of pool.now) (count_roots_from sheet.now at count)) }
 {
@@ -205,9 +205,9 @@ fn place_fields(
     terms: &mut [u32],
 )
     requires { AllRootsInside sheet.now at count × (count ≤ 4294967295)
-        × ToPlaceRoots true n headers.old pool.now terms.old
+        × ToPlaceRoots Interaction n headers.old pool.now terms.old
         (field_roots_from sheet.now at count) }
-    ensures { Places true n pool.now headers.old terms.old
+    ensures { Places Interaction n pool.now headers.old terms.old
         headers.new terms.new
         (items (list_of pool.now) (field_roots_from sheet.now at count)) }
 {
@@ -224,7 +224,12 @@ fn place_fields(
 }
 
 // Counts the lists of a family's records; the headers are cleared.
-pub fn tally_family(sheet: &[u32], family: Family, headers: &mut [u32], pool: &[u32]) -> Tallied
+pub fn tally_family(
+    sheet: &[u32],
+    family: Family,
+    headers: &mut [u32],
+    pool: &[u32],
+) -> Option<usize>
     requires { Grouping sheet.now pool.now (roots_of family (read_sheet sheet.now)) × (headers.old ≡ zeros (length headers.old)) }
     ensures { CountedMore headers.new pool.now
         (tally_all (vars_named pool.now (nodes_of (roots_of family (read_sheet sheet.now)))) []) result }
@@ -258,8 +263,8 @@ pub fn place_family(
     terms: &mut [u32],
 )
     requires { IsSheet sheet.now
-        × ToPlaceRoots (is_interaction family) n headers.old pool.now terms.old (roots_of family (read_sheet sheet.now)) }
-    ensures { Places (is_interaction family) n pool.now headers.old terms.old
+        × ToPlaceRoots (form_of family) n headers.old pool.now terms.old (roots_of family (read_sheet sheet.now)) }
+    ensures { Places (form_of family) n pool.now headers.old terms.old
         headers.new terms.new
         (items (list_of pool.now) (roots_of family (read_sheet sheet.now))) }
 {

@@ -5,12 +5,12 @@ ghost use Rattle.std.specs.Prelude.{◌*◌, ◌≤◌, length};
 ghost use Rattle.semantics.specs.Check.{read_sheet};
 ghost use Rattle.semantics.specs.Group.{constraint_roots, count_roots, field_roots, constraint_term, interaction_term};
 ghost use Rattle.group.specs.Grouped.{tallied, Rows, column, sum, term_of, vars_in, tallied_headers};
-ghost use Rattle.grouping.specs.Families.{roots_of, is_interaction, FewTerms, StartsPlacing, Measured, Front, Grouping, Laid, groups_of};
+ghost use Rattle.grouping.specs.Families.{roots_of, form_of, FewTerms, StartsPlacing, Measured, Front, Grouping, Laid, groups_of};
 
 mod families;
 
 use families::Family;
-use group::{Tallied, place, totals};
+use group::{place, totals};
 
 // How many words each list takes.
 #[derive(Clone, Copy)]
@@ -33,11 +33,11 @@ fn room_for(headers: &[u32], n: usize, width: usize, variables: usize, terms: us
     ensures { Measured n width
         (sum (column 2 n headers.now)) (sum (column 3 n headers.now)) variables terms result }
 {
-    let v = totals::total_variables(headers, n);
+    let v = totals::column_total(headers, n, totals::VARIABLES);
     if variables < v {
         return Grouped::Short(2);
     }
-    let t = totals::total_terms(headers, n);
+    let t = totals::column_total(headers, n, totals::TERMS);
     if terms < width * t {
         return Grouped::Short(3);
     }
@@ -79,13 +79,13 @@ fn group_family(
     terms: &mut [u32],
 ) -> Grouped
     requires { Grouping sheet.now pool.now (roots_of family (read_sheet sheet.now)) }
-    ensures { Laid (term_of (is_interaction family))
+    ensures { Laid (term_of (form_of family))
         (groups_of sheet.now (roots_of family (read_sheet sheet.now)))
         headers.new variables.new terms.new result }
 {
     slices::zero_all(headers);
     let counted = families::tally_family(sheet, family, headers, pool);
-    let Tallied::Headers(n) = counted else {
+    let Some(n) = counted else {
         return Grouped::Short(1);
     };
     let width = families::width_of(family);

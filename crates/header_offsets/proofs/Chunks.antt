@@ -1,10 +1,10 @@
 -- The offsets of headers in words, filled sixteen headers at a time.
-use mathlib.Core.Path.{◌≡◌, refl, sym, ap, ◌∙◌}
+use mathlib.Core.Path.{◌≡◌, refl, sym, ap, subst, ◌∙◌}
 use mathlib.Core.List.{List, ◌++◌, append_assoc}
 use Prim.Native.Nat.{ℕ, ◌+◌, ◌*◌, ◌-◌, ◌≤◌, ◌<◌, ◌^◌, min}
 use native.Mathlib.Omega.{arith}
 use lib.ListN.{length, get_or, take, drop, replicate}
-use lib.Seq.{take_at, drop_at, drop-drop}
+use lib.Seq.{take_at, drop_at, drop-drop, length-take-le}
 use Rattle.header_offsets.specs.declared.MonomialHeader.{MonomialHeader}
 use Rattle.header_offsets.specs.Headers.{num_vars_of, num_terms_of, column_total, with_offsets, no_header, headers_in, header_words, filled_words}
 use Rattle.header_offsets.proofs.Offsets.{total_append, total_none, offsets_length, offsets_append, vars_carried, terms_carried}
@@ -106,7 +106,10 @@ module _ {ws₀ : List ℕ} {n : ℕ} {ws : List ℕ} {vars terms i : ℕ} (g : 
         ap (take k) (f ∙ (λ j. with_offsets (g.vars_are j) (g.terms_are j) (x j)) ∙ offsets_append v t X Z)
         ∙ take_at (with_offsets v t X) (with_offsets (v + column_total num_vars_of X) (t + column_total num_terms_of X) Z) k (offsets_length v t X ∙ in_length k (drop (4 * i) ws₀))
 
-    words_next : {ws' : List ℕ} → ws' ≡ take (4 * i) ws ++ (header_words (take k filled) ++ drop (4 * i + 4 * k) ws) → ws' ≡ filled_words (i + k) ws₀
+    first_length : length (take k filled) ≡ k
+    first_length = length-take-le k filled (let l = ap length f ∙ offsets_length vars terms taken ∙ sixteen in omega arith)
+
+    words_next : {ws' : List ℕ} → ws' ≡ take (4 * i) ws ++ (header_words (take k filled) ++ drop (4 * i + 4 * length (take k filled)) ws) → ws' ≡ filled_words (i + k) ws₀
     unfolding filled_words
     words_next w =
         let X : List MonomialHeader = headers_in k (drop (4 * i) ws₀) in
@@ -114,8 +117,8 @@ module _ {ws₀ : List ℕ} {n : ℕ} {ws : List ℕ} {vars terms i : ℕ} (g : 
         let m : 4 * i + 4 * k ≡ 4 * (i + k) = omega arith in
         let v : 0 + column_total num_vars_of (headers_in i ws₀) ≡ column_total num_vars_of (headers_in i ws₀) = omega arith in
         let t : 0 + column_total num_terms_of (headers_in i ws₀) ≡ column_total num_terms_of (headers_in i ws₀) = omega arith in
-        let d : drop (4 * i + 4 * k) ws ≡ drop (4 * (i + k)) ws₀ =
-        sym (drop-drop (4 * k) (4 * i) ws) ∙ ap (drop (4 * k)) (ap (drop (4 * i)) g.words_are ∙ filled_rest i ws₀)
+        let d : drop (4 * i + 4 * length (take k filled)) ws ≡ drop (4 * (i + k)) ws₀ =
+        ap (λ (j : ℕ). drop (4 * i + 4 * j) ws) first_length ∙ sym (drop-drop (4 * k) (4 * i) ws) ∙ ap (drop (4 * k)) (ap (drop (4 * i)) g.words_are ∙ filled_rest i ws₀)
         ∙ drop-drop (4 * k) (4 * i) ws₀
         ∙ ap (λ (j : ℕ). drop j ws₀) m in
         let q : front (i + k) ws₀ ≡ front i ws₀ ++ header_words Y =
@@ -125,6 +128,11 @@ module _ {ws₀ : List ℕ} {n : ℕ} {ws : List ℕ} {vars terms i : ℕ} (g : 
         w ∙ (λ j. (ap (take (4 * i)) g.words_are ∙ filled_front i ws₀) j ++ (header_words (first j) ++ d j))
         ∙ sym (append_assoc (front i ws₀) (header_words Y) (drop (4 * (i + k)) ws₀)) ∙ ap (λ (r : List ℕ). r ++ drop (4 * (i + k)) ws₀) (sym q)
 
-    pub filled_next : {ws' : List ℕ} → ws' ≡ take (4 * i) ws ++ (header_words (take k filled) ++ drop (4 * i + 4 * k) ws)
-        → Filled ws₀ n ws' (last.var_offset + num_vars_of last) (last.term_offset + num_terms_of last) (i + k)
-    filled_next w = record { upto = upto_next; words_are = words_next w; vars_are = vars_next; terms_are = terms_next }
+    pub filled_next : {ws' : List ℕ} → ws' ≡ take (4 * i) ws ++ (header_words (take k filled) ++ drop (4 * i + 4 * length (take k filled)) ws)
+        → {j : ℕ} → i + k ≡ j → Filled ws₀ n ws' (last.var_offset + num_vars_of last) (last.term_offset + num_terms_of last) j
+    filled_next {ws'} w z =
+        subst (λ (j : ℕ). Filled ws₀ n ws' (last.var_offset + num_vars_of last) (last.term_offset + num_terms_of last) j) z
+        (record { upto = upto_next; words_are = words_next w; vars_are = vars_next; terms_are = terms_next })
+
+pub filled_all : {ws₀ : List ℕ} {n : ℕ} {ws : List ℕ} {vars terms i : ℕ} → Filled ws₀ n ws vars terms i → n ≤ i → ws ≡ filled_words n ws₀
+filled_all {ws₀} {n} {i} g h = let u = g.upto in let e : i ≡ n = omega arith in g.words_are ∙ ap (λ (j : ℕ). filled_words j ws₀) e

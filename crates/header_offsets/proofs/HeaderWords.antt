@@ -5,7 +5,7 @@ use Prim.Native.Nat.{ℕ, zero, suc, ◌+◌, ◌*◌, ◌-◌, ◌≤◌, ◌<�
 use native.Mathlib.Numerals.{add-one}
 use native.Mathlib.Omega.{arith}
 use lib.ListN.{length, get_or, set, take, drop, replicate, length-append, length-map, length-replicate}
-use lib.Seq.{take-suc, get_or-drop, get_or-take, length-take-le, set_at}
+use lib.Seq.{take-suc, get_or-drop, get_or-take, length-take-le, take_all, set_at}
 use Rattle.slices.specs.Putting.{put}
 use Rattle.slices.specs.Rows.{rows}
 use Rattle.slices.proofs.Puts.{put_none, put_behind, stores_put}
@@ -111,5 +111,7 @@ module _ (ws₀ : List ℕ) (at : ℕ) (hs : List MonomialHeader) (j : ℕ) (ws 
       sym (ap (λ (i : ℕ). header_words (take i hs)) (add-one j) ∙ ap header_words (take-suc hs j no_header l) ∙ words_append (take j hs) (get_or hs j no_header ∷ [])) in
       e ∙ put_behind ws₀ ws at (header_words (take j hs)) p (at + 4 * j) (omega arith) h (omega arith) ∙ ap (put ws₀ at) w
 
-  pub all_put : j ≤ length hs → ws ≡ take at ws₀ ++ (header_words (take j hs) ++ drop (at + 4 * j) ws₀)
-  all_put l = p ∙ ap (λ (n : ℕ). take at ws₀ ++ (header_words (take j hs) ++ drop (at + n) ws₀)) (first_words_lem l)
+  pub all_put : length hs ≤ j → ws ≡ take at ws₀ ++ (header_words hs ++ drop (at + 4 * length hs) ws₀)
+  all_put l =
+      p ∙ ap (λ (ks : List MonomialHeader). put ws₀ at (header_words ks)) (take_all j hs l)
+      ∙ ap (λ (n : ℕ). take at ws₀ ++ (header_words hs ++ drop (at + n) ws₀)) (words_length hs)

@@ -8,7 +8,7 @@ pub mod words;
 
 // One monomial of a list: where its variables and its terms start, and how many it has of each. The two numbers are words, as in the
 // lists that the calls write.
-#[derive(Clone, Copy)]
+#[derive(Clone, Copy, Debug, Default, PartialEq, Eq)]
 pub struct MonomialHeader {
     pub var_offset: u32,
     pub term_offset: u32,
@@ -24,27 +24,10 @@ pub fn fill_offsets(headers: &mut [MonomialHeader], var_offset: u32, term_offset
 {
     let mut vars = var_offset;
     let mut terms = term_offset;
-    let mut i = 0;
-    while i < headers.len() {
-        let h = &mut headers[i];
+    for h in headers.iter_mut() {
         h.var_offset = vars;
         h.term_offset = terms;
         vars += h.num_vars;
         terms += h.num_terms;
-        i += 1;
     }
-}
-
-// The same for sixteen headers by value, lent as a local array.
-pub fn fill_sixteen(
-    headers: [MonomialHeader; 16],
-    var_offset: u32,
-    term_offset: u32,
-) -> [MonomialHeader; 16]
-    requires { (var_offset + column_total num_vars_of headers ≤ 4294967295) × (term_offset + column_total num_terms_of headers ≤ 4294967295) }
-    ensures { result ≡ with_offsets var_offset term_offset headers }
-{
-    let mut filled = headers;
-    fill_offsets(&mut filled, var_offset, term_offset);
-    filled
 }

@@ -1,14 +1,8 @@
 // Headers in words, four to each: they are taken out of the words, given their offsets, and put back.
-ghost use Rattle.std.specs.Prelude.{◌≡◌, [], ◌∷◌, ◌++◌, ◌+◌, ◌*◌, ◌-◌, ◌≤◌, min, length, take, drop, replicate};
+ghost use Rattle.std.specs.Prelude.{◌≡◌, [], ◌∷◌, ◌++◌, ◌+◌, ◌*◌, ◌-◌, ◌≤◌, length, take, drop, replicate};
 ghost use Rattle.header_offsets.specs.Headers.{num_vars_of, num_terms_of, column_total, no_header, header_in, headers_in, header_words, filled_words};
 
 use crate::MonomialHeader;
-
-fn at_most_sixteen(n: usize) -> usize
-    ensures { result ≡ min n 16 }
-{
-    if n < 16 { n } else { 16 }
-}
 
 // The header whose words stand at `at`.
 fn header_at(words: &[u32], at: usize) -> MonomialHeader
@@ -38,31 +32,21 @@ fn take_headers(words: &[u32], at: usize, k: usize) -> [MonomialHeader; 16]
     requires { (k ≤ 16) × (at + 4 * k ≤ length words.now) }
     ensures { result ≡ headers_in k (drop at words.now) ++ replicate (16 - k) no_header }
 {
-    let none = MonomialHeader {
-        var_offset: 0,
-        term_offset: 0,
-        num_vars: 0,
-        num_terms: 0,
-    };
-    let mut headers = [none; 16];
-    let mut j: usize = 0;
-    while j < k {
+    let mut headers = [MonomialHeader::default(); 16];
+    for j in 0..k {
         headers[j] = header_at(words, at + 4 * j);
-        j += 1;
     }
     headers
 }
 
-// The first k of these headers, as words from `at` on.
-fn put_headers(words: &mut [u32], at: usize, k: usize, headers: [MonomialHeader; 16])
-    requires { (k ≤ 16) × (at + 4 * k ≤ length words.old) }
+// These headers, as words from `at` on.
+fn put_headers(words: &mut [u32], at: usize, headers: &[MonomialHeader])
+    requires { at + 4 * length headers.now ≤ length words.old }
     ensures { words.new
-        ≡ take at words.old ++ (header_words (take k headers) ++ drop (at + 4 * k) words.old) }
+        ≡ take at words.old ++ (header_words headers.now ++ drop (at + 4 * length headers.now) words.old) }
 {
-    let mut j: usize = 0;
-    while j < k {
-        put_header(words, at + 4 * j, headers[j]);
-        j += 1;
+    for (j, header) in headers.iter().enumerate() {
+        put_header(words, at + 4 * j, *header);
     }
 }
 
@@ -74,15 +58,13 @@ pub fn fill_words(words: &mut [u32], n: usize)
 {
     let mut vars: u32 = 0;
     let mut terms: u32 = 0;
-    let mut i: usize = 0;
-    while i < n {
-        let k = at_most_sixteen(n - i);
-        let taken = take_headers(words, 4 * i, k);
-        let filled = crate::fill_sixteen(taken, vars, terms);
-        put_headers(words, 4 * i, k, filled);
-        let last = filled[15];
+    for i in (0..n).step_by(16) {
+        let k = (n - i).min(16);
+        let mut headers = take_headers(words, 4 * i, k);
+        crate::fill_offsets(&mut headers, vars, terms);
+        put_headers(words, 4 * i, &headers[..k]);
+        let last = headers[15];
         vars = last.var_offset + last.num_vars;
         terms = last.term_offset + last.num_terms;
-        i += k;
     }
 }

@@ -4,7 +4,4 @@ use Rattle.group.proofs.Inserts.{Inserting}
 use Rattle.group.proofs.pending.insert_pending.Given as goal
 
 abbrev pub invariant-loop-j : goal.invariant-loop-j
-invariant-loop-j l = Inserting l.initial.headers l.n l.pool l.places l.b l.headers l.end l.j
-
-abbrev pub decreases-loop-j : goal.decreases-loop-j
-decreases-loop-j l = l.j
+invariant-loop-j l = Inserting l.initial.headers l.n l.pool l.waits l.b l.headers l.end l.j

@@ -16,7 +16,7 @@ returns-then-pool-at-eq0 c =
     let a = c.args in
     let P = a.pool.now in
     let m = read_monomial (drop a.at P) in
-    let gs = batched a.n a.b a.headers.now P a.places.now in
+    let gs = batched a.n a.b a.headers.now P a.waits.now in
     (omega arith, c.requires.0, sym (ap (λ vs. tally_all vs gs) (non_zero_none m (read_coef P a.at ∙ c.if-pool-at-eq0.true))))
 
 pub returns : goal.returns
@@ -25,6 +25,6 @@ returns c =
     let P = a.pool.now in
     let m = read_monomial (drop a.at P) in
     let u = c.tally_near in
-    let gs = batched a.n a.b a.headers.now P a.places.now in
-    subst (λ (vs : List (List ℕ)). Nexts a.n a.b vs gs u.new.headers P u.new.places u.new.fronts u.result)
+    let gs = batched a.n a.b a.headers.now P a.waits.now in
+    subst (λ (vs : List (List ℕ)). Nexts a.n a.b vs gs u.new.headers P u.new.waits u.result)
     (sym (non_zero_kept m (λ e. c.if-pool-at-eq0.false (sym (read_coef P a.at) ∙ e)))) u.ensures

@@ -9,25 +9,28 @@ use Rattle.group.proofs.place.place_kept.Goals as goal
 
 pub returns-then-pool-at-eq0 : goal.returns-then-pool-at-eq0
 returns-then-pool-at-eq0 c =
-    let no_items : items_at c.args.index c.args.field ((monomial_in c.args.pool.now c.args.at) ∷ []) ≡ [] =
-    items_none c.args.index c.args.field (monomial_in c.args.pool.now c.args.at) (read_coef c.args.pool.now c.args.at ∙ c.if-pool-at-eq0.true) in
     let a = c.args in
-    λ gs done x y. subst (Placing a.interaction gs a.n a.headers.now a.pool.now a.terms.now)
-    (sym (append-nil done) ∙ ap (λ (l : List Item). done ++ l) (sym no_items)) x
+    let m = monomial_in a.pool.now a.at in
+    let none : items_at a.label.index a.label.field (m ∷ []) ≡ [] =
+    items_none a.label.index a.label.field m (read_coef a.pool.now a.at ∙ c.if-pool-at-eq0.true) in
+    λ gs done x y. subst (Placing a.label.form gs a.n a.headers.now a.pool.now a.terms.now)
+    (sym (append-nil done) ∙ ap (λ (l : List Item). done ++ l) (sym none)) x
 
 pub place_monomial-requires : goal.place_monomial-requires
 place_monomial-requires c =
-    let one-item : items_at c.args.index c.args.field ((monomial_in c.args.pool.now c.args.at) ∷ []) ≡ item_at c.args.index c.args.field (monomial_in c.args.pool.now c.args.at) ∷ [] =
-    items_one c.args.index c.args.field (monomial_in c.args.pool.now c.args.at) (λ z. c.if-pool-at-eq0.false (sym (read_coef c.args.pool.now c.args.at) ∙ z)) in
     let a = c.args in
+    let m = monomial_in a.pool.now a.at in
+    let one : items_at a.label.index a.label.field (m ∷ []) ≡ item_at a.label.index a.label.field m ∷ [] =
+    items_one a.label.index a.label.field m (λ z. c.if-pool-at-eq0.false (sym (read_coef a.pool.now a.at) ∙ z)) in
     let p = c.requires in
-    (subst (ToPlace a.interaction a.n a.headers.now a.pool.now a.terms.now) one-item p.0, p.1, p.2)
+    (subst (ToPlace a.label.form a.n a.headers.now a.pool.now a.terms.now) one p.0, p.1, p.2)
 
 pub returns : goal.returns
 returns c =
-    let one-item : items_at c.args.index c.args.field ((monomial_in c.args.pool.now c.args.at) ∷ []) ≡ item_at c.args.index c.args.field (monomial_in c.args.pool.now c.args.at) ∷ [] =
-    items_one c.args.index c.args.field (monomial_in c.args.pool.now c.args.at) (λ z. c.if-pool-at-eq0.false (sym (read_coef c.args.pool.now c.args.at) ∙ z)) in
     let a = c.args in
+    let m = monomial_in a.pool.now a.at in
+    let one : items_at a.label.index a.label.field (m ∷ []) ≡ item_at a.label.index a.label.field m ∷ [] =
+    items_one a.label.index a.label.field m (λ z. c.if-pool-at-eq0.false (sym (read_coef a.pool.now a.at) ∙ z)) in
     let u = c.place_monomial in
-    λ gs done x y. subst (λ (l : List Item). Placing a.interaction gs a.n u.new.headers a.pool.now u.new.terms (done ++ l))
-    (sym one-item) (u.ensures gs done x (subst (λ (l : List Item). RoomForTerms gs (done ++ l)) one-item y))
+    λ gs done x y. subst (λ (l : List Item). Placing a.label.form gs a.n u.new.headers a.pool.now u.new.terms (done ++ l))
+    (sym one) (u.ensures gs done x (subst (λ (l : List Item). RoomForTerms gs (done ++ l)) one y))

@@ -1,72 +1,40 @@
 -- The row of the monomial's variables is looked for: room for the term says that there is one (`room_found`). The term is put at the row's cursor,
 -- and the cursor goes on by one, which is one item placed (`place_one`).
-use mathlib.Core.Path.{refl, sym, ap, subst, ◌∙◌}
-use mathlib.Core.List.{List}
-use Prim.Native.Nat.{ℕ, ◌+◌, ◌*◌, ◌≤◌, ◌<◌}
+use mathlib.Core.Path.{refl, subst}
+use Prim.Native.Nat.{◌+◌, ◌*◌}
 use borrow.Author.Rules.{rules}
-use lib.ListN.{length, get_or, set}
-use lib.Seq.{sets}
-use Rattle.group.specs.declared.Found.TheVariants.{There, Missing}
-use Rattle.group.specs.Grouped.{tallied, Rows, Spot, monomial_in, item_at, term_width, term_of}
-use Rattle.group.specs.Waiting.{pool_vars}
-use Rattle.group.proofs.Counting.{there_lt}
+use lib.ListN.{get_or, set}
+use Rattle.std.specs.Prelude.{Err}
+use Rattle.group.specs.Grouped.{tallied, Spot, monomial_in, item_at}
 use Rattle.group.proofs.PoolLists.{read_coef}
 use Rattle.group.proofs.Placements.{room_found, cursor_small, term_fits, place_one}
 use Rattle.group.proofs.place.place_monomial.Goals as goal
 
--- A row that is found is among the n.
-row_inside : {n : ℕ} {H P : List ℕ} (at k : ℕ) → Rows n H P → Spot (pool_vars P at) (tallied n H P) (There k) → (k < n) × (4 * n ≤ length H)
-row_inside {n} {H} {P} at k r s = (there_lt n k H P (pool_vars P at) r s, r.room)
-
 pub returns-in_default : goal.returns-in_default
 returns-in_default c =
-    let t = item_at c.args.index c.args.field (monomial_in c.args.pool.now c.args.at) in
+    let t = item_at c.args.label.index c.args.label.field (monomial_in c.args.pool.now c.args.at) in
     let k = c.in_default.field-0 in
     let m = subst (Spot t.vars (tallied c.args.n c.args.headers.now c.args.pool.now)) c.in_default.is c.find_near-found.ensures in
-    λ gs done x y. absurd (room_found gs done t k y (subst (λ l. Spot t.vars l (Missing k)) x.tallies_are m))
-
-pub overflow_mul-row : goal.overflow_mul-row
-overflow_mul-row c = let x = row_inside c.args.at c.in-There.k c.requires.0.placing.rows_are c.in-There.ensures in search rules
-
-pub overflow_add-cursor : goal.overflow_add-cursor
-overflow_add-cursor c = let x = row_inside c.args.at c.in-There.k c.requires.0.placing.rows_are c.in-There.ensures in search rules
-
-pub offset_bounds-headers-row : goal.offset_bounds-headers-row
-offset_bounds-headers-row c = let x = row_inside c.args.at c.in-There.k c.requires.0.placing.rows_are c.in-There.ensures in search rules
-
-pub bounds-headers-row : goal.bounds-headers-row
-bounds-headers-row c = let x = row_inside c.args.at c.in-There.k c.requires.0.placing.rows_are c.in-There.ensures in search rules
+    λ gs done x y. absurd (room_found gs done t k y (subst (λ l. Spot t.vars l (Err k)) x.tallies_are m))
 
 pub put_term-requires : goal.put_term-requires
 put_term-requires c =
     let a = c.args in
-    let t = item_at a.index a.field (monomial_in a.pool.now a.at) in
-    subst (λ (i : ℕ). term_width a.interaction * i + term_width a.interaction ≤ length a.terms.now) (sym c.wide.ensures)
-    (term_fits c.requires.0.placing t c.in-There.k c.requires.0.room c.in-There.ensures)
+    let t = item_at a.label.index a.label.field (monomial_in a.pool.now a.at) in
+    term_fits c.requires.0.placing t c.in-Ok.k c.requires.0.room c.in-Ok.ensures
 
 pub overflow_add-headers : goal.overflow_add-headers
 overflow_add-headers c =
-    let t = item_at c.args.index c.args.field (monomial_in c.args.pool.now c.args.at) in
-    let x = cursor_small c.requires.0.placing t c.in-There.k c.requires.0.room c.in-There.ensures in
+    let t = item_at c.args.label.index c.args.label.field (monomial_in c.args.pool.now c.args.at) in
+    let x = cursor_small c.requires.0.placing t c.in-Ok.k c.requires.0.room c.in-Ok.ensures in
     let z = c.requires.0.placing.small in
     search rules
-
-pub overflow_add-headers-2 : goal.overflow_add-headers-2
-overflow_add-headers-2 c = let x = row_inside c.args.at c.in-There.k c.requires.0.placing.rows_are c.in-There.ensures in search rules
-
-pub offset_bounds-headers-row-2 : goal.offset_bounds-headers-row-2
-offset_bounds-headers-row-2 c = let x = row_inside c.args.at c.in-There.k c.requires.0.placing.rows_are c.in-There.ensures in search rules
-
-pub bounds-headers-row-2 : goal.bounds-headers-row-2
-bounds-headers-row-2 c = let x = row_inside c.args.at c.in-There.k c.requires.0.placing.rows_are c.in-There.ensures in search rules
 
 pub returns : goal.returns
 returns c =
     let a = c.args in
-    let t = item_at a.index a.field (monomial_in a.pool.now a.at) in
+    let t = item_at a.label.index a.label.field (monomial_in a.pool.now a.at) in
     let H = a.headers.now in
-    let cursor = get_or H (4 * c.in-There.k + 1) 0 in
-    let terms_are =
-    c.put_term.ensures t refl refl (read_coef a.pool.now a.at)
-    ∙ ap (λ (i : ℕ). sets a.terms.now (term_width a.interaction * i) (term_of a.interaction t)) c.wide.ensures in
-    λ gs done x y. place_one x t c.in-There.k y c.in-There.ensures (set H (4 * c.in-There.k + 1) (cursor + 1)) c.put_term.new.terms terms_are refl
+    let cursor = get_or H (4 * c.in-Ok.k + 1) 0 in
+    let terms_are = c.put_term.ensures t refl refl (read_coef a.pool.now a.at) in
+    λ gs done x y. place_one x t c.in-Ok.k y c.in-Ok.ensures (set H (4 * c.in-Ok.k + 1) (cursor + 1)) c.put_term.new.terms terms_are refl

@@ -19,7 +19,7 @@ write_row-at-requires c =
     let e = tallied_length a.n a.headers.now a.pool.now in
     let r = c.requires.0.room in
     let l = vars_long a.n b.i a.headers.now a.pool.now c.requires.0 c.loop-i-test.true in
-    let f = written_fits gs a.variables.now b.variables b.at b.i b.invariant (omega arith) c.requires.1 in
+    let f = written_fits gs a.variables.now b.variables b.at b.i b.invariant (omega arith) (omega arith) in
     (omega arith, (inside_at a.n b.i a.headers.now a.pool.now c.requires.0 c.loop-i-test.true).0, omega arith)
 
 pub loop-i-preserved : goal.loop-i-preserved
@@ -34,7 +34,7 @@ loop-i-preserved c =
     let row_written =
     u.ensures.1
     ∙ ap (λ (x : List ℕ). take b.at b.variables ++ (x ++ drop (b.at + size) b.variables)) (sym (vars_at_lem a.n b.i a.headers.now a.pool.now c.loop-i-test.true)) in
-    written_more gs a.variables.now b.variables b.at b.i b.invariant (omega arith) u.new.variables u.result size l u.ensures.0 u.auto.variables row_written
+    written_more gs a.variables.now b.variables b.at b.i b.invariant (omega arith) u.new.variables u.result size l u.ensures.0 row_written
 
 pub returns : goal.returns
 returns c =

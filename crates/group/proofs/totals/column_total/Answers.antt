@@ -1,4 +1,4 @@
-use Prim.Native.Nat.{◌+◌, ◌*◌, ◌≤◌}
+use Prim.Native.Nat.{◌+◌, ◌*◌}
 use native.Mathlib.Omega.{arith}
 use Rattle.group.proofs.RowTotals.{summing_start, summing_step, summing_done}
 use Rattle.group.proofs.totals.column_total.Goals as goal
@@ -8,12 +8,9 @@ loop-i-init c = summing_start c.args.word c.args.n c.args.headers.now
 
 pub loop-i-preserved : goal.loop-i-preserved
 loop-i-preserved c =
-    let word_small : c.wide-total.result ≤ 4294967295 =
-    omega (arith, c.wide-total.ensures, c.type_inv.headers (4 * c.loop-i.i + c.args.word)) in
     let a = c.args in
     let b = c.loop-i in
-    summing_step a.word a.n a.headers.now b.total b.i c.wide-total.result c.requires.0
-    c.loop-i-test.true c.wide-total.ensures word_small b.invariant
+    summing_step a.word a.n a.headers.now b.total b.i c.requires.0 c.loop-i-test.true (omega (arith, c.type_inv.headers (4 * b.i + a.word))) b.invariant
 
 pub returns : goal.returns
 returns c =

@@ -1,11 +1,7 @@
 -- Header by header. Kept: the headers so far are those that the words from `at` on hold, and the others are empty.
-use Prim.Native.Nat.{◌-◌, ◌≤◌}
 use lib.ListN.{drop}
 use Rattle.header_offsets.proofs.HeaderWords.{Taken}
 use Rattle.header_offsets.proofs.words.take_headers.Given as goal
 
 abbrev pub invariant-loop-j : goal.invariant-loop-j
-invariant-loop-j l = (l.j ≤ l.k) × Taken (drop l.at l.words) l.j l.headers
-
-abbrev pub decreases-loop-j : goal.decreases-loop-j
-decreases-loop-j l = l.k - l.j
+invariant-loop-j l = Taken (drop l.at l.words) l.j l.headers
