@@ -8,4 +8,4 @@ pub bounds-sheet-2 : goal.bounds-sheet-2
 bounds-sheet-2 c = omega (arith, head_inside c.args.sheet.now c.requires)
 
 pub returns : goal.returns
-returns c = c.wide.ensures ∙ (head_counts c.args.sheet.now c.requires).1
+returns c = (head_counts c.args.sheet.now c.requires).1
