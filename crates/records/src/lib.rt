@@ -68,6 +68,7 @@ pub fn right_at(sheet: &[u32], r: usize) -> usize
 }
 
 // Whether record r is equal to q in all five words.
+#[tactic(auto, using(crate::proofs::Writing::equal_words))]
 pub fn same_record(out: &[u32], r: usize, q: Record) -> bool
     requires { place 5 r + 5 ≤ length out.now }
     ensures { result ≡ equal_records (five_words q) (node_in out.now r) }
