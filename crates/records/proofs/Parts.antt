@@ -1,14 +1,18 @@
 -- Words of a slice from a place on.
 use mathlib.Core.Path.{◌≡◌, ap, subst, ◌∙◌}
 use mathlib.Core.List.{List, [], ◌∷◌, ◌++◌}
-use Prim.Native.Nat.{ℕ, zero, suc, ◌+◌, ◌≤◌, ◌<◌}
+use Prim.Native.Nat.{ℕ, zero, suc, ◌+◌, ◌-◌, ◌≤◌, ◌<◌}
 use native.Mathlib.Omega.{arith}
 use native.Mathlib.Numerals.{add-one}
 use lib.ListN.{length, get_or, take, drop, length-take, length-drop}
-use lib.Seq.{take-suc, get_or-drop}
+use lib.Seq.{take-suc, get_or-take, get_or-drop}
 use Rattle.semantics.specs.Walk.{Mem, Below}
 use Rattle.semantics.proofs.Members.{not_in, cons_below, append_below}
 use Rattle.records.specs.Access.{words_from}
+
+-- A word of a part.
+pub part_word : (ws : List ℕ) (at count j : ℕ) → j < count → get_or (take (at + count - at) (drop at ws)) j 0 ≡ get_or ws (at + j) 0
+part_word ws at count j h = get_or-take (at + count - at) (drop at ws) j 0 (omega arith) ∙ get_or-drop at ws j 0
 
 -- One more name.
 pub part_more : (ws : List ℕ) (at j : ℕ) → at + j < length ws → words_from at (j + 1) ws ≡ words_from at j ws ++ (get_or ws (at + j) 0 ∷ [])
