@@ -6,7 +6,7 @@ use Prim.Native.Nat.{ℕ, zero, suc, pred, ◌+◌, ◌%◌, ◌≤◌, ◌<◌}
 use native.Mathlib.Omega.{arith}
 use lib.Dec.{eqb}
 use lib.ListN.{length, get_or, set}
-use lib.Seq.{ext_get_or}
+use lib.Seq.{ext_get_or, set-get_or}
 use borrow.Author.Tests.{eqb-true, eqb-false, ne_eqb, lt-ltb, le-ltb, le-leb, lt-leb}
 use Rattle.semantics.specs.Walk.{Below, member}
 use Rattle.semantics.specs.Graph.{set_num, insert_once, sorted_once}
@@ -16,6 +16,15 @@ use Rattle.records.proofs.Parts.{part_more}
 use Rattle.nodes.specs.Memory.{tabulate}
 use Rattle.nodes.proofs.Marks.{tabulate_length, tabulate_from, tabulate_same, tabulate_set}
 use Rattle.graph_lists.specs.Lists.{flag_word, flagged, node_numbers, marks_of, NodesNamed}
+
+-- A word's flag is set where it has none.
+pub flag_new : (w : ℕ) → w < 65536 → flag_word w ≡ w + 65536
+unfolding flag_word
+flag_new w h = rw (lt-leb 65536 w h)
+
+pub flag_kept : (s : List ℕ) (node : ℕ) → 65536 ≤ get_or s node 0 → s ≡ set s node (flag_word (get_or s node 0))
+unfolding flag_word
+flag_kept s node h = sym (rw (le-leb 65536 (get_or s node 0) h) (set-get_or s node 0))
 
 -- A member of a list with one more.
 member_snoc : (i x : ℕ) (xs : List ℕ) (t : Bool) → eqb i x ≡ t → member i (xs ++ (x ∷ [])) ≡ cond (member i xs) true t

@@ -41,10 +41,6 @@ abbrev pub one_if : Bool → ℕ → List ℕ
 one_if true x = x ∷ []
 one_if false x = []
 
-abbrev pub Wanted : Bool → ℕ → List ℕ → Type 0
-Wanted true at out = at < length out
-Wanted false at out = Unit {0}
-
 -- The flagged entries among k, k + 1, .., n of them.
 unfoldable pub flagged_among : (k n : ℕ) → List ℕ → List ℕ
 flagged_among k zero scratch = []

@@ -5,7 +5,7 @@ ghost use Rattle.std.specs.Prelude.{◌≡◌, pred, ◌+◌, ◌%◌, ◌≤◌
 ghost use Rattle.records.specs.Access.{words_from, message_length};
 ghost use Rattle.nodes.specs.Memory.{tabulate};
 ghost use Rattle.slices.specs.Putting.{put, Puts};
-ghost use Rattle.graph_lists.specs.Lists.{flag_word, plain_word, plain_below, flagged, flagged_among, one_if, Wanted, node_numbers, marks_of, NodesNamed};
+ghost use Rattle.graph_lists.specs.Lists.{flag_word, plain_below, flagged, flagged_among, node_numbers, marks_of, NodesNamed};
 ghost use Rattle.graph_lists.specs.Lists.{NamedInteraction, NamedInteractions, renamed_words, renamed_all, ToWriteLists, ListsAt, graph_out, graph_length};
 
 // Above every mark: a mark is a node's number counted from 1.
@@ -16,19 +16,18 @@ fn node_number(scratch: &[u32], r: usize) -> usize
     requires { (r < length scratch.now) × (0 < get_or scratch.now r 0 % 65536) }
     ensures { result ≡ pred (get_or scratch.now r 0 % 65536) }
 {
-    answers::wide(scratch[r] % FLAG - 1)
+    (scratch[r] % FLAG - 1) as usize
 }
 
 // Flags a node that has no flag.
+#[tactic(auto, using(crate::proofs::Flags::flag_new, crate::proofs::Flags::flag_kept))]
 fn flag_node(scratch: &mut [u32], node: usize)
     requires { node < length scratch.old }
     ensures { scratch.new ≡ set scratch.old node (flag_word (get_or scratch.old node 0)) }
 {
-    let word = scratch[node];
-    if FLAG <= word {
-        return;
+    if scratch[node] < FLAG {
+        scratch[node] += FLAG;
     }
-    scratch[node] = word + FLAG;
 }
 
 // Flags the nodes that the records named from `at` on have.
@@ -37,38 +36,10 @@ fn flag_nodes(sheet: &[u32], at: usize, count: usize, scratch: &mut [u32])
     ensures { scratch.new ≡ tabulate 0 (length scratch.old)
         (flagged (marks_of scratch.old) (node_numbers (marks_of scratch.old) (words_from at count sheet.now))) }
 {
-    let mut j = 0;
-    while j < count {
-        let node = node_number(scratch, answers::wide(sheet[at + j]));
+    for r in &sheet[at..at + count] {
+        let node = node_number(scratch, *r as usize);
         flag_node(scratch, node);
-        j += 1;
     }
-}
-
-// Takes the flag off a node, and says whether it had one.
-fn unflag_node(scratch: &mut [u32], node: usize) -> bool
-    requires { node < length scratch.old }
-    ensures { (result ≡ leb 65536 (get_or scratch.old node 0))
-        × (scratch.new ≡ set scratch.old node (plain_word (get_or scratch.old node 0))) }
-{
-    let word = scratch[node];
-    if word < FLAG {
-        return false;
-    }
-    scratch[node] = word - FLAG;
-    true
-}
-
-// Writes a node's number at `at` where it is wanted, and hands back where the output goes on.
-fn put_node(out: &mut [u32], at: usize, node: usize, wanted: bool) -> usize
-    requires { (node < 4294967296) × Wanted wanted at out.old }
-    ensures { Puts out.old at (one_if wanted node) out.new result }
-{
-    if !wanted {
-        return at;
-    }
-    out[at] = node as u32;
-    at + 1
 }
 
 // Writes the flagged nodes in ascending order from `at` on, takes their flags off, and hands back where the output goes on.
@@ -78,12 +49,12 @@ fn write_flagged(scratch: &mut [u32], nodes: usize, out: &mut [u32], at: usize) 
         × Puts out.old at (flagged_among 0 nodes scratch.old) out.new result }
 {
     let mut next = at;
-    let mut node = 0;
-    while node < nodes {
-        let had = unflag_node(scratch, node);
-        let after = put_node(out, next, node, had);
-        next = after;
-        node += 1;
+    for node in 0..nodes {
+        if scratch[node] >= FLAG {
+            scratch[node] -= FLAG;
+            out[next] = node as u32;
+            next += 1;
+        }
     }
     next
 }
@@ -101,11 +72,8 @@ fn write_references(
     ensures { out.new
         ≡ put out.old to (node_numbers (marks_of scratch.now) (words_from at count sheet.now)) }
 {
-    let mut j = 0;
-    while j < count {
-        let node = node_number(scratch, answers::wide(sheet[at + j]));
-        out[to + j] = node as u32;
-        j += 1;
+    for (j, r) in sheet[at..at + count].iter().enumerate() {
+        out[to + j] = node_number(scratch, *r as usize) as u32;
     }
 }
 
@@ -119,9 +87,7 @@ fn write_interaction(sheet: &[u32], at: usize, scratch: &[u32], out: &mut [u32],
     let y = records::interaction_from(to, x.message);
     records::copy_bus_and_weight(sheet, at, out, to);
     write_references(sheet, x.count, 1, scratch, out, y.count);
-    let from = x.length;
-    let length = y.length;
-    out[length] = sheet[from];
+    out[y.length] = sheet[x.length];
     write_references(sheet, x.fields, x.message, scratch, out, y.fields);
     y.next
 }
@@ -141,13 +107,10 @@ fn write_interactions(
 {
     let mut from = at;
     let mut next = to;
-    let mut i = 0;
-    while i < count {
+    for _ in 0..count {
         let x = records::interaction_at(sheet, from);
-        let after = write_interaction(sheet, from, scratch, out, next);
-        next = after;
+        next = write_interaction(sheet, from, scratch, out, next);
         from = x.next;
-        i += 1;
     }
     next
 }
