@@ -17,10 +17,6 @@ pub map_same : (f g : ℕ → ℕ) (xs : List ℕ) → ((c : ℕ) → Mem c xs �
 map_same f g [] h = refl
 map_same f g (x ∷ xs) h = λ i. h x (mem_here x xs) i ∷ map_same f g xs (λ c m. h c (mem_there c x xs m)) i
 
--- A name with a mark.
-abbrev Marked : List ℕ → ℕ → Type 0
-Marked scratch c = (c < length scratch) × (0 < marks_of scratch c) × (marks_of scratch c ≤ length scratch)
-
 -- One interaction at `at`.
 module _ (ws : List ℕ) (at : ℕ) (x : Interaction) (tail : List ℕ) (e : drop at ws ≡ interaction_words x ++ tail) where
   -- Its references turned into nodes.
@@ -41,22 +37,9 @@ module _ (ws : List ℕ) (at : ℕ) (x : Interaction) (tail : List ℕ) (e : dro
       → NamedInteraction ws at scratch
   named_one scratch s h = record {
     inside = interaction_inside ws at x tail e;
-    count = record {
-      small = s;
-      inside = omega (arith, interaction_inside ws at x tail e);
-      named = λ j l. subst (Marked scratch) (sym (ap (λ (k : ℕ). get_or ws k 0) (first j l) ∙ count_word ws at x tail e))
-          (h x.count (mem_right x.count x.message (x.count ∷ []) (mem_here x.count [])));
-    };
-    message = record {
-      small = s;
-      inside = omega (arith, interaction_inside ws at x tail e);
-      named = λ j l. subst (Marked scratch) (sym (field_word ws at x tail e j l))
-          (h (get_or x.message j 0) (mem_left (get_or x.message j 0) x.message (x.count ∷ []) (mem_get_or x.message j (omega (arith, length_is ws at x tail e)))));
-    };
+    count = record { small = s; named = λ c m. h c (mem_right c x.message (x.count ∷ []) (subst (Mem c) (count_is ws at x tail e) m)) };
+    message = record { small = s; named = λ c m. h c (mem_left c x.message (x.count ∷ []) (subst (Mem c) (message_is ws at x tail e) m)) };
   }
-    where
-      first : (j : ℕ) → j < 1 → at + 2 + j ≡ at + 2
-      first j l = omega arith
 
 -- All of them, one behind the other.
 module _ (rest : List ℕ) (ws : List ℕ) where

@@ -2,11 +2,11 @@
 #![tactic(auto)]
 
 ghost use Rattle.std.specs.Prelude.{◌≡◌, pred, ◌+◌, ◌%◌, ◌≤◌, ◌<◌, leb, length, get_or, set};
-ghost use Rattle.records.specs.Access.{words_from, message_length};
+ghost use Rattle.records.specs.Access.{message_length};
 ghost use Rattle.nodes.specs.Memory.{tabulate};
 ghost use Rattle.slices.specs.Putting.{put, Puts};
 ghost use Rattle.graph_lists.specs.Lists.{flag_word, plain_below, flagged, flagged_among, node_numbers, marks_of, NodesNamed};
-ghost use Rattle.graph_lists.specs.Lists.{NamedInteraction, NamedInteractions, renamed_words, renamed_all, ToWriteLists, ListsAt, graph_out, graph_length};
+ghost use Rattle.graph_lists.specs.Lists.{NamedInteraction, NamedInteractions, renamed_words, renamed_all, ToWriteLists, graph_out, graph_length};
 
 // Above every mark: a mark is a node's number counted from 1.
 const FLAG: u32 = 65536;
@@ -30,13 +30,13 @@ fn flag_node(scratch: &mut [u32], node: usize)
     }
 }
 
-// Flags the nodes that the records named from `at` on have.
-fn flag_nodes(sheet: &[u32], at: usize, count: usize, scratch: &mut [u32])
-    requires { NodesNamed sheet.now at count scratch.old }
+// Flags the nodes of the records that are named.
+fn flag_nodes(names: &[u32], scratch: &mut [u32])
+    requires { NodesNamed names.now scratch.old }
     ensures { scratch.new ≡ tabulate 0 (length scratch.old)
-        (flagged (marks_of scratch.old) (node_numbers (marks_of scratch.old) (words_from at count sheet.now))) }
+        (flagged (marks_of scratch.old) (node_numbers (marks_of scratch.old) names.now)) }
 {
-    for r in &sheet[at..at + count] {
+    for r in names {
         let node = node_number(scratch, *r as usize);
         flag_node(scratch, node);
     }
@@ -59,20 +59,12 @@ fn write_flagged(scratch: &mut [u32], nodes: usize, out: &mut [u32], at: usize) 
     next
 }
 
-// Writes the nodes of the records named from `at` on.
-fn write_references(
-    sheet: &[u32],
-    at: usize,
-    count: usize,
-    scratch: &[u32],
-    out: &mut [u32],
-    to: usize,
-)
-    requires { NodesNamed sheet.now at count scratch.now × (to + count ≤ length out.old) }
-    ensures { out.new
-        ≡ put out.old to (node_numbers (marks_of scratch.now) (words_from at count sheet.now)) }
+// Writes the nodes of the records that are named from `to` on.
+fn write_references(names: &[u32], scratch: &[u32], out: &mut [u32], to: usize)
+    requires { NodesNamed names.now scratch.now × (to + length names.now ≤ length out.old) }
+    ensures { out.new ≡ put out.old to (node_numbers (marks_of scratch.now) names.now) }
 {
-    for (j, r) in sheet[at..at + count].iter().enumerate() {
+    for (j, r) in names.iter().enumerate() {
         out[to + j] = node_number(scratch, *r as usize) as u32;
     }
 }
@@ -86,9 +78,9 @@ fn write_interaction(sheet: &[u32], at: usize, scratch: &[u32], out: &mut [u32],
     let x = records::interaction_at(sheet, at);
     let y = records::interaction_from(to, x.message);
     records::copy_bus_and_weight(sheet, at, out, to);
-    write_references(sheet, x.count, 1, scratch, out, y.count);
+    out[y.count] = node_number(scratch, sheet[x.count] as usize) as u32;
     out[y.length] = sheet[x.length];
-    write_references(sheet, x.fields, x.message, scratch, out, y.fields);
+    write_references(&sheet[x.fields..x.next], scratch, out, y.fields);
     y.next
 }
 
@@ -116,22 +108,16 @@ fn write_interactions(
 }
 
 // Writes the constraints and interactions behind the nodes, and the head; hands back how many words the graph has.
-pub fn write_graph(
-    sheet: &[u32],
-    at: usize,
-    constraints: usize,
-    interactions: usize,
-    scratch: &mut [u32],
-    out: &mut [u32],
-    n: usize,
-) -> usize
-    requires { ToWriteLists sheet.now scratch.old out.old n × ListsAt sheet.now at constraints interactions }
+pub fn write_graph(sheet: &[u32], scratch: &mut [u32], out: &mut [u32], n: usize) -> usize
+    requires { ToWriteLists sheet.now scratch.old out.old n }
     ensures { (out.new ≡ graph_out (length out.old) sheet.now) × (result ≡ graph_length sheet.now) }
 {
-    flag_nodes(sheet, at, constraints, scratch);
+    flag_nodes(records::constraints(sheet), scratch);
     let to = records::records_end(n);
     let next = write_flagged(scratch, n, out, to);
-    let end = write_interactions(sheet, at + constraints, interactions, scratch, out, next);
+    let at = records::interactions_at(sheet);
+    let interactions = records::num_interactions(sheet);
+    let end = write_interactions(sheet, at, interactions, scratch, out, next);
     records::put_head(out, n, next - to, interactions);
     end
 }

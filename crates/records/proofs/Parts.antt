@@ -1,25 +1,29 @@
 -- Words of a slice from a place on.
 use mathlib.Core.Path.{◌≡◌, ap, subst, ◌∙◌}
 use mathlib.Core.List.{List, [], ◌∷◌, ◌++◌}
-use Prim.Native.Nat.{ℕ, zero, suc, ◌+◌, ◌-◌, ◌≤◌, ◌<◌}
+use Prim.Native.Nat.{ℕ, zero, suc, ◌+◌, ◌≤◌, ◌<◌}
 use native.Mathlib.Omega.{arith}
+use native.Mathlib.Nat.{add-zero}
 use native.Mathlib.Numerals.{add-one}
 use lib.ListN.{length, get_or, take, drop, length-take, length-drop}
-use lib.Seq.{take-suc, get_or-take, get_or-drop}
+use lib.Seq.{take-suc, get_or-drop}
 use Rattle.semantics.specs.Walk.{Mem, Below}
 use Rattle.semantics.proofs.Members.{not_in, cons_below, append_below}
 use Rattle.records.specs.Access.{words_from}
 
--- A word of a part.
-pub part_word : (ws : List ℕ) (at count j : ℕ) → j < count → get_or (take (at + count - at) (drop at ws)) j 0 ≡ get_or ws (at + j) 0
-part_word ws at count j h = get_or-take (at + count - at) (drop at ws) j 0 (omega arith) ∙ get_or-drop at ws j 0
+-- One more of a list.
+pub take_more : (xs : List ℕ) (j : ℕ) → j < length xs → take (j + 1) xs ≡ take j xs ++ (get_or xs j 0 ∷ [])
+take_more xs j h = ap (λ (k : ℕ). take k xs) (add-one j) ∙ take-suc xs j 0 h
 
 -- One more name.
 pub part_more : (ws : List ℕ) (at j : ℕ) → at + j < length ws → words_from at (j + 1) ws ≡ words_from at j ws ++ (get_or ws (at + j) 0 ∷ [])
 part_more ws at j h =
-    ap (λ (k : ℕ). take k (drop at ws)) (add-one j)
-    ∙ take-suc (drop at ws) j 0 (omega (arith, length-drop at ws))
+    take_more (drop at ws) j (omega (arith, length-drop at ws))
     ∙ ap (λ (x : ℕ). take j (drop at ws) ++ (x ∷ [])) (get_or-drop at ws j 0)
+
+-- One name.
+pub part_one : (ws : List ℕ) (at : ℕ) → at < length ws → words_from at 1 ws ≡ get_or ws at 0 ∷ []
+part_one ws at h = part_more ws at 0 (omega arith) ∙ ap (λ (k : ℕ). get_or ws k 0 ∷ []) (add-zero at)
 
 pub part_length : (ws : List ℕ) (at j : ℕ) → at + j ≤ length ws → length (words_from at j ws) ≡ j
 part_length ws at j h = simp (length-take, length-drop) (omega arith)

@@ -132,6 +132,14 @@ pub fn interactions_at(sheet: &[u32]) -> usize
     constraints_at(sheet) + num_constraints(sheet)
 }
 
+// The constraints of a checked sheet, each the name of a record.
+pub fn constraints(sheet: &[u32]) -> &[u32]
+    requires { IsSheet sheet.now }
+    ensures { result.now ≡ (read_sheet sheet.now).constraints }
+{
+    &sheet[constraints_at(sheet)..interactions_at(sheet)]
+}
+
 // Where the words of an interaction stand: its count, its message's length, the message's fields, and what follows it.
 #[derive(Clone, Copy)]
 pub struct Interaction {
