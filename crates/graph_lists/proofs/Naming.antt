@@ -117,13 +117,6 @@ module _ {ws : List ℕ} {at : ℕ} {s out : List ℕ} {to : ℕ} {x y : Interac
       subst (λ (z : Interaction). (get_or ws z.count 0 < length s) × (0 < get_or s (get_or ws z.count 0) 0 % 65536)) (sym p.x_is)
       (number_asks (count_named h) {j = 0} (omega arith))
 
-  pub message_asks : (o : List ℕ) → length o ≡ length out
-      → NodesNamed (take (x.next - x.fields) (drop x.fields ws)) s × (y.fields + length (take (x.next - x.fields) (drop x.fields ws)) ≤ length o)
-  message_asks o k = (
-    subst (λ (xs : List ℕ). NodesNamed xs s) (sym message_is) h.message,
-    omega (arith, ap length message_is, part_length ws (at + 4) (message_length ws at) (omega (arith, h.inside)), ap (λ (z : Interaction). z.fields) y_is, p.room),
-  )
-
   pub interaction_put : {node : ℕ} → node ≡ pred (get_or s (get_or ws x.count 0) 0 % 65536) → {o₂ o₅ : List ℕ} → o₂ ≡ sets out to (front h)
       → o₅ ≡ put (set (set o₂ y.count node) y.length (get_or ws x.length 0)) y.fields (node_numbers (marks_of s) (take (x.next - x.fields) (drop x.fields ws)))
       → o₅ ≡ put out to (renamed_words ws s at)

@@ -4,7 +4,8 @@
 ghost use Rattle.std.specs.Prelude.{◌≡◌, ◌++◌, ℕ, ◌+◌, ◌-◌, ◌≤◌, ◌<◌, length, get_or};
 ghost use Rattle.semantics.specs.Arithmetic.{prime};
 ghost use Rattle.semantics.specs.Sheet.{place};
-ghost use Rattle.records.specs.Access.{node_in, words_from, fields_at, count_list_at, root_words, ReferencesInside, RootsInside, AllRootsInside};
+ghost use Rattle.semantics.specs.Walk.{Below};
+ghost use Rattle.records.specs.Access.{node_in, records_of, fields_at, count_list_at, root_words, RootsInside, AllRootsInside};
 ghost use Rattle.records.specs.Orders.{Visits, Finishes};
 ghost use Rattle.nodes.specs.Picks.{pick_of, view_of};
 ghost use Rattle.graph_walk.specs.Walking.{AddReady, Adding, Picks, two_rule, child_of, AddWalking, State, Walks};
@@ -107,21 +108,19 @@ fn add_expr(sheet: &[u32], scratch: &mut [u32], out: &mut [u32], r: usize, n: us
     add_record(sheet, scratch, out, r, used)
 }
 
-// Adds the records that the words from `at` on name.
+// Adds the records that are named.
 pub fn add_references(
     sheet: &[u32],
-    at: usize,
-    count: usize,
+    names: &[u32],
     scratch: &mut [u32],
     out: &mut [u32],
     n: usize,
 ) -> usize
-    requires { AddWalking sheet.now scratch.old out.old n × ReferencesInside sheet.now at count }
-    ensures { Walks sheet.now (words_from at count sheet.now) scratch.old out.old n scratch.new
-        out.new result }
+    requires { AddWalking sheet.now scratch.old out.old n × Below (length (records_of sheet.now)) names.now }
+    ensures { Walks sheet.now names.now scratch.old out.old n scratch.new out.new result }
 {
     let mut used = n;
-    for r in &sheet[at..at + count] {
+    for r in names {
         used = add_expr(sheet, scratch, out, *r as usize, used);
     }
     used
@@ -140,8 +139,8 @@ fn add_interaction(
         out.old n scratch.new out.new result }
 {
     let x = records::interaction_at(sheet, at);
-    let fields = add_references(sheet, x.fields, x.message, scratch, out, n);
-    add_references(sheet, x.count, 1, scratch, out, fields)
+    let fields = add_references(sheet, &sheet[x.fields..x.next], scratch, out, n);
+    add_expr(sheet, scratch, out, sheet[x.count] as usize, fields)
 }
 
 // Adds what the interactions from `at` on name.

@@ -5,10 +5,10 @@ use Prim.Native.Nat.{ℕ, zero, suc, ◌+◌, ◌≤◌, ◌<◌}
 use native.Mathlib.Omega.{arith}
 use native.Mathlib.Nat.{add-zero}
 use native.Mathlib.Numerals.{add-one}
-use lib.ListN.{length, get_or, take, drop, length-take, length-drop}
+use lib.ListN.{length, get_or, take, drop, length-take, length-drop, take-append-drop}
 use lib.Seq.{take-suc, get_or-drop}
 use Rattle.semantics.specs.Walk.{Mem, Below}
-use Rattle.semantics.proofs.Members.{not_in, cons_below, append_below}
+use Rattle.semantics.proofs.Members.{not_in, mem_left, cons_below, append_below}
 use Rattle.records.specs.Access.{words_from}
 
 -- One more of a list.
@@ -20,6 +20,10 @@ pub part_more : (ws : List ℕ) (at j : ℕ) → at + j < length ws → words_fr
 part_more ws at j h =
     take_more (drop at ws) j (omega (arith, length-drop at ws))
     ∙ ap (λ (x : ℕ). take j (drop at ws) ++ (x ∷ [])) (get_or-drop at ws j 0)
+
+-- What the first of a list hold, the list holds.
+pub mem_take : (x j : ℕ) (xs : List ℕ) → Mem x (take j xs) → Mem x xs
+mem_take x j xs m = subst (Mem x) (take-append-drop j xs) (mem_left x (take j xs) (drop j xs) m)
 
 -- One name.
 pub part_one : (ws : List ℕ) (at : ℕ) → at < length ws → words_from at 1 ws ≡ get_or ws at 0 ∷ []
