@@ -3,7 +3,7 @@ use mathlib.Core.Path.{◌≡◌, refl, sym, ap, subst, ◌∙◌}
 use mathlib.Core.List.{List, [], ◌∷◌, ◌++◌, map, flat_map}
 use Prim.Native.Nat.{ℕ, suc, pred, ◌+◌, ◌-◌, ◌^◌, ◌≤◌, ◌<◌}
 use native.Mathlib.Omega.{arith}
-use lib.ListN.{length, get_or, drop, length-map}
+use lib.ListN.{length, drop, length-map}
 use lib.Seq.{sets}
 use Rattle.semantics.specs.Arithmetic.{prime}
 use Rattle.semantics.specs.Sheet.{Sheet, interaction_words, length_of, place}
@@ -11,16 +11,15 @@ use Rattle.semantics.specs.Check.{read_sheet}
 use Rattle.semantics.specs.Walk.{Mem, Below, member}
 use Rattle.semantics.specs.Graph.{Built, built, graph_roots, graph_of, sorted_once, renamed}
 use Rattle.semantics.proofs.Basics.{by_test}
-use Rattle.semantics.proofs.Members.{mem_right, mem_get_or, map_below}
+use Rattle.semantics.proofs.Members.{mem_right, map_below}
 use Rattle.semantics.proofs.Places.{place_head}
 use Rattle.semantics.proofs.Encoding.{sheet_length}
-use Rattle.semantics.proofs.Access.{constraint_word, words_count}
 use Rattle.semantics.proofs.Orders.{order_closed, order_roots, order_below, order_distinct, distinct_length}
 use Rattle.semantics.proofs.GraphSheets.{constraint_root_lem, graph_roots_lem, sorted_length}
-use Rattle.records.specs.Access.{records_of, constraints_at, interactions_at, words_from}
+use Rattle.records.specs.Access.{records_of, interactions_at}
 use Rattle.records.specs.Orders.{Order}
 use Rattle.records.proofs.Steps.{inside, few_records, lows}
-use Rattle.records.proofs.Reading.{references, counts_small, constraints_are, interactions_stand}
+use Rattle.records.proofs.Reading.{references, counts_small, interactions_stand}
 use Rattle.nodes.specs.Memory.{tabulate, mark, nodes_out, built_of}
 use Rattle.nodes.proofs.States as states
 use Rattle.nodes.proofs.Marks.{tabulate_length}

@@ -8,7 +8,8 @@ use lib.ListN.{length, get_or, set, take, drop, length-append, length-map}
 use lib.Seq.{sets, length-take-le}
 use Rattle.records.specs.declared.Interaction.{Interaction}
 use Rattle.records.specs.Access.{message_length, interaction_from, each_words, count_list_at, fields_at}
-use Rattle.records.proofs.Parts.{take_more, part_one, part_length}
+use Rattle.records.proofs.Parts.{take_more, part_length}
+use Rattle.records.proofs.Interactions as names
 use Rattle.semantics.proofs.Members.{mem_get_or}
 use Rattle.slices.specs.Putting.{put, Puts}
 use Rattle.graph_lists.specs.Lists.{node_numbers, marks_of, NodesNamed, NamedInteraction, NamedInteractions, renamed_words, renamed_all}
@@ -53,7 +54,7 @@ module _ {ws : List ℕ} {at : ℕ} {s : List ℕ} (h : NamedInteraction ws at s
   count_node = pred (marks_of s counted)
 
   one_name : count_list_at ws at ≡ counted ∷ []
-  one_name = part_one ws (at + 2) (omega (arith, h.inside))
+  one_name = names.count_named ws at (interaction_from at (message_length ws at)) refl h.inside
 
   count_named : NodesNamed (counted ∷ []) s
   count_named = subst (λ (xs : List ℕ). NodesNamed xs s) one_name h.count
@@ -105,12 +106,6 @@ module _ {ws : List ℕ} {at : ℕ} {s out : List ℕ} {to : ℕ} {x y : Interac
   pub next_place : y.next ≡ to + (4 + message_length ws at)
   next_place = ap (λ (z : Interaction). z.next) y_is
 
-  -- The words of the message.
-  message_is : take (x.next - x.fields) (drop x.fields ws) ≡ fields_at ws at
-  message_is =
-      ap (λ (z : Interaction). take (z.next - z.fields) (drop z.fields ws)) p.x_is
-      ∙ ap (λ (k : ℕ). take k (drop (at + 4) ws)) (omega arith)
-
   -- What `node_number` asks of the count's name, and hands back.
   pub count_asks : (get_or ws x.count 0 < length s) × (0 < get_or s (get_or ws x.count 0) 0 % 65536)
   count_asks =
@@ -124,7 +119,7 @@ module _ {ws : List ℕ} {at : ℕ} {s out : List ℕ} {to : ℕ} {x y : Interac
       let node_is : node ≡ count_node h =
       q ∙ ap (λ (z : Interaction). pred (get_or s (get_or ws z.count 0) 0 % 65536)) p.x_is ∙ number_is (count_named h) {j = 0} (omega arith) refl in
       all_put h out to p.room o₂ (set o₂ (to + 2) (count_node h)) o₅ e₂ refl
-      (e₅ ∙ λ i. put (set (set o₂ (y_is i).count (node_is i)) (y_is i).length (get_or ws (p.x_is i).length 0)) (y_is i).fields (node_numbers (marks_of s) (message_is i)))
+      (e₅ ∙ λ i. put (set (set o₂ (y_is i).count (node_is i)) (y_is i).length (get_or ws (p.x_is i).length 0)) (y_is i).fields (node_numbers (marks_of s) (names.fields_named ws at x p.x_is i)))
 
 -- The loop over the interactions: what is written and what is left make the whole.
 pub record Written (ws s : List ℕ) (at count : ℕ) (out₀ : List ℕ) (to : ℕ) (out : List ℕ) (from next i : ℕ) : Type 0 where

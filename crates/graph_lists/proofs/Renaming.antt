@@ -2,14 +2,13 @@
 use mathlib.Core.Path.{◌≡◌, refl, sym, ap, subst, ◌∙◌}
 use mathlib.Core.List.{List, [], ◌∷◌, ◌++◌, map, flat_map}
 use Prim.Native.Nat.{ℕ, pred, ◌+◌, ◌≤◌, ◌<◌}
-use native.Mathlib.Omega.{arith}
-use lib.ListN.{length, get_or, drop, length-map}
+use lib.ListN.{length, drop, length-map}
 use Rattle.semantics.specs.Sheet.{Interaction, interaction_words}
 use Rattle.semantics.specs.Graph.{renamed}
 use Rattle.semantics.specs.Walk.{Mem}
-use Rattle.semantics.proofs.Members.{mem_here, mem_there, mem_left, mem_right, mem_get_or}
+use Rattle.semantics.proofs.Members.{mem_here, mem_there, mem_left, mem_right}
 use Rattle.records.specs.Access.{message_length, each_words}
-use Rattle.records.proofs.Reading.{references, bus_is, weight_is, count_word, count_is, length_is, message_is, next_stands, interaction_inside, field_word, first_stands}
+use Rattle.records.proofs.Reading.{references, bus_is, weight_is, count_is, length_is, message_is, next_stands, interaction_inside, first_stands}
 use Rattle.graph_lists.specs.Lists.{node_numbers, marks_of, NamedInteraction, NamedInteractions, renamed_words, renamed_all}
 
 -- Two functions that agree on a list.

@@ -1,5 +1,5 @@
 -- The lists of the finished graph, from what scratch and output hold when all records are added.
-use Rattle.std.specs.Prelude.{◌≡◌, Bool, true, false, cond, List, [], ◌∷◌, ◌++◌, map, ℕ, zero, suc, pred, ◌+◌, ◌-◌, ◌≤◌, ◌<◌, leb, ltb, length, get_or}
+use Rattle.std.specs.Prelude.{Bool, true, false, cond, List, [], ◌∷◌, ◌++◌, map, ℕ, zero, suc, pred, ◌+◌, ◌-◌, ◌≤◌, ◌<◌, leb, ltb, length, get_or}
 use Rattle.semantics.specs.Sheet.{encode, length_of}
 use Rattle.semantics.specs.Check.{prime_of, read_sheet}
 use Rattle.semantics.specs.Walk.{Mem, member, order}

@@ -1,8 +1,7 @@
 -- Adding the records that some words name.
-use mathlib.Core.Path.{◌≡◌, refl, sym, ap, subst, ◌∙◌}
+use mathlib.Core.Path.{◌≡◌, refl, sym, subst, ◌∙◌}
 use mathlib.Core.List.{List, [], ◌∷◌, ◌++◌}
 use Prim.Native.Nat.{ℕ, ◌+◌, ◌-◌, ◌≤◌, ◌<◌}
-use native.Mathlib.Omega.{arith}
 use lib.ListN.{length, get_or, take, drop}
 use lib.Seq.{take_all}
 use Rattle.semantics.specs.Sheet.{place}
@@ -12,7 +11,8 @@ use Rattle.records.specs.declared.Interaction.{Interaction}
 use Rattle.records.specs.Access.{records_of, message_length, interaction_from, count_list_at, fields_at, root_words, RootsInside, AllRootsInside}
 use Rattle.records.specs.Orders.{Visits}
 use Rattle.records.proofs.Rooting.{order_walk, visiting_none, visiting_one, visiting_both, fields_below, roots_below, Passed, passed_none, passed_done, passed_next, passed_more}
-use Rattle.records.proofs.Parts.{take_more, part_one, mem_take}
+use Rattle.records.proofs.Parts.{take_more, mem_take}
+use Rattle.records.proofs.Interactions.{fields_named, count_named}
 use Rattle.graph_walk.specs.Walking.{AddReady, AddWalking, State, Walks}
 
 -- What one interaction names: its fields, then its count.
@@ -81,20 +81,14 @@ module _ {ws names : List ℕ} {s₀ o₀ : List ℕ} {n : ℕ} (p : AddWalking 
 -- The fields of an interaction are added, then its count.
 module _ {ws : List ℕ} {at : ℕ} {s₀ o₀ : List ℕ} {n : ℕ} (p : AddWalking ws s₀ o₀ n) (h : RootsInside ws at) {x : Interaction}
     (e : x ≡ interaction_from at (message_length ws at)) where
-  fields_are : take (x.next - x.fields) (drop x.fields ws) ≡ fields_at ws at
-  fields_are = ap (λ (z : Interaction). take (z.next - z.fields) (drop z.fields ws)) e ∙ ap (λ (k : ℕ). take k (drop (at + 4) ws)) (omega arith)
-
   abbrev fields : List ℕ
   fields = take (x.next - x.fields) (drop x.fields ws)
 
   pub fields_inside : Below (length (records_of ws)) fields
-  fields_inside = subst (Below (length (records_of ws))) (sym fields_are) (fields_below ws at h)
+  fields_inside = subst (Below (length (records_of ws))) (sym (fields_named ws at x e)) (fields_below ws at h)
 
   abbrev count : ℕ
   count = get_or ws x.count 0
-
-  count_is : count_list_at ws at ≡ count ∷ []
-  count_is = part_one ws (at + 2) (omega (arith, h.inside)) ∙ ap (λ (z : Interaction). get_or ws z.count 0 ∷ []) (sym e)
 
   count_inside : count < length (records_of ws)
   count_inside = subst (λ (z : Interaction). get_or ws z.count 0 < length (records_of ws)) (sym e) h.count
@@ -105,7 +99,7 @@ module _ {ws : List ℕ} {at : ℕ} {s₀ o₀ : List ℕ} {n : ℕ} (p : AddWal
 
     pub interaction_walked : (s₁ o₁ : List ℕ) (u₁ : ℕ) → Visits ws count (State ws s o u) (State ws s₁ o₁ u₁) → Walks ws (roots_at ws at) s₀ o₀ n s₁ o₁ u₁
     interaction_walked s₁ o₁ u₁ g =
-        subst (λ (xs : List ℕ). Walks ws xs s₀ o₀ n s₁ o₁ u₁) (λ i. fields_are i ++ sym count_is i)
+        subst (λ (xs : List ℕ). Walks ws xs s₀ o₀ n s₁ o₁ u₁) (λ i. fields_named ws at x e i ++ sym (count_named ws at x e h.inside) i)
         (walks_both ws p fields (count ∷ []) fields_inside s o u s₁ o₁ u₁ f
         (visiting_one ws p.checked count count_inside (State ws s o u) (State ws s₁ o₁ u₁) g))
 

@@ -1,14 +1,14 @@
 -- The rules look only at the kind and the word a of a child's node.
-use mathlib.Core.Path.{◌≡◌, refl, sym, ◌∙◌, ap}
+use mathlib.Core.Path.{◌≡◌, refl, ◌∙◌, ap}
 use mathlib.Core.Bool.{Bool, true, false, cond, ◌&&◌, ◌||◌}
 use Prim.Native.Nat.{ℕ}
 use lib.Dec.{eqb}
 use borrow.Author.Tests.{eqb-true}
-use Rattle.semantics.specs.Arithmetic.{add_m, sub_m, mul_m, neg_m}
+use Rattle.semantics.specs.Arithmetic.{add_m, sub_m, mul_m}
 use Rattle.semantics.specs.Sheet.{Record, record_of}
 use Rattle.semantics.specs.Value.{Leaf, Node, leaf, const, add, sub, neg, mul, leaf_of, node_of}
 use Rattle.semantics.specs.Graph.{present, make, if_constants, is_const, if_neg, add_rule, sub_rule, neg_rule, mul_rule}
-use Rattle.semantics.proofs.Basics.{by_test, cond_true, cond_false}
+use Rattle.semantics.proofs.Basics.{by_test}
 
 -- A choice that treats all nodes alike but constants and Neg.
 module _ {X : Type 0} (H : Node → X) (x : X) (on-leaf : (v : Leaf) → H (leaf v) ≡ x) (on-add : (l r : ℕ) → H (add l r) ≡ x)

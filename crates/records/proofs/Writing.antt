@@ -1,6 +1,6 @@
 -- A record's words compared.
-use mathlib.Core.Path.{◌≡◌, refl, sym, ◌∙◌, ap}
-use mathlib.Core.Bool.{Bool, true, false, ◌&&◌, true≢false}
+use mathlib.Core.Path.{◌≡◌, refl}
+use mathlib.Core.Bool.{Bool, true, false, ◌&&◌}
 use lib.Dec.{eqb}
 use Rattle.semantics.specs.Sheet.{Record}
 use Rattle.semantics.specs.Graph.{equal_records}

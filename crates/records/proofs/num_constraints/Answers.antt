@@ -1,5 +1,4 @@
 -- The head of a checked sheet says how many there are.
-use mathlib.Core.Path.{◌∙◌}
 use native.Mathlib.Omega.{arith}
 use Rattle.records.proofs.Reading.{head_inside, head_counts}
 use Rattle.records.proofs.num_constraints.Goals as goal
