@@ -6,7 +6,7 @@ use Prim.Native.Nat.{ℕ, zero, suc, pred, ◌+◌, ◌%◌, ◌≤◌, ◌<◌}
 use native.Mathlib.Omega.{arith}
 use lib.Dec.{eqb}
 use lib.ListN.{length, get_or, set, take}
-use lib.Seq.{ext_get_or, set-get_or, take_all}
+use lib.Seq.{ext_get_or, set-get_or}
 use borrow.Author.Tests.{eqb-true, eqb-false, ne_eqb, lt-ltb, le-ltb, le-leb, lt-leb}
 use Rattle.semantics.specs.Walk.{Below, member}
 use Rattle.semantics.specs.Graph.{set_num, insert_once, sorted_once}
@@ -150,9 +150,6 @@ module _ {names s₀ : List ℕ} (h : NodesNamed names s₀) where
   pub flagging_none : Flagging s₀ 0
   unfolding flagged member
   flagging_none = table_of s₀ ∙ tabulate_same (length s₀) f (flagged f []) (λ i l. omega arith)
-
-  pub flagging_done : {s : List ℕ} {j : ℕ} → Flagging s j → length names ≤ j → s ≡ tabulate 0 (length s₀) (flagged f (node_numbers f names))
-  flagging_done {s} {j} e l = e ∙ ap (λ (xs : List ℕ). tabulate 0 (length s₀) (flagged f (node_numbers f xs))) (take_all j names l)
 
   module _ {s : List ℕ} {j : ℕ} (e : Flagging s j) (l : j < length names) where
     abbrev x : ℕ

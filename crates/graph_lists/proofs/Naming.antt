@@ -96,6 +96,10 @@ pub record Places (ws : List ℕ) (at : ℕ) (s out : List ℕ) (to : ℕ) (x y 
   pub x_is : x ≡ interaction_from at (message_length ws at)
   pub y_from : y ≡ interaction_from to x.message
 
+pub places_are : {ws : List ℕ} {at : ℕ} {s out : List ℕ} {to : ℕ} {x y : Interaction} → NamedInteraction ws at s × (to + (4 + message_length ws at) ≤ length out)
+    → x ≡ interaction_from at (message_length ws at) → y ≡ interaction_from to x.message → Places ws at s out to x y
+places_are h e k = record { named = h.0; room = h.1; x_is = e; y_from = k }
+
 module _ {ws : List ℕ} {at : ℕ} {s out : List ℕ} {to : ℕ} {x y : Interaction} (p : Places ws at s out to x y) where
   abbrev h : NamedInteraction ws at s
   h = p.named

@@ -3,7 +3,6 @@ use mathlib.Core.Path.{◌≡◌, refl, sym, subst, ◌∙◌}
 use mathlib.Core.List.{List, [], ◌∷◌, ◌++◌}
 use Prim.Native.Nat.{ℕ, ◌+◌, ◌-◌, ◌≤◌, ◌<◌}
 use lib.ListN.{length, get_or, take, drop}
-use lib.Seq.{take_all}
 use Rattle.semantics.specs.Sheet.{place}
 use Rattle.semantics.specs.Walk.{Below, children_at, fold_left, visit}
 use Rattle.semantics.proofs.Members.{mem_get_or}
@@ -52,9 +51,6 @@ module _ {ws names : List ℕ} {s₀ o₀ : List ℕ} {n : ℕ} (p : AddWalking 
   naming_none = record { walks = visiting_none ws (State ws s₀ o₀ n); out_length = refl }
 
   module _ {s o : List ℕ} {u j : ℕ} (h : Naming ws names s₀ o₀ n s o u j) where
-    pub naming_done : length names ≤ j → Walks ws names s₀ o₀ n s o u
-    naming_done l = subst (λ (xs : List ℕ). Walks ws xs s₀ o₀ n s o u) (take_all j names l) h.walks
-
     so_far : Below (length (records_of ws)) (take j names)
     so_far x m = below x (mem_take x j names m)
 

@@ -47,12 +47,7 @@ fn pick_node(sheet: &[u32], scratch: &[u32], out: &[u32], r: usize) -> Pick
     if q.kind == 8 {
         return rules::neg_rule(l, q.c);
     }
-    two_rule(
-        q.kind,
-        l,
-        built_child(scratch, out, q.b as usize),
-        q.c,
-    )
+    two_rule(q.kind, l, built_child(scratch, out, q.b as usize), q.c)
 }
 
 // Adds a record whose children are added, and hands back the number of nodes.

@@ -1,4 +1,4 @@
-use Rattle.graph_lists.proofs.Flags.{flagging_none, flagging_done, number_asks, number_inside, flagging_more}
+use Rattle.graph_lists.proofs.Flags.{flagging_none, number_asks, number_inside, flagging_more}
 use Rattle.graph_lists.proofs.flag_nodes.Goals as goal
 
 pub loop-r-init : goal.loop-r-init
@@ -13,6 +13,3 @@ flag_node-requires c = number_inside c.requires c.loop-r.invariant c.loop-r-test
 pub loop-r-preserved : goal.loop-r-preserved
 loop-r-preserved c =
     flagging_more c.requires c.loop-r.invariant c.loop-r-test.true c.node_number-node.ensures _ c.flag_node.ensures
-
-pub returns : goal.returns
-returns c = flagging_done c.requires c.loop-r.invariant c.loop-r-test.false

@@ -8,4 +8,3 @@ decreases-add_expr l = l.r
 
 abbrev pub invariant-loop-i : goal.invariant-loop-i
 invariant-loop-i l = Children l.sheet l.r l.initial.scratch l.initial.out l.n l.scratch l.out l.used l.i
-

@@ -1,4 +1,4 @@
-use Rattle.graph_walk.proofs.Rooting.{naming_none, naming_ready, naming_more, naming_done}
+use Rattle.graph_walk.proofs.Rooting.{naming_none, naming_ready, naming_more}
 use Rattle.graph_walk.proofs.add_references.Goals as goal
 
 pub loop-r-init : goal.loop-r-init
@@ -12,6 +12,3 @@ loop-r-preserved c =
     let v = c.add_expr-used in
     let p = c.requires in
     naming_more p.0 p.1 c.loop-r.invariant c.loop-r-test.true v.new.scratch v.new.out v.result v.auto.out v.ensures
-
-pub returns : goal.returns
-returns c = let p = c.requires in naming_done p.0 p.1 c.loop-r.invariant c.loop-r-test.false
