@@ -59,7 +59,7 @@ fn write_flagged(scratch: &mut [u32], nodes: usize, out: &mut [u32], at: usize) 
     next
 }
 
-// Writes the nodes of the records that are named from `to` on.
+// Writes from `to` on the nodes of the records that are named.
 fn write_references(names: &[u32], scratch: &[u32], out: &mut [u32], to: usize)
     requires { NodesNamed names.now scratch.now × (to + length names.now ≤ length out.old) }
     ensures { out.new ≡ put out.old to (node_numbers (marks_of scratch.now) names.now) }

@@ -159,7 +159,7 @@ pub fn interaction_from(at: usize, message: usize) -> Interaction
         count: at + 2,
         length: at + 3,
         fields: at + 4,
-        message: message,
+        message,
         next: at + (4 + message),
     }
 }
