@@ -6,16 +6,18 @@ use native.Mathlib.Omega.{arith}
 use lib.ListN.{length, replicate, replicate-append-replicate}
 use Rattle.semantics.specs.Sheet.{Sheet, length_of, place}
 use Rattle.semantics.specs.Check.{read_sheet}
-use Rattle.semantics.specs.Walk.{children_at, member, fold_left, visit, order}
+use Rattle.semantics.specs.Walk.{Below, children_at, member, fold_left, visit, order}
 use Rattle.semantics.specs.Graph.{build, graph_roots}
 use Rattle.semantics.specs.Call.{zeros, padded}
 use Rattle.semantics.proofs.Places.{place_head}
 use Rattle.semantics.proofs.Encoding.{sheet_length}
-use Rattle.records.specs.Access.{records_of, constraints_at, interactions_at, words_from, root_words, ReferencesInside, AllRootsInside}
-use Rattle.records.proofs.Rooting.{order_none, references_below}
-use Rattle.records.proofs.Reading.{constraints_are, constraints_inside, interactions_stand, interactions_inside, roots_are}
+use Rattle.semantics.proofs.GraphSheets.{named_below}
+use Rattle.records.specs.Access.{records_of, interactions_at, root_words, AllRootsInside}
+use Rattle.records.proofs.Rooting.{order_none}
+use Rattle.records.proofs.Reading.{interactions_stand, interactions_inside, roots_are}
+use Rattle.records.proofs.Steps.{inside}
 use Rattle.nodes.specs.Memory.{tabulate, mark, nodes_out, built_of, GraphHolds}
-use Rattle.graph_lists.specs.Lists.{ToWriteLists, ListsAt}
+use Rattle.graph_lists.specs.Lists.{ToWriteLists}
 use Rattle.graph_walk.specs.Walking.{AddWalking, Walks}
 use Rattle.graph_walk.proofs.Rooting.{walking_after, walks_both}
 use Rattle.dag.specs.Calls.{Starting}
@@ -49,44 +51,38 @@ module _ {ws scratch out : List ℕ} (b : Starting ws scratch out) where
   pub start_walking : AddWalking ws scratch out 0
   start_walking = record { checked = b.checked; room = room; done = []; order = order_none ws; holds = holds_none }
 
-  -- The records that the constraints and the interactions name.
-  module _ {at count ints : ℕ} (n : ListsAt ws at count ints) where
-    pub references_inside : ReferencesInside ws at count
-    references_inside =
-        subst (λ (a : ℕ). ReferencesInside ws a count) (sym n.at_is)
-        (subst (ReferencesInside ws (constraints_at ws)) (sym n.constraints_are) (constraints_inside ws b.checked))
+  -- The records that the constraints name.
+  module _ {names : List ℕ} (e : names ≡ s.constraints) where
+    pub names_below : Below E names
+    names_below = subst (Below E) (sym e) (named_below E s.constraints (inside ws b.checked).constraints)
 
     -- When the constraints are added.
-    pub walking_next : (s₁ o₁ : List ℕ) (n₁ : ℕ) → length o₁ ≡ length out → Walks ws (words_from at count ws) scratch out 0 s₁ o₁ n₁ → AddWalking ws s₁ o₁ n₁
-    walking_next s₁ o₁ n₁ = walking_after ws (words_from at count ws) (references_below ws at count references_inside) scratch out 0 s₁ o₁ n₁ start_walking
+    pub walking_next : (s₁ o₁ : List ℕ) (n₁ : ℕ) → length o₁ ≡ length out → Walks ws names scratch out 0 s₁ o₁ n₁ → AddWalking ws s₁ o₁ n₁
+    walking_next s₁ o₁ n₁ = walking_after ws names names_below scratch out 0 s₁ o₁ n₁ start_walking
 
-    -- The interactions stand behind the constraints.
-    behind : at + count ≡ interactions_at ws
-    behind = omega (arith, n.at_is, n.constraints_are)
+    -- The records that the interactions name.
+    module _ {at ints : ℕ} (a : at ≡ interactions_at ws) (i : ints ≡ length s.interactions) where
+      pub all_inside : AllRootsInside ws at ints
+      all_inside =
+          subst (λ (k : ℕ). AllRootsInside ws k ints) (sym a)
+          (subst (AllRootsInside ws (interactions_at ws)) (sym i) (interactions_inside ws b.checked))
 
-    pub all_inside : AllRootsInside ws (at + count) ints
-    all_inside =
-        subst (λ (a : ℕ). AllRootsInside ws a ints) (sym behind)
-        (subst (AllRootsInside ws (interactions_at ws)) (sym n.interactions_are) (interactions_inside ws b.checked))
+      roots_all : names ++ root_words ws at ints ≡ graph_roots s
+      unfolding graph_roots
+      roots_all =
+          let stands = interactions_stand ws b.checked in
+          (λ k. e k ++ root_words ws (a k) (i k)) ∙ ap (λ (r : List ℕ). s.constraints ++ r) (roots_are stands.0 ws (interactions_at ws) s.interactions stands.1)
 
-    roots_all : words_from at count ws ++ root_words ws (at + count) ints ≡ graph_roots s
-    unfolding graph_roots
-    roots_all =
-        let stands = interactions_stand ws b.checked in
-        (λ i. words_from (n.at_is i) (n.constraints_are i) ws ++ root_words ws (behind i) (n.interactions_are i))
-        ∙ (λ i. constraints_are ws b.checked i ++ roots_are stands.0 ws (interactions_at ws) s.interactions stands.1 i)
-
-    -- When all are.
-    pub finishing : (s₁ o₁ : List ℕ) (n₁ : ℕ) (s₂ o₂ : List ℕ) (n₂ : ℕ) → Walks ws (words_from at count ws) scratch out 0 s₁ o₁ n₁
-        → Walks ws (root_words ws (at + count) ints) s₁ o₁ n₁ s₂ o₂ n₂ → length o₂ ≡ length out → ToWriteLists ws s₂ o₂ n₂
-    unfolding order
-    finishing s₁ o₁ n₁ s₂ o₂ n₂ v w k =
-        let all = walks_both ws start_walking (words_from at count ws) (root_words ws (at + count) ints) (references_below ws at count references_inside)
-        s₁ o₁ n₁ s₂ o₂ n₂ v w in
-        record {
-          checked = b.checked;
-          room = omega (arith, b.room);
-          holds =
-              subst (λ (r : List ℕ). GraphHolds ws (fold_left (visit (children_at (records_of ws)) E) [] r) s₂ o₂ n₂) roots_all
-              (all [] (order_none ws) holds_none);
-        }
+      -- When all are.
+      pub finishing : (s₁ o₁ : List ℕ) (n₁ : ℕ) (s₂ o₂ : List ℕ) (n₂ : ℕ) → Walks ws names scratch out 0 s₁ o₁ n₁
+          → Walks ws (root_words ws at ints) s₁ o₁ n₁ s₂ o₂ n₂ → length o₂ ≡ length out → ToWriteLists ws s₂ o₂ n₂
+      unfolding order
+      finishing s₁ o₁ n₁ s₂ o₂ n₂ v w k =
+          let all = walks_both ws start_walking names (root_words ws at ints) names_below s₁ o₁ n₁ s₂ o₂ n₂ v w in
+          record {
+            checked = b.checked;
+            room = omega (arith, b.room);
+            holds =
+                subst (λ (r : List ℕ). GraphHolds ws (fold_left (visit (children_at (records_of ws)) E) [] r) s₂ o₂ n₂) roots_all
+                (all [] (order_none ws) holds_none);
+          }

@@ -8,17 +8,9 @@ pub fn build_graph(sheet: &[u32], scratch: &mut [u32], out: &mut [u32]) -> usize
     requires { Starting sheet.now scratch.old out.old }
     ensures { (out.new ≡ graph_out (length out.old) sheet.now) × (result ≡ graph_length sheet.now) }
 {
-    let at = records::constraints_at(sheet);
-    let constraints = records::num_constraints(sheet);
+    let named = graph_walk::add_references(sheet, records::constraints(sheet), scratch, out, 0);
+    let at = records::interactions_at(sheet);
     let interactions = records::num_interactions(sheet);
-    let named = graph_walk::add_references(sheet, at, constraints, scratch, out, 0);
-    let n = graph_walk::add_interactions(
-        sheet,
-        at + constraints,
-        interactions,
-        scratch,
-        out,
-        named,
-    );
-    graph_lists::write_graph(sheet, at, constraints, interactions, scratch, out, n)
+    let n = graph_walk::add_interactions(sheet, at, interactions, scratch, out, named);
+    graph_lists::write_graph(sheet, scratch, out, n)
 }

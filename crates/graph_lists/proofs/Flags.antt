@@ -1,21 +1,29 @@
 -- Flagging nodes and taking the flagged in ascending order sorts node numbers and drops repeats.
-use mathlib.Core.Path.{◌≡◌, refl, sym, ap, subst, ◌∙◌}
+use mathlib.Core.Path.{◌≡◌, refl, sym, ap, ◌∙◌}
 use mathlib.Core.Bool.{Bool, true, false, cond}
 use mathlib.Core.List.{List, [], ◌∷◌, ◌++◌, map-append}
 use Prim.Native.Nat.{ℕ, zero, suc, pred, ◌+◌, ◌%◌, ◌≤◌, ◌<◌}
 use native.Mathlib.Omega.{arith}
 use lib.Dec.{eqb}
-use lib.ListN.{length, get_or, set}
-use lib.Seq.{ext_get_or}
+use lib.ListN.{length, get_or, set, take}
+use lib.Seq.{ext_get_or, set-get_or}
 use borrow.Author.Tests.{eqb-true, eqb-false, ne_eqb, lt-ltb, le-ltb, le-leb, lt-leb}
 use Rattle.semantics.specs.Walk.{Below, member}
 use Rattle.semantics.specs.Graph.{set_num, insert_once, sorted_once}
-use Rattle.semantics.proofs.Members.{mem_here, mem_there}
-use Rattle.records.specs.Access.{words_from}
-use Rattle.records.proofs.Parts.{part_more}
+use Rattle.semantics.proofs.Members.{mem_here, mem_there, mem_get_or}
+use Rattle.records.proofs.Parts.{take_more}
 use Rattle.nodes.specs.Memory.{tabulate}
 use Rattle.nodes.proofs.Marks.{tabulate_length, tabulate_from, tabulate_same, tabulate_set}
 use Rattle.graph_lists.specs.Lists.{flag_word, flagged, node_numbers, marks_of, NodesNamed}
+
+-- A word's flag is set where it has none.
+pub flag_new : (w : ℕ) → w < 65536 → flag_word w ≡ w + 65536
+unfolding flag_word
+flag_new w h = rw (lt-leb 65536 w h)
+
+pub flag_kept : (s : List ℕ) (node : ℕ) → 65536 ≤ get_or s node 0 → s ≡ set s node (flag_word (get_or s node 0))
+unfolding flag_word
+flag_kept s node h = sym (rw (le-leb 65536 (get_or s node 0) h) (set-get_or s node 0))
 
 -- A member of a list with one more.
 member_snoc : (i x : ℕ) (xs : List ℕ) (t : Bool) → eqb i x ≡ t → member i (xs ++ (x ∷ [])) ≡ cond (member i xs) true t
@@ -131,50 +139,51 @@ ascending_sorts n (x ∷ nums) b =
 pub table_of : (s : List ℕ) → s ≡ tabulate 0 (length s) (marks_of s)
 table_of s = ext_get_or 0 s (tabulate 0 (length s) (marks_of s)) (sym (tabulate_length 0 (length s) (marks_of s))) (λ i l. sym (tabulate_from (length s) (marks_of s) i 0 l))
 
--- The loop over the references: `j` of them are flagged.
-module _ {ws : List ℕ} {at count : ℕ} {s₀ : List ℕ} (h : NodesNamed ws at count s₀) where
+-- The loop over the names: `j` of their nodes are flagged.
+module _ {names s₀ : List ℕ} (h : NodesNamed names s₀) where
   abbrev f : ℕ → ℕ
   f = marks_of s₀
 
   abbrev pub Flagging : (s : List ℕ) (j : ℕ) → Type 0
-  Flagging s j = s ≡ tabulate 0 (length s₀) (flagged f (node_numbers f (words_from at j ws)))
+  Flagging s j = s ≡ tabulate 0 (length s₀) (flagged f (node_numbers f (take j names)))
 
   pub flagging_none : Flagging s₀ 0
   unfolding flagged member
   flagging_none = table_of s₀ ∙ tabulate_same (length s₀) f (flagged f []) (λ i l. omega arith)
 
-  pub flagging_length : {s : List ℕ} (j : ℕ) → Flagging s j → length s ≡ length s₀
-  flagging_length j e = ap length e ∙ tabulate_length 0 (length s₀) (flagged f (node_numbers f (words_from at j ws)))
+  module _ {s : List ℕ} {j : ℕ} (e : Flagging s j) (l : j < length names) where
+    abbrev x : ℕ
+    x = get_or names j 0
 
-  module _ {s : List ℕ} {j : ℕ} (e : Flagging s j) (l : j < count) where
+    here : (x < length s₀) × (0 < f x) × (f x ≤ length s₀)
+    here = h.named x (mem_get_or names j l)
+
+    same_length : length s ≡ length s₀
+    same_length = ap length e ∙ tabulate_length 0 (length s₀) (flagged f (node_numbers f (take j names)))
+
     -- The mark of the next name, and its node.
-    next_mark : get_or s (get_or ws (at + j) 0) 0 % 65536 ≡ f (get_or ws (at + j) 0)
-    next_mark =
-        ap (λ (u : List ℕ). get_or u (get_or ws (at + j) 0) 0 % 65536) e
-        ∙ mark_under (length s₀) f h.small (node_numbers f (words_from at j ws)) (get_or ws (at + j) 0) (h.named j l).0
+    next_mark : get_or s x 0 % 65536 ≡ f x
+    next_mark = ap (λ (u : List ℕ). get_or u x 0 % 65536) e ∙ mark_under (length s₀) f h.small (node_numbers f (take j names)) x here.0
 
-    next_node : pred (f (get_or ws (at + j) 0)) < length s₀
-    next_node = omega (arith, (h.named j l).1, (h.named j l).2)
+    next_node : pred (f x) < length s₀
+    next_node = omega (arith, here.1, here.2)
 
-    -- What `node_number` asks and hands back of it, where x is the name.
-    module _ {x : ℕ} (q : x ≡ get_or ws (at + j) 0) where
-      pub number_asks : (x < length s) × (0 < get_or s x 0 % 65536)
-      number_asks =
-          subst (λ (y : ℕ). (y < length s) × (0 < get_or s y 0 % 65536)) (sym q)
-          (omega (arith, flagging_length j e, (h.named j l).0), omega (arith, next_mark, (h.named j l).1))
+    -- What `node_number` asks and hands back of it.
+    pub number_asks : (x < length s) × (0 < get_or s x 0 % 65536)
+    number_asks = (omega (arith, same_length, here.0), omega (arith, next_mark, here.1))
 
-      pub number_is : {node : ℕ} → node ≡ pred (get_or s x 0 % 65536) → node ≡ pred (f (get_or ws (at + j) 0))
-      number_is k = k ∙ ap (λ (y : ℕ). pred (get_or s y 0 % 65536)) q ∙ ap pred next_mark
+    module _ {node : ℕ} (k : node ≡ pred (get_or s x 0 % 65536)) where
+      number_is : node ≡ pred (f x)
+      number_is = k ∙ ap pred next_mark
 
-      pub number_inside : {node : ℕ} → node ≡ pred (get_or s x 0 % 65536) → node < length s
-      number_inside k = omega (arith, number_is k, next_node, flagging_length j e)
+      pub number_inside : node < length s
+      number_inside = omega (arith, number_is, next_node, same_length)
 
-    pub flagging_more : (node : ℕ) → node ≡ pred (f (get_or ws (at + j) 0)) → (s' : List ℕ) → s' ≡ set s node (flag_word (get_or s node 0)) → Flagging s' (j + 1)
-    flagging_more node q s' g =
-        let nums : List ℕ = node_numbers f (words_from at j ws) in
-        let k : ℕ = pred (f (get_or ws (at + j) 0)) in
-        g ∙ ap (λ (m : ℕ). set s m (flag_word (get_or s m 0))) q
-        ∙ ap (λ (u : List ℕ). set u k (flag_word (get_or u k 0))) e
-        ∙ flag_more (length s₀) f h.small nums k next_node
-        ∙ ap (λ (xs : List ℕ). tabulate 0 (length s₀) (flagged f xs)) (sym (map-append (λ (x : ℕ). pred (f x)) (words_from at j ws) (get_or ws (at + j) 0 ∷ [])))
-        ∙ ap (λ (xs : List ℕ). tabulate 0 (length s₀) (flagged f (node_numbers f xs))) (sym (part_more ws at j (omega (arith, h.inside))))
+      pub flagging_more : (s' : List ℕ) → s' ≡ set s node (flag_word (get_or s node 0)) → Flagging s' (j + 1)
+      flagging_more s' g =
+          let nums : List ℕ = node_numbers f (take j names) in
+          g ∙ ap (λ (m : ℕ). set s m (flag_word (get_or s m 0))) number_is
+          ∙ ap (λ (u : List ℕ). set u (pred (f x)) (flag_word (get_or u (pred (f x)) 0))) e
+          ∙ flag_more (length s₀) f h.small nums (pred (f x)) next_node
+          ∙ ap (λ (xs : List ℕ). tabulate 0 (length s₀) (flagged f xs)) (sym (map-append (λ (y : ℕ). pred (f y)) (take j names) (x ∷ [])))
+          ∙ ap (λ (xs : List ℕ). tabulate 0 (length s₀) (flagged f (node_numbers f xs))) (sym (take_more names j l))

@@ -3,7 +3,7 @@ use mathlib.Core.Path.{◌≡◌, refl, sym, ap, subst, ◌∙◌}
 use mathlib.Core.List.{List, [], ◌∷◌, ◌++◌, map, flat_map}
 use Prim.Native.Nat.{ℕ, suc, pred, ◌+◌, ◌-◌, ◌^◌, ◌≤◌, ◌<◌}
 use native.Mathlib.Omega.{arith}
-use lib.ListN.{length, get_or, drop, length-map}
+use lib.ListN.{length, drop, length-map}
 use lib.Seq.{sets}
 use Rattle.semantics.specs.Arithmetic.{prime}
 use Rattle.semantics.specs.Sheet.{Sheet, interaction_words, length_of, place}
@@ -11,38 +11,30 @@ use Rattle.semantics.specs.Check.{read_sheet}
 use Rattle.semantics.specs.Walk.{Mem, Below, member}
 use Rattle.semantics.specs.Graph.{Built, built, graph_roots, graph_of, sorted_once, renamed}
 use Rattle.semantics.proofs.Basics.{by_test}
-use Rattle.semantics.proofs.Members.{mem_right, mem_get_or, map_below}
+use Rattle.semantics.proofs.Members.{mem_right, map_below}
 use Rattle.semantics.proofs.Places.{place_head}
 use Rattle.semantics.proofs.Encoding.{sheet_length}
-use Rattle.semantics.proofs.Access.{constraint_word, words_count}
 use Rattle.semantics.proofs.Orders.{order_closed, order_roots, order_below, order_distinct, distinct_length}
 use Rattle.semantics.proofs.GraphSheets.{constraint_root_lem, graph_roots_lem, sorted_length}
-use Rattle.records.specs.Access.{records_of, constraints_at, interactions_at, words_from}
+use Rattle.records.specs.Access.{records_of, interactions_at}
 use Rattle.records.specs.Orders.{Order}
 use Rattle.records.proofs.Steps.{inside, few_records, lows}
-use Rattle.records.proofs.Reading.{references, counts_small, constraints_are, interactions_stand}
+use Rattle.records.proofs.Reading.{references, counts_small, interactions_stand}
 use Rattle.nodes.specs.Memory.{tabulate, mark, nodes_out, built_of}
 use Rattle.nodes.proofs.States as states
 use Rattle.nodes.proofs.Marks.{tabulate_length}
-use Rattle.slices.specs.Putting.{put}
+use Rattle.slices.specs.Putting.{put, Puts}
 use Rattle.graph_lists.specs.Lists.{ToWriteLists, all_added, graph_out, graph_length, flagged, flagged_among, plain_below, marks_of, node_numbers, renamed_all, NodesNamed, NamedInteractions}
 use Rattle.slices.proofs.Puts.{put_length}
 use Rattle.graph_lists.proofs.Renaming.{map_same, renamed_are, named_are}
 use Rattle.graph_lists.proofs.Closing.{plain_again, flagged_are, graph_words, graph_fits}
 
--- The constraints' nodes are flagged.
-pub record Flags (ws scratch : List ℕ) (at count : ℕ) (s₁ : List ℕ) : Type 0 where
-  pub at_is : at ≡ constraints_at ws
-  pub count_is : count ≡ length (read_sheet ws).constraints
-  pub flags_are : s₁ ≡ tabulate 0 (length scratch) (flagged (marks_of scratch) (node_numbers (marks_of scratch) (words_from at count ws)))
-
--- They are written behind the nodes and plain again, and the interactions are next.
-pub record Behind (ws out : List ℕ) (n at count : ℕ) (s₁ : List ℕ) (to : ℕ) (s₂ out₁ : List ℕ) (next from ints : ℕ) : Type 0 where
+-- The nodes of the constraints are written behind the nodes and plain again, and the interactions are next.
+pub record Behind (ws out : List ℕ) (n : ℕ) (s₁ : List ℕ) (to : ℕ) (s₂ out₁ : List ℕ) (next at ints : ℕ) : Type 0 where
   pub to_is : to ≡ place 5 n
   pub plain_is : s₂ ≡ tabulate 0 (length s₁) (plain_below n s₁)
-  pub out_is : out₁ ≡ put out to (flagged_among 0 n s₁)
-  pub end_is : next ≡ to + length (flagged_among 0 n s₁)
-  pub starts : from ≡ at + count
+  pub out_is : Puts out to (flagged_among 0 n s₁) out₁ next
+  pub at_is : at ≡ interactions_at ws
   pub ints_are : ints ≡ length (read_sheet ws).interactions
 
 module _ {ws scratch out : List ℕ} {n : ℕ} (f : ToWriteLists ws scratch out n) where
@@ -97,23 +89,14 @@ module _ {ws scratch out : List ℕ} {n : ℕ} (f : ToWriteLists ws scratch out 
   interaction_root c m = mem_right c s.constraints (references s.interactions) m
 
   -- What turning the constraints into nodes asks.
-  pub constraints_named : (at count : ℕ) → at ≡ constraints_at ws → count ≡ length s.constraints → NodesNamed ws at count scratch
-  constraints_named at count e k = record {
-    small = marks_small;
-    inside = omega (arith, words_count prime ws s f.checked);
-    named = λ j l.
-        let w : get_or ws (at + j) 0 ≡ get_or s.constraints j 0 = ap (λ (a : ℕ). get_or ws (a + j) 0) e ∙ constraint_word prime ws s f.checked j (omega arith) in
-        subst (λ (c : ℕ). (c < length scratch) × (0 < marks_of scratch c) × (marks_of scratch c ≤ length scratch)) (sym w)
-        (root_named (get_or s.constraints j 0) (constraint_root_lem s (get_or s.constraints j 0) (mem_get_or s.constraints j (omega arith))));
-  }
+  pub constraints_named : NodesNamed s.constraints scratch
+  constraints_named = record { small = marks_small; named = λ c m. root_named c (constraint_root_lem s c m) }
 
   abbrev nums : List ℕ
   nums = map B.num s.constraints
 
-  numbers_are : (at count : ℕ) → at ≡ constraints_at ws → count ≡ length s.constraints → node_numbers (marks_of scratch) (words_from at count ws) ≡ nums
-  numbers_are at count e k =
-      (λ i. node_numbers (marks_of scratch) (words_from (e i) (k i) ws)) ∙ ap (node_numbers (marks_of scratch)) (constraints_are ws f.checked)
-      ∙ map_same (λ (x : ℕ). pred (marks_of scratch x)) B.num s.constraints (λ c m. number_is c (constraint_root_lem s c m))
+  numbers_are : node_numbers (marks_of scratch) s.constraints ≡ nums
+  numbers_are = map_same (λ (x : ℕ). pred (marks_of scratch x)) B.num s.constraints (λ c m. number_is c (constraint_root_lem s c m))
 
   nodes_count : n ≡ length B.nodes
   nodes_count = f.holds.count_is
@@ -157,66 +140,63 @@ module _ {ws scratch out : List ℕ} {n : ℕ} (f : ToWriteLists ws scratch out 
       omega (arith, sheet_length g, graph_fits ws f.checked, f.room, ap (place 5) k)
 
   -- The constraints are flagged, written and plain again.
-  module _ {at count : ℕ} {s₁ : List ℕ} (b : Flags ws scratch at count s₁) where
+  module _ {s₁ : List ℕ} (flags : s₁ ≡ tabulate 0 (length scratch) (flagged (marks_of scratch) (node_numbers (marks_of scratch) s.constraints))) where
     flags_now : s₁ ≡ tabulate 0 (length scratch) (flagged (marks_of scratch) nums)
-    flags_now = b.flags_are ∙ ap (λ (l : List ℕ). tabulate 0 (length scratch) (flagged (marks_of scratch) l)) (numbers_are at count b.at_is b.count_is)
+    flags_now = flags ∙ ap (λ (l : List ℕ). tabulate 0 (length scratch) (flagged (marks_of scratch) l)) numbers_are
 
     among_are : flagged_among 0 n s₁ ≡ g.constraints
     among_are = ap (flagged_among 0 n) flags_now ∙ flagged_are scratch nums n marks_small nums_below nodes_few ∙ sym sorted_are
 
     pub room_flagged : (to : ℕ) → to ≡ place 5 n → (n ≤ length s₁) × (n < 4294967296) × (to + length (flagged_among 0 n s₁) ≤ length out)
     room_flagged to et =
-        let l : length s₁ ≡ length scratch = ap length b.flags_are ∙ tabulate_length 0 (length scratch) _ in
+        let l : length s₁ ≡ length scratch = ap length flags ∙ tabulate_length 0 (length scratch) _ in
         let k : length (flagged_among 0 n s₁) ≡ length g.constraints = ap length among_are in
         (omega (arith, nodes_few), omega (arith, nodes_small), omega (arith, fits))
 
-    module _ {to : ℕ} {s₂ out₁ : List ℕ} {next from ints : ℕ} (w : Behind ws out n at count s₁ to s₂ out₁ next from ints) where
+    module _ {to : ℕ} {s₂ out₁ : List ℕ} {next at ints : ℕ} (w : Behind ws out n s₁ to s₂ out₁ next at ints) where
       plain : s₂ ≡ scratch
       plain = w.plain_is ∙ ap (λ (l : List ℕ). tabulate 0 (length l) (plain_below n l)) flags_now ∙ plain_again scratch nums n marks_small nums_below nodes_few
-
-      from_is : interactions_at ws ≡ from
-      from_is = omega (arith, b.at_is, b.count_is, w.starts)
 
       stands : drop (interactions_at ws) ws ≡ flat_map interaction_words s.interactions ++ (interactions_stand ws f.checked).0
       stands = (interactions_stand ws f.checked).1
 
-      renamed_now : renamed_all ws s₂ from ints ≡ flat_map interaction_words g.interactions
+      renamed_now : renamed_all ws s₂ at ints ≡ flat_map interaction_words g.interactions
       renamed_now =
-          (λ i. renamed_all ws (plain i) (sym from_is i) (w.ints_are i))
+          (λ i. renamed_all ws (plain i) (w.at_is i) (w.ints_are i))
           ∙ renamed_are (interactions_stand ws f.checked).0 ws (interactions_at ws) s.interactions stands scratch B.num
           (λ c m. number_is c (interaction_root c m))
           ∙ ap (flat_map interaction_words) (sym interactions_are)
 
       next_is : next ≡ place 5 n + length g.constraints
-      next_is = w.end_is ∙ λ i. w.to_is i + length (among_are i)
+      next_is = w.out_is.next_is ∙ λ i. w.to_is i + length (among_are i)
 
       out₁_is : out₁ ≡ put out (place 5 n) g.constraints
-      out₁_is = w.out_is ∙ λ i. put out (w.to_is i) (among_are i)
+      out₁_is = w.out_is.out_is ∙ λ i. put out (w.to_is i) (among_are i)
 
       out₁_length : length out₁ ≡ length out
       out₁_length = ap length out₁_is ∙ put_length out (place 5 n) g.constraints (omega (arith, fits))
 
-      pub interactions_named : NamedInteractions ws s₂ from ints × (next + length (renamed_all ws s₂ from ints) ≤ length out₁)
+      pub interactions_named : NamedInteractions ws s₂ at ints × (next + length (renamed_all ws s₂ at ints) ≤ length out₁)
       interactions_named =
-          let k : length (renamed_all ws s₂ from ints) ≡ length (flat_map interaction_words g.interactions) = ap length renamed_now in (
-            subst (λ (x : List ℕ). NamedInteractions ws x from ints) (sym plain)
-                (subst (λ (a : ℕ). NamedInteractions ws scratch a ints) from_is
+          let k : length (renamed_all ws s₂ at ints) ≡ length (flat_map interaction_words g.interactions) = ap length renamed_now in (
+            subst (λ (x : List ℕ). NamedInteractions ws x at ints) (sym plain)
+                (subst (λ (a : ℕ). NamedInteractions ws scratch a ints) (sym w.at_is)
                 (subst (NamedInteractions ws scratch (interactions_at ws)) (sym w.ints_are)
                 (named_are (interactions_stand ws f.checked).0 ws (interactions_at ws) s.interactions stands scratch marks_small (λ c m. root_named c (interaction_root c m))))),
             omega (arith, fits, next_is, out₁_length),
           )
 
       -- The output with its head.
-      module _ {out₂ : List ℕ} (o₂ : out₂ ≡ put out₁ next (renamed_all ws s₂ from ints)) where
+      module _ {out₂ : List ℕ} (o₂ : out₂ ≡ put out₁ next (renamed_all ws s₂ at ints)) where
         pub out₂_length : length out₂ ≡ length out
         out₂_length =
             let k = interactions_named.1 in
-            ap length o₂ ∙ put_length out₁ next (renamed_all ws s₂ from ints) k ∙ out₁_length
+            ap length o₂ ∙ put_length out₁ next (renamed_all ws s₂ at ints) k ∙ out₁_length
 
-        pub graph_end : (end : ℕ) → end ≡ next + length (renamed_all ws s₂ from ints) → end ≡ graph_length ws
+        pub graph_end : (end : ℕ) → end ≡ next + length (renamed_all ws s₂ at ints) → end ≡ graph_length ws
         unfolding length_of
         graph_end end e =
-            let k : length (renamed_all ws s₂ from ints) ≡ length (flat_map interaction_words g.interactions) = ap length renamed_now in
+            let k : length (renamed_all ws s₂ at ints) ≡ length (flat_map interaction_words g.interactions) = ap length renamed_now in
             let kn : n ≡ length g.records = nodes_count ∙ ap length (sym records_are) in
             omega (arith, next_is, sheet_length g, ap (place 5) kn)
 

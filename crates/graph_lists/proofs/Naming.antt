@@ -4,78 +4,90 @@ use mathlib.Core.List.{List, [], ◌∷◌, ◌++◌, append_assoc, append-nil, 
 use Prim.Native.Nat.{ℕ, suc, pred, ◌+◌, ◌-◌, ◌%◌, ◌≤◌, ◌<◌}
 use native.Mathlib.Omega.{arith}
 use native.Mathlib.Nat.{mod-eq_of_lt}
-use lib.ListN.{length, get_or, set, length-append, length-map}
-use lib.Seq.{sets}
+use lib.ListN.{length, get_or, set, take, drop, length-append, length-map}
+use lib.Seq.{sets, length-take-le}
 use Rattle.records.specs.declared.Interaction.{Interaction}
-use Rattle.records.specs.Access.{words_from, message_length, interaction_from, each_words}
-use Rattle.records.proofs.Parts.{part_more, part_length}
+use Rattle.records.specs.Access.{message_length, interaction_from, each_words, count_list_at, fields_at}
+use Rattle.records.proofs.Parts.{take_more, part_length}
+use Rattle.records.proofs.Interactions as names
+use Rattle.semantics.proofs.Members.{mem_get_or}
 use Rattle.slices.specs.Putting.{put, Puts}
 use Rattle.graph_lists.specs.Lists.{node_numbers, marks_of, NodesNamed, NamedInteraction, NamedInteractions, renamed_words, renamed_all}
 use Rattle.slices.proofs.Puts.{put_length, put_behind, set_behind, sets_put}
 
-numbers_length : (ws : List ℕ) (at j : ℕ) (f : ℕ → ℕ) → at + j ≤ length ws → length (node_numbers f (words_from at j ws)) ≡ j
-numbers_length ws at j f h = length-map (words_from at j ws) (λ (x : ℕ). pred (f x)) ∙ part_length ws at j h
+module _ {names s : List ℕ} (h : NodesNamed names s) {j : ℕ} (l : j < length names) where
+  abbrev x : ℕ
+  x = get_or names j 0
 
-module _ {ws : List ℕ} {at count : ℕ} {s : List ℕ} (h : NodesNamed ws at count s) where
-  module _ {j : ℕ} (l : j < count) where
-    -- The next name's mark has no flag.
-    plain_mark : get_or s (get_or ws (at + j) 0) 0 % 65536 ≡ marks_of s (get_or ws (at + j) 0)
-    plain_mark = mod-eq_of_lt (h.small (get_or ws (at + j) 0) (h.named j l).0)
+  here : (x < length s) × (0 < marks_of s x) × (marks_of s x ≤ length s)
+  here = h.named x (mem_get_or names j l)
 
-    -- What `node_number` asks and hands back of it, where x is the name.
-    module _ {x : ℕ} (e : x ≡ get_or ws (at + j) 0) where
-      pub number_is : {node : ℕ} → node ≡ pred (get_or s x 0 % 65536) → node ≡ pred (marks_of s (get_or ws (at + j) 0))
-      number_is q = q ∙ ap (λ (y : ℕ). pred (get_or s y 0 % 65536)) e ∙ ap pred plain_mark
+  -- The next name's mark has no flag.
+  plain_mark : get_or s x 0 % 65536 ≡ marks_of s x
+  plain_mark = mod-eq_of_lt (h.small x here.0)
 
-    pub naming_more : (out₀ : List ℕ) (to : ℕ) {out : List ℕ} {node : ℕ} → to + count ≤ length out₀ → out ≡ put out₀ to (node_numbers (marks_of s) (words_from at j ws))
-        → node ≡ pred (marks_of s (get_or ws (at + j) 0))
-        → set out (to + j) node ≡ put out₀ to (node_numbers (marks_of s) (words_from at (j + 1) ws))
-    naming_more out₀ to {out} {node} r e q =
-        let f : ℕ → ℕ = marks_of s in
-        let xs : List ℕ = node_numbers f (words_from at j ws) in
-        let n : length xs ≡ j = numbers_length ws at j f (omega (arith, h.inside)) in
-        set_behind out₀ out to xs e (to + j) (omega arith) node (omega arith)
-        ∙ ap (λ (x : ℕ). put out₀ to (xs ++ (x ∷ []))) q
-        ∙ ap (put out₀ to) (sym (map-append (λ (x : ℕ). pred (f x)) (words_from at j ws) (get_or ws (at + j) 0 ∷ [])))
-        ∙ ap (λ (y : List ℕ). put out₀ to (node_numbers f y)) (sym (part_more ws at j (omega (arith, h.inside))))
+  -- What `node_number` asks and hands back of it.
+  pub number_asks : (x < length s) × (0 < get_or s x 0 % 65536)
+  number_asks = (here.0, omega (arith, plain_mark, here.1))
+
+  pub number_is : {node : ℕ} → node ≡ pred (get_or s x 0 % 65536) → node ≡ pred (marks_of s x)
+  number_is q = q ∙ ap pred plain_mark
+
+  pub naming_more : (out₀ : List ℕ) (to : ℕ) {out : List ℕ} {node : ℕ} → to + length names ≤ length out₀ → out ≡ put out₀ to (node_numbers (marks_of s) (take j names))
+      → node ≡ pred (get_or s x 0 % 65536) → set out (to + j) node ≡ put out₀ to (node_numbers (marks_of s) (take (j + 1) names))
+  naming_more out₀ to {out} {node} r e q =
+      let f : ℕ → ℕ = marks_of s in
+      let xs : List ℕ = node_numbers f (take j names) in
+      let n : length xs ≡ j = length-map (take j names) (λ (y : ℕ). pred (f y)) ∙ length-take-le j names (omega arith) in
+      set_behind out₀ out to xs e (to + j) (omega arith) node (omega arith)
+      ∙ ap (λ (y : ℕ). put out₀ to (xs ++ (y ∷ []))) (number_is q)
+      ∙ ap (put out₀ to) (sym (map-append (λ (y : ℕ). pred (f y)) (take j names) (x ∷ [])))
+      ∙ ap (λ (ys : List ℕ). put out₀ to (node_numbers f ys)) (sym (take_more names j l))
 
 -- The words of an interaction, one after the other.
 module _ {ws : List ℕ} {at : ℕ} {s : List ℕ} (h : NamedInteraction ws at s) where
-  abbrev count_nodes : List ℕ
-  count_nodes = node_numbers (marks_of s) (words_from (at + 2) 1 ws)
+  -- The count's name and its node.
+  abbrev counted : ℕ
+  counted = get_or ws (at + 2) 0
+
+  abbrev count_node : ℕ
+  count_node = pred (marks_of s counted)
+
+  one_name : count_list_at ws at ≡ counted ∷ []
+  one_name = names.count_named ws at (interaction_from at (message_length ws at)) refl h.inside
+
+  count_named : NodesNamed (counted ∷ []) s
+  count_named = subst (λ (xs : List ℕ). NodesNamed xs s) one_name h.count
 
   abbrev message_nodes : List ℕ
-  message_nodes = node_numbers (marks_of s) (words_from (at + 4) (message_length ws at) ws)
-
-  one_count : length count_nodes ≡ 1
-  one_count = numbers_length ws (at + 2) 1 (marks_of s) h.count.inside
+  message_nodes = node_numbers (marks_of s) (fields_at ws at)
 
   all_message : length message_nodes ≡ message_length ws at
-  all_message = numbers_length ws (at + 4) (message_length ws at) (marks_of s) h.message.inside
-
-  pub renamed_length : length (renamed_words ws s at) ≡ 4 + message_length ws at
-  unfolding renamed_words
-  renamed_length = simp length-append (omega (arith, one_count, all_message))
+  all_message = length-map (fields_at ws at) (λ (x : ℕ). pred (marks_of s x)) ∙ part_length ws (at + 4) (message_length ws at) (omega (arith, h.inside))
 
   abbrev front : List ℕ
   front = get_or ws at 0 ∷ get_or ws (at + 1) 0 ∷ []
 
+  words_are : renamed_words ws s at ≡ front ++ ((count_node ∷ []) ++ ((message_length ws at ∷ []) ++ message_nodes))
+  unfolding renamed_words
+  words_are = ap (λ (xs : List ℕ). front ++ (node_numbers (marks_of s) xs ++ ((message_length ws at ∷ []) ++ message_nodes))) one_name
+
+  pub renamed_length : length (renamed_words ws s at) ≡ 4 + message_length ws at
+  renamed_length = ap length words_are ∙ simp length-append (omega (arith, all_message))
+
   module _ (out : List ℕ) (to : ℕ) (room : to + (4 + message_length ws at) ≤ length out) where
     -- Behind the bus and the weight the count's node, the message's length and the nodes of its fields.
-    all_put : (o₂ o₃ o₅ : List ℕ) → o₂ ≡ sets out to front → o₃ ≡ put o₂ (to + 2) count_nodes → o₅ ≡ put (set o₃ (to + 3) (message_length ws at)) (to + 4) message_nodes
+    all_put : (o₂ o₃ o₅ : List ℕ) → o₂ ≡ sets out to front → o₃ ≡ set o₂ (to + 2) count_node → o₅ ≡ put (set o₃ (to + 3) (message_length ws at)) (to + 4) message_nodes
         → o₅ ≡ put out to (renamed_words ws s at)
-    unfolding renamed_words
     all_put o₂ o₃ o₅ e₂ e₃ e₅ =
         let f₂ : o₂ ≡ put out to front = e₂ ∙ sets_put out to front (omega arith) in
-        let f₃ : o₃ ≡ put out to (front ++ count_nodes) = e₃ ∙ put_behind out o₂ to front f₂ (to + 2) refl count_nodes (omega (arith, one_count)) in
-        let x : List ℕ = front ++ count_nodes in
-        let lx : length x ≡ 3 = omega (arith, one_count) in
+        let x : List ℕ = front ++ (count_node ∷ []) in
+        let f₃ : o₃ ≡ put out to x = e₃ ∙ set_behind out o₂ to front f₂ (to + 2) refl count_node (omega arith) in
         let y : List ℕ = x ++ (message_length ws at ∷ []) in
-        let ly : length y ≡ 4 = length-append x (message_length ws at ∷ []) ∙ omega arith in
         let f₄ : set o₃ (to + 3) (message_length ws at) ≡ put out to y = set_behind out o₃ to x f₃ (to + 3) (omega arith) (message_length ws at) (omega arith) in
         let f₅ : o₅ ≡ put out to (y ++ message_nodes) =
         e₅ ∙ put_behind out (set o₃ (to + 3) (message_length ws at)) to y f₄ (to + 4) (omega arith) message_nodes (omega (arith, all_message)) in
-        f₅ ∙ ap (put out to) (append_assoc x (message_length ws at ∷ []) message_nodes ∙ append_assoc front count_nodes ((message_length ws at ∷ []) ++ message_nodes))
+        f₅ ∙ ap (put out to) (append_assoc x (message_length ws at ∷ []) message_nodes ∙ append_assoc front (count_node ∷ []) ((message_length ws at ∷ []) ++ message_nodes) ∙ sym words_are)
 
 -- An interaction that is written, at the places x of the sheet and y of the output.
 pub record Places (ws : List ℕ) (at : ℕ) (s out : List ℕ) (to : ℕ) (x y : Interaction) : Type 0 where
@@ -83,6 +95,10 @@ pub record Places (ws : List ℕ) (at : ℕ) (s out : List ℕ) (to : ℕ) (x y 
   pub room : to + (4 + message_length ws at) ≤ length out
   pub x_is : x ≡ interaction_from at (message_length ws at)
   pub y_from : y ≡ interaction_from to x.message
+
+pub places_are : {ws : List ℕ} {at : ℕ} {s out : List ℕ} {to : ℕ} {x y : Interaction} → NamedInteraction ws at s × (to + (4 + message_length ws at) ≤ length out)
+    → x ≡ interaction_from at (message_length ws at) → y ≡ interaction_from to x.message → Places ws at s out to x y
+places_are h e k = record { named = h.0; room = h.1; x_is = e; y_from = k }
 
 module _ {ws : List ℕ} {at : ℕ} {s out : List ℕ} {to : ℕ} {x y : Interaction} (p : Places ws at s out to x y) where
   abbrev h : NamedInteraction ws at s
@@ -94,19 +110,20 @@ module _ {ws : List ℕ} {at : ℕ} {s out : List ℕ} {to : ℕ} {x y : Interac
   pub next_place : y.next ≡ to + (4 + message_length ws at)
   next_place = ap (λ (z : Interaction). z.next) y_is
 
-  module _ {o₂ : List ℕ} (e₂ : o₂ ≡ sets out to (front h)) where
-    module _ {o₃ : List ℕ} (e₃ : o₃ ≡ put o₂ y.count (node_numbers (marks_of s) (words_from x.count 1 ws))) where
-      three_is : o₃ ≡ put o₂ (to + 2) (count_nodes h)
-      three_is = e₃ ∙ λ i. put o₂ (y_is i).count (node_numbers (marks_of s) (words_from (p.x_is i).count 1 ws))
+  -- What `node_number` asks of the count's name, and hands back.
+  pub count_asks : (get_or ws x.count 0 < length s) × (0 < get_or s (get_or ws x.count 0) 0 % 65536)
+  count_asks =
+      subst (λ (z : Interaction). (get_or ws z.count 0 < length s) × (0 < get_or s (get_or ws z.count 0) 0 % 65536)) (sym p.x_is)
+      (number_asks (count_named h) {j = 0} (omega arith))
 
-      abbrev o₄ : List ℕ
-      o₄ = set o₃ y.length (get_or ws x.length 0)
-
-      module _ {o₅ : List ℕ} (e₅ : o₅ ≡ put o₄ y.fields (node_numbers (marks_of s) (words_from x.fields x.message ws))) where
-        pub interaction_put : o₅ ≡ put out to (renamed_words ws s at)
-        interaction_put =
-            all_put h out to p.room o₂ o₃ o₅ e₂ three_is
-            (e₅ ∙ λ i. put (set o₃ (y_is i).length (get_or ws (p.x_is i).length 0)) (y_is i).fields (node_numbers (marks_of s) (words_from (p.x_is i).fields (p.x_is i).message ws)))
+  pub interaction_put : {node : ℕ} → node ≡ pred (get_or s (get_or ws x.count 0) 0 % 65536) → {o₂ o₅ : List ℕ} → o₂ ≡ sets out to (front h)
+      → o₅ ≡ put (set (set o₂ y.count node) y.length (get_or ws x.length 0)) y.fields (node_numbers (marks_of s) (take (x.next - x.fields) (drop x.fields ws)))
+      → o₅ ≡ put out to (renamed_words ws s at)
+  interaction_put {node} q {o₂} {o₅} e₂ e₅ =
+      let node_is : node ≡ count_node h =
+      q ∙ ap (λ (z : Interaction). pred (get_or s (get_or ws z.count 0) 0 % 65536)) p.x_is ∙ number_is (count_named h) {j = 0} (omega arith) refl in
+      all_put h out to p.room o₂ (set o₂ (to + 2) (count_node h)) o₅ e₂ refl
+      (e₅ ∙ λ i. put (set (set o₂ (y_is i).count (node_is i)) (y_is i).length (get_or ws (p.x_is i).length 0)) (y_is i).fields (node_numbers (marks_of s) (names.fields_named ws at x p.x_is i)))
 
 -- The loop over the interactions: what is written and what is left make the whole.
 pub record Written (ws s : List ℕ) (at count : ℕ) (out₀ : List ℕ) (to : ℕ) (out : List ℕ) (from next i : ℕ) : Type 0 where

@@ -2,24 +2,19 @@
 use mathlib.Core.Path.{◌≡◌, refl, sym, ap, subst, ◌∙◌}
 use mathlib.Core.List.{List, [], ◌∷◌, ◌++◌, map, flat_map}
 use Prim.Native.Nat.{ℕ, pred, ◌+◌, ◌≤◌, ◌<◌}
-use native.Mathlib.Omega.{arith}
-use lib.ListN.{length, get_or, drop, length-map}
+use lib.ListN.{length, drop, length-map}
 use Rattle.semantics.specs.Sheet.{Interaction, interaction_words}
 use Rattle.semantics.specs.Graph.{renamed}
 use Rattle.semantics.specs.Walk.{Mem}
-use Rattle.semantics.proofs.Members.{mem_here, mem_there, mem_left, mem_right, mem_get_or}
+use Rattle.semantics.proofs.Members.{mem_here, mem_there, mem_left, mem_right}
 use Rattle.records.specs.Access.{message_length, each_words}
-use Rattle.records.proofs.Reading.{references, bus_is, weight_is, count_word, count_is, length_is, message_is, next_stands, interaction_inside, field_word, first_stands}
+use Rattle.records.proofs.Reading.{references, bus_is, weight_is, count_is, length_is, message_is, next_stands, interaction_inside, first_stands}
 use Rattle.graph_lists.specs.Lists.{node_numbers, marks_of, NamedInteraction, NamedInteractions, renamed_words, renamed_all}
 
 -- Two functions that agree on a list.
 pub map_same : (f g : ℕ → ℕ) (xs : List ℕ) → ((c : ℕ) → Mem c xs → f c ≡ g c) → map f xs ≡ map g xs
 map_same f g [] h = refl
 map_same f g (x ∷ xs) h = λ i. h x (mem_here x xs) i ∷ map_same f g xs (λ c m. h c (mem_there c x xs m)) i
-
--- A name with a mark.
-abbrev Marked : List ℕ → ℕ → Type 0
-Marked scratch c = (c < length scratch) × (0 < marks_of scratch c) × (marks_of scratch c ≤ length scratch)
 
 -- One interaction at `at`.
 module _ (ws : List ℕ) (at : ℕ) (x : Interaction) (tail : List ℕ) (e : drop at ws ≡ interaction_words x ++ tail) where
@@ -41,22 +36,9 @@ module _ (ws : List ℕ) (at : ℕ) (x : Interaction) (tail : List ℕ) (e : dro
       → NamedInteraction ws at scratch
   named_one scratch s h = record {
     inside = interaction_inside ws at x tail e;
-    count = record {
-      small = s;
-      inside = omega (arith, interaction_inside ws at x tail e);
-      named = λ j l. subst (Marked scratch) (sym (ap (λ (k : ℕ). get_or ws k 0) (first j l) ∙ count_word ws at x tail e))
-          (h x.count (mem_right x.count x.message (x.count ∷ []) (mem_here x.count [])));
-    };
-    message = record {
-      small = s;
-      inside = omega (arith, interaction_inside ws at x tail e);
-      named = λ j l. subst (Marked scratch) (sym (field_word ws at x tail e j l))
-          (h (get_or x.message j 0) (mem_left (get_or x.message j 0) x.message (x.count ∷ []) (mem_get_or x.message j (omega (arith, length_is ws at x tail e)))));
-    };
+    count = record { small = s; named = λ c m. h c (mem_right c x.message (x.count ∷ []) (subst (Mem c) (count_is ws at x tail e) m)) };
+    message = record { small = s; named = λ c m. h c (mem_left c x.message (x.count ∷ []) (subst (Mem c) (message_is ws at x tail e) m)) };
   }
-    where
-      first : (j : ℕ) → j < 1 → at + 2 + j ≡ at + 2
-      first j l = omega arith
 
 -- All of them, one behind the other.
 module _ (rest : List ℕ) (ws : List ℕ) where

@@ -8,15 +8,15 @@ use native.Mathlib.Nat.{zero-add}
 use native.Mathlib.Numerals.{add-one}
 use lib.Dec.{eqb, ltb, leb}
 use lib.ListN.{length, get_or, set, drop, replicate, length-append, length-replicate, replicate-append-replicate}
-use lib.Seq.{take_at, drop_at, drop-append-add}
-use borrow.Author.Tests.{eqb-true, eqb-false, ltb-true, ltb-false, lt-ltb, le-ltb}
+use lib.Seq.{take_at, drop_at, drop-append-add, set-get_or}
+use borrow.Author.Tests.{eqb-true, eqb-false, ltb-true, ltb-false, lt-ltb, le-ltb, le-leb, lt-leb}
 use Rattle.semantics.specs.Graph.{set_num}
 use Rattle.semantics.specs.Call.{zeros, padded}
 use Rattle.nodes.specs.Memory.{tabulate}
 use Rattle.nodes.proofs.Marks.{tabulate_length, tabulate_from, tabulate_same, tabulate_set}
 use Rattle.slices.specs.Putting.{put}
-use Rattle.graph_lists.specs.Lists.{plain_word, plain_below, one_if, Wanted, flagged_among, marks_of}
-use Rattle.slices.proofs.Puts.{put_none, put_length, put_behind}
+use Rattle.graph_lists.specs.Lists.{plain_word, plain_below, one_if, flagged_among, marks_of}
+use Rattle.slices.proofs.Puts.{put_none, put_one, put_length, put_behind}
 use Rattle.graph_lists.proofs.Flags.{table_of}
 
 -- Behind the written part of a padded slice.
@@ -109,17 +109,7 @@ module _ {s₀ out₀ : List ℕ} {at nodes : ℕ} {s out : List ℕ} {next node
         ∙ tabulate_from (length s₀) (plain_below node s₀) node 0 (omega arith)
         ∙ rw (le-ltb node node (omega arith))
 
-    pub swept_wanted : (b : Bool) → b ≡ leb 65536 (get_or s node 0) → Wanted b next out
-    swept_wanted b e =
-        let w = e ∙ ap (leb 65536) swept_word in
-        go b swept_room (ap (λ (c : Bool). length (one_if c node)) w)
-      where
-        go : (c : Bool) → at + length (flagged_among 0 node s₀) + length (one_if (leb 65536 (marks_of s₀ node)) node) ≤ length out₀
-            → length (one_if c node) ≡ length (one_if (leb 65536 (marks_of s₀ node)) node) → Wanted c next out
-        go true r q = omega (arith, h.next_is, swept_lengths.1)
-        go false r q = tt
-
-    pub swept_more : (b : Bool) → b ≡ leb 65536 (get_or s node 0) → (s' out' : List ℕ) (next' : ℕ)
+    swept_more : (b : Bool) → b ≡ leb 65536 (get_or s node 0) → (s' out' : List ℕ) (next' : ℕ)
         → s' ≡ set s node (plain_word (get_or s node 0)) → out' ≡ put out next (one_if b node) → next' ≡ next + length (one_if b node)
         → Swept s₀ out₀ at nodes s' out' next' (node + 1)
     swept_more b e s' out' next' q o n =
@@ -141,3 +131,29 @@ module _ {s₀ out₀ : List ℕ} {at nodes : ℕ} {s out : List ℕ} {next node
       where
         sum : (xs ys : List ℕ) → at + length xs + length ys ≡ at + length (xs ++ ys)
         sum xs ys = simp length-append (omega arith)
+
+    -- It is flagged: it is written, and plain again.
+    module _ (g : 65536 ≤ get_or s node 0) where
+      pub swept_inside : next < length out
+      swept_inside =
+          let w : leb 65536 (marks_of s₀ node) ≡ true = ap (leb 65536) (sym swept_word) ∙ le-leb 65536 (get_or s node 0) g in
+          omega (arith, h.next_is, swept_lengths.1, ap (λ (c : Bool). length (one_if c node)) w, swept_room)
+
+      pub swept_taken : (s' out' : List ℕ) (next' : ℕ) → s' ≡ set s node (get_or s node 0 - 65536) → out' ≡ set out next node → next' ≡ next + 1
+          → Swept s₀ out₀ at nodes s' out' next' (node + 1)
+      unfolding plain_word
+      swept_taken s' out' next' q o n =
+          let t = le-leb 65536 (get_or s node 0) g in
+          swept_more true (sym t) s' out' next'
+          (q ∙ ap (λ (b : Bool). set s node (cond b (get_or s node 0 - 65536) (get_or s node 0))) (sym t))
+          (o ∙ put_one out next node swept_inside) n
+
+    -- It is not: nothing changes.
+    pub swept_passed : get_or s node 0 < 65536 → (s' out' : List ℕ) (next' : ℕ) → s' ≡ s → out' ≡ out → next' ≡ next
+        → Swept s₀ out₀ at nodes s' out' next' (node + 1)
+    unfolding plain_word
+    swept_passed g s' out' next' q o n =
+        let t = lt-leb 65536 (get_or s node 0) g in
+        swept_more false (sym t) s' out' next'
+        (q ∙ sym (ap (λ (b : Bool). set s node (cond b (get_or s node 0 - 65536) (get_or s node 0))) t ∙ set-get_or s node 0))
+        (o ∙ sym (put_none out next)) (omega arith)

@@ -1,11 +1,11 @@
 -- The lists of the finished graph, from what scratch and output hold when all records are added.
-use Rattle.std.specs.Prelude.{◌≡◌, Bool, true, false, cond, List, [], ◌∷◌, ◌++◌, map, ℕ, zero, suc, pred, ◌+◌, ◌-◌, ◌≤◌, ◌<◌, leb, ltb, length, get_or}
+use Rattle.std.specs.Prelude.{Bool, true, false, cond, List, [], ◌∷◌, ◌++◌, map, ℕ, zero, suc, pred, ◌+◌, ◌-◌, ◌≤◌, ◌<◌, leb, ltb, length, get_or}
 use Rattle.semantics.specs.Sheet.{encode, length_of}
 use Rattle.semantics.specs.Check.{prime_of, read_sheet}
-use Rattle.semantics.specs.Walk.{member, order}
+use Rattle.semantics.specs.Walk.{Mem, member, order}
 use Rattle.semantics.specs.Graph.{graph_roots, graph_of}
 use Rattle.semantics.specs.Call.{padded}
-use Rattle.records.specs.Access.{IsSheet, records_of, constraints_at, message_length, each_words, count_list_at, fields_at}
+use Rattle.records.specs.Access.{IsSheet, records_of, message_length, each_words, count_list_at, fields_at}
 use Rattle.nodes.specs.Memory.{GraphHolds}
 
 -- The nodes of the constraints are flagged in scratch by 65,536 while they are put into ascending order.
@@ -22,12 +22,10 @@ node_numbers f xs = map (λ (x : ℕ). pred (f x)) xs
 abbrev pub marks_of : List ℕ → ℕ → ℕ
 marks_of scratch i = get_or scratch i 0
 
--- What turning references into node numbers asks: marks below the flag, references of records that have a mark.
-pub record NodesNamed (ws : List ℕ) (at count : ℕ) (scratch : List ℕ) : Type 0 where
+-- What turning names of records into node numbers asks: marks below the flag, names of records that have a mark.
+pub record NodesNamed (names scratch : List ℕ) : Type 0 where
   pub small : (i : ℕ) → i < length scratch → marks_of scratch i < 65536
-  pub inside : at + count ≤ length ws
-  pub named : (j : ℕ) → j < count
-      → (get_or ws (at + j) 0 < length scratch) × (0 < marks_of scratch (get_or ws (at + j) 0)) × (marks_of scratch (get_or ws (at + j) 0) ≤ length scratch)
+  pub named : (c : ℕ) → Mem c names → (c < length scratch) × (0 < marks_of scratch c) × (marks_of scratch c ≤ length scratch)
 
 -- A word without its flag, and scratch with the flags of the first entries taken off.
 unfoldable pub plain_word : ℕ → ℕ
@@ -40,10 +38,6 @@ plain_below n scratch i = cond (ltb i n) (plain_word (marks_of scratch i)) (mark
 abbrev pub one_if : Bool → ℕ → List ℕ
 one_if true x = x ∷ []
 one_if false x = []
-
-abbrev pub Wanted : Bool → ℕ → List ℕ → Type 0
-Wanted true at out = at < length out
-Wanted false at out = Unit {0}
 
 -- The flagged entries among k, k + 1, .., n of them.
 unfoldable pub flagged_among : (k n : ℕ) → List ℕ → List ℕ
@@ -63,8 +57,8 @@ renamed_all ws scratch at n = each_words (renamed_words ws scratch) ws at n
 -- What turning their references into nodes asks.
 pub record NamedInteraction (ws : List ℕ) (at : ℕ) (scratch : List ℕ) : Type 0 where
   pub inside : at + (4 + message_length ws at) ≤ length ws
-  pub count : NodesNamed ws (at + 2) 1 scratch
-  pub message : NodesNamed ws (at + 4) (message_length ws at) scratch
+  pub count : NodesNamed (count_list_at ws at) scratch
+  pub message : NodesNamed (fields_at ws at) scratch
 
 abbrev pub NamedInteractions : (ws : List ℕ) (scratch : List ℕ) (at n : ℕ) → Type 0
 NamedInteractions ws scratch at zero = Unit {0}
@@ -78,12 +72,6 @@ pub record ToWriteLists (ws scratch out : List ℕ) (n : ℕ) : Type 0 where
   pub checked : IsSheet ws
   pub room : length_of (read_sheet ws) ≤ length out
   pub holds : GraphHolds ws (all_added ws) scratch out n
-
--- Where a sheet's constraints start, and how many constraints and interactions it has.
-pub record ListsAt (ws : List ℕ) (at constraints interactions : ℕ) : Type 0 where
-  pub at_is : at ≡ constraints_at ws
-  pub constraints_are : constraints ≡ length (read_sheet ws).constraints
-  pub interactions_are : interactions ≡ length (read_sheet ws).interactions
 
 -- The graph in the output.
 abbrev pub graph_out : (lent : ℕ) → List ℕ → List ℕ

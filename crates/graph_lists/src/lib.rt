@@ -1,12 +1,12 @@
 // The lists of the finished graph, behind its nodes.
 #![tactic(auto)]
 
-ghost use Rattle.std.specs.Prelude.{◌≡◌, pred, ◌+◌, ◌%◌, ◌≤◌, ◌<◌, leb, length, get_or, set};
-ghost use Rattle.records.specs.Access.{words_from, message_length};
+ghost use Rattle.std.specs.Prelude.{◌≡◌, pred, ◌+◌, ◌%◌, ◌≤◌, ◌<◌, length, get_or, set};
+ghost use Rattle.records.specs.Access.{message_length};
 ghost use Rattle.nodes.specs.Memory.{tabulate};
 ghost use Rattle.slices.specs.Putting.{put, Puts};
-ghost use Rattle.graph_lists.specs.Lists.{flag_word, plain_word, plain_below, flagged, flagged_among, one_if, Wanted, node_numbers, marks_of, NodesNamed};
-ghost use Rattle.graph_lists.specs.Lists.{NamedInteraction, NamedInteractions, renamed_words, renamed_all, ToWriteLists, ListsAt, graph_out, graph_length};
+ghost use Rattle.graph_lists.specs.Lists.{flag_word, plain_below, flagged, flagged_among, node_numbers, marks_of, NodesNamed};
+ghost use Rattle.graph_lists.specs.Lists.{NamedInteraction, NamedInteractions, renamed_words, renamed_all, ToWriteLists, graph_out, graph_length};
 
 // Above every mark: a mark is a node's number counted from 1.
 const FLAG: u32 = 65536;
@@ -16,59 +16,30 @@ fn node_number(scratch: &[u32], r: usize) -> usize
     requires { (r < length scratch.now) × (0 < get_or scratch.now r 0 % 65536) }
     ensures { result ≡ pred (get_or scratch.now r 0 % 65536) }
 {
-    answers::wide(scratch[r] % FLAG - 1)
+    (scratch[r] % FLAG - 1) as usize
 }
 
 // Flags a node that has no flag.
+#[tactic(auto, using(crate::proofs::Flags::flag_new, crate::proofs::Flags::flag_kept))]
 fn flag_node(scratch: &mut [u32], node: usize)
     requires { node < length scratch.old }
     ensures { scratch.new ≡ set scratch.old node (flag_word (get_or scratch.old node 0)) }
 {
-    let word = scratch[node];
-    if FLAG <= word {
-        return;
+    if scratch[node] < FLAG {
+        scratch[node] += FLAG;
     }
-    scratch[node] = word + FLAG;
 }
 
-// Flags the nodes that the records named from `at` on have.
-fn flag_nodes(sheet: &[u32], at: usize, count: usize, scratch: &mut [u32])
-    requires { NodesNamed sheet.now at count scratch.old }
+// Flags the nodes of the records that are named.
+fn flag_nodes(names: &[u32], scratch: &mut [u32])
+    requires { NodesNamed names.now scratch.old }
     ensures { scratch.new ≡ tabulate 0 (length scratch.old)
-        (flagged (marks_of scratch.old) (node_numbers (marks_of scratch.old) (words_from at count sheet.now))) }
+        (flagged (marks_of scratch.old) (node_numbers (marks_of scratch.old) names.now)) }
 {
-    let mut j = 0;
-    while j < count {
-        let node = node_number(scratch, answers::wide(sheet[at + j]));
+    for r in names {
+        let node = node_number(scratch, *r as usize);
         flag_node(scratch, node);
-        j += 1;
     }
-}
-
-// Takes the flag off a node, and says whether it had one.
-fn unflag_node(scratch: &mut [u32], node: usize) -> bool
-    requires { node < length scratch.old }
-    ensures { (result ≡ leb 65536 (get_or scratch.old node 0))
-        × (scratch.new ≡ set scratch.old node (plain_word (get_or scratch.old node 0))) }
-{
-    let word = scratch[node];
-    if word < FLAG {
-        return false;
-    }
-    scratch[node] = word - FLAG;
-    true
-}
-
-// Writes a node's number at `at` where it is wanted, and hands back where the output goes on.
-fn put_node(out: &mut [u32], at: usize, node: usize, wanted: bool) -> usize
-    requires { (node < 4294967296) × Wanted wanted at out.old }
-    ensures { Puts out.old at (one_if wanted node) out.new result }
-{
-    if !wanted {
-        return at;
-    }
-    out[at] = node as u32;
-    at + 1
 }
 
 // Writes the flagged nodes in ascending order from `at` on, takes their flags off, and hands back where the output goes on.
@@ -78,34 +49,23 @@ fn write_flagged(scratch: &mut [u32], nodes: usize, out: &mut [u32], at: usize) 
         × Puts out.old at (flagged_among 0 nodes scratch.old) out.new result }
 {
     let mut next = at;
-    let mut node = 0;
-    while node < nodes {
-        let had = unflag_node(scratch, node);
-        let after = put_node(out, next, node, had);
-        next = after;
-        node += 1;
+    for node in 0..nodes {
+        if scratch[node] >= FLAG {
+            scratch[node] -= FLAG;
+            out[next] = node as u32;
+            next += 1;
+        }
     }
     next
 }
 
-// Writes the nodes of the records named from `at` on.
-fn write_references(
-    sheet: &[u32],
-    at: usize,
-    count: usize,
-    scratch: &[u32],
-    out: &mut [u32],
-    to: usize,
-)
-    requires { NodesNamed sheet.now at count scratch.now × (to + count ≤ length out.old) }
-    ensures { out.new
-        ≡ put out.old to (node_numbers (marks_of scratch.now) (words_from at count sheet.now)) }
+// Writes from `to` on the nodes of the records that are named.
+fn write_references(names: &[u32], scratch: &[u32], out: &mut [u32], to: usize)
+    requires { NodesNamed names.now scratch.now × (to + length names.now ≤ length out.old) }
+    ensures { out.new ≡ put out.old to (node_numbers (marks_of scratch.now) names.now) }
 {
-    let mut j = 0;
-    while j < count {
-        let node = node_number(scratch, answers::wide(sheet[at + j]));
-        out[to + j] = node as u32;
-        j += 1;
+    for (j, r) in names.iter().enumerate() {
+        out[to + j] = node_number(scratch, *r as usize) as u32;
     }
 }
 
@@ -118,11 +78,9 @@ fn write_interaction(sheet: &[u32], at: usize, scratch: &[u32], out: &mut [u32],
     let x = records::interaction_at(sheet, at);
     let y = records::interaction_from(to, x.message);
     records::copy_bus_and_weight(sheet, at, out, to);
-    write_references(sheet, x.count, 1, scratch, out, y.count);
-    let from = x.length;
-    let length = y.length;
-    out[length] = sheet[from];
-    write_references(sheet, x.fields, x.message, scratch, out, y.fields);
+    out[y.count] = node_number(scratch, sheet[x.count] as usize) as u32;
+    out[y.length] = sheet[x.length];
+    write_references(&sheet[x.fields..x.next], scratch, out, y.fields);
     y.next
 }
 
@@ -141,34 +99,25 @@ fn write_interactions(
 {
     let mut from = at;
     let mut next = to;
-    let mut i = 0;
-    while i < count {
+    for _ in 0..count {
         let x = records::interaction_at(sheet, from);
-        let after = write_interaction(sheet, from, scratch, out, next);
-        next = after;
+        next = write_interaction(sheet, from, scratch, out, next);
         from = x.next;
-        i += 1;
     }
     next
 }
 
 // Writes the constraints and interactions behind the nodes, and the head; hands back how many words the graph has.
-pub fn write_graph(
-    sheet: &[u32],
-    at: usize,
-    constraints: usize,
-    interactions: usize,
-    scratch: &mut [u32],
-    out: &mut [u32],
-    n: usize,
-) -> usize
-    requires { ToWriteLists sheet.now scratch.old out.old n × ListsAt sheet.now at constraints interactions }
+pub fn write_graph(sheet: &[u32], scratch: &mut [u32], out: &mut [u32], n: usize) -> usize
+    requires { ToWriteLists sheet.now scratch.old out.old n }
     ensures { (out.new ≡ graph_out (length out.old) sheet.now) × (result ≡ graph_length sheet.now) }
 {
-    flag_nodes(sheet, at, constraints, scratch);
+    flag_nodes(records::constraints(sheet), scratch);
     let to = records::records_end(n);
     let next = write_flagged(scratch, n, out, to);
-    let end = write_interactions(sheet, at + constraints, interactions, scratch, out, next);
+    let at = records::interactions_at(sheet);
+    let interactions = records::num_interactions(sheet);
+    let end = write_interactions(sheet, at, interactions, scratch, out, next);
     records::put_head(out, n, next - to, interactions);
     end
 }

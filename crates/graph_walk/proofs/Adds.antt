@@ -20,11 +20,14 @@ use Rattle.semantics.proofs.Records.{LowRecord, each_low}
 use Rattle.records.specs.Access.{records_of}
 use Rattle.records.specs.Orders.{Order, There}
 use Rattle.records.proofs.Steps.{few_records, order_more}
-use Rattle.nodes.specs.Nodes.{NoneBefore, above_all}
-use Rattle.nodes.specs.Memory.{built_of, GraphHolds}
+use Rattle.nodes.specs.declared.Interned.{Interned}
+use Rattle.nodes.specs.declared.rules.Pick.{Pick}
+use Rattle.nodes.specs.Picks.{pick_of}
+use Rattle.nodes.specs.Nodes.{NoneBefore, above_all, Interns}
+use Rattle.nodes.specs.Memory.{built_of, nodes_out, GraphHolds}
 use Rattle.nodes.proofs.States as states
 use Rattle.nodes.proofs.Searches.{from_inside, from_none}
-use Rattle.graph_walk.specs.Walking.{Adding, pick_of_record}
+use Rattle.graph_walk.specs.Walking.{Adding, Picks, pick_of_record}
 
 -- The number that a record gets.
 module _ (b : Built) (r : ℕ) where
@@ -50,6 +53,10 @@ module _ {ws : List ℕ} {r : ℕ} {scratch out : List ℕ} {n : ℕ} (p : Addin
   num_next : (built_of ws (r ∷ done)).num r < E
   num_next = states.num_small ws p.ready.checked (r ∷ done) next r (mem_here r done)
 
+  -- What was picked of it.
+  pub picked : {x y : Pick} → Picks ws r scratch out (pick_of x) → x ≡ y → pick_of y ≡ pick_of_record ws r p.ready.done
+  picked f e = sym (ap pick_of e) ∙ f p.ready.done p.ready.order p.there n p.ready.holds
+
   pub record_few : r < 4096
   record_few = omega (arith, p.ready.inside, few_records ws p.ready.checked)
 
@@ -66,7 +73,7 @@ module _ {ws : List ℕ} {r : ℕ} {scratch out : List ℕ} {n : ℕ} (p : Addin
     abbrev ns : List Record
     ns = (built_of ws done).nodes
 
-    pub made_few : find q (built_of ws p.ready.done).nodes < 4096
+    made_few : find q (built_of ws p.ready.done).nodes < 4096
     unfolding built_of build add_record
     made_few =
         let small : find q ns < E = subst (λ (j : ℕ). j < E) (ap (λ (q : graph.Pick). (take_in (built_of ws done) r q).num r) (sym e) ∙ num_made (built_of ws done) r q) num_next in
@@ -84,8 +91,16 @@ module _ {ws : List ℕ} {r : ℕ} {scratch out : List ℕ} {n : ℕ} (p : Addin
       pub search_inside : from ≤ n
       search_inside = omega (arith, p.ready.holds.count_is, from_inside q ns lows from f)
 
-      pub search_none : NoneBefore from q (built_of ws p.ready.done).nodes
+      search_none : NoneBefore from q (built_of ws p.ready.done).nodes
       search_none = from_none q ns lows from f
+
+      -- What interning it came to.
+      module _ {v : Interned} {o : List ℕ} (i : Interns out n from q v o) where
+        pub interned : (v.index ≡ find q ns) × (o ≡ nodes_out (length out) (intern q ns)) × (v.count ≡ length (intern q ns))
+        interned = i ns p.ready.holds.out_is p.ready.holds.count_is search_none
+
+        pub index_few : v.index < 4096
+        index_few = omega (arith, interned.0, made_few)
 
   -- Room for its node.
   pub room_more : place 5 (n + 1) ≤ length out

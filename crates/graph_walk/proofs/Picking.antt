@@ -1,5 +1,5 @@
 -- The rule for a record, from the words of the sheet, scratch and output.
-use mathlib.Core.Path.{◌≡◌, refl, sym, ap, subst, ◌∙◌}
+use mathlib.Core.Path.{◌≡◌, refl, sym, ap, ◌∙◌}
 use mathlib.Core.Bool.{cond}
 use mathlib.Core.List.{List}
 use Prim.Native.Nat.{ℕ, suc, ◌+◌, ◌-◌, ◌≤◌, ◌<◌}
@@ -29,7 +29,7 @@ use Rattle.nodes.specs.Memory.{built_of, GraphHolds}
 use Rattle.nodes.proofs.RuleLaws.{seen, view_add, view_sub, view_mul, view_neg}
 use Rattle.nodes.proofs.NodeLaws.{child_sees}
 use Rattle.nodes.proofs.States as states
-use Rattle.graph_walk.specs.Walking.{pick_of_record}
+use Rattle.graph_walk.specs.Walking.{AddReady, Adding, pick_of_record}
 
 -- What a rule gives, by the kind of the record.
 module _ (p : ℕ) (b : Built) (r : Record) where
@@ -83,6 +83,15 @@ pub record Picking (ws : List ℕ) (r : ℕ) (q : declared.Record) (done scratch
   pub order : Order ws done
   pub there : There ws r done
   pub holds : GraphHolds ws done scratch out n
+
+-- The same of any order of which the state holds, and of the one that is asked for.
+module _ {ws : List ℕ} {r : ℕ} {q : declared.Record} {scratch out : List ℕ} {k : ℕ} (e : five_words q ≡ node_in ws r) where
+  pub picking : AddReady ws r scratch out k → {done : List ℕ} {n : ℕ} → Order ws done → There ws r done → GraphHolds ws done scratch out n
+      → Picking ws r q done scratch out n
+  picking p o t h = record { checked = p.checked; inside = p.inside; words_are = e; order = o; there = t; holds = h }
+
+  pub asked : (p : Adding ws r scratch out k) → Picking ws r q p.ready.done scratch out k
+  asked p = picking p.ready p.ready.order p.there p.ready.holds
 
 module _ {ws : List ℕ} {r : ℕ} {q : declared.Record} {done scratch out : List ℕ} {n : ℕ} (b : Picking ws r q done scratch out n) where
   abbrev R : Record
@@ -144,13 +153,13 @@ module _ {ws : List ℕ} {r : ℕ} {q : declared.Record} {done scratch out : Lis
           (f.1 ∙ ap (λ (k : ℕ). (node_in out k).kind) at_num) (f.2 ∙ ap (λ (k : ℕ). (node_in out k).a) at_num)
 
   -- What reading the left child's node asks, and the right one's.
-  pub left_there : 6 ≤ q.kind → (x : ℕ) → x ≡ q.a → place 5 (length (records_of ws)) ≤ length out
-      → (x < length scratch) × (0 < get_or scratch x 0) × (place 5 (get_or scratch x 0 - 1) + 5 ≤ length out)
-  left_there k x e = child_there x (subst (λ (z : ℕ). Mem z (children_at (records_of ws) r)) (sym e) (left_in k))
+  pub left_there : 6 ≤ q.kind → place 5 (length (records_of ws)) ≤ length out
+      → (q.a < length scratch) × (0 < get_or scratch q.a 0) × (place 5 (get_or scratch q.a 0 - 1) + 5 ≤ length out)
+  left_there k = child_there q.a (left_in k)
 
-  pub right_there : 6 ≤ q.kind → (q.kind ≡ 8 → ⊥) → (x : ℕ) → x ≡ q.b → place 5 (length (records_of ws)) ≤ length out
-      → (x < length scratch) × (0 < get_or scratch x 0) × (place 5 (get_or scratch x 0 - 1) + 5 ≤ length out)
-  right_there k k₈ x e = child_there x (subst (λ (z : ℕ). Mem z (children_at (records_of ws) r)) (sym e) (right_in k k₈))
+  pub right_there : 6 ≤ q.kind → (q.kind ≡ 8 → ⊥) → place 5 (length (records_of ws)) ≤ length out
+      → (q.b < length scratch) × (0 < get_or scratch q.b 0) × (place 5 (get_or scratch q.b 0 - 1) + 5 ≤ length out)
+  right_there k k₈ = child_there q.b (right_in k k₈)
 
   pub picks_flat : q.kind < 6 → graph.make (five_words q) ≡ pick_of_record ws r done
   picks_flat k = ap graph.make (is ws b.checked r b.inside q b.words_are) ∙ sym (flat_pick prime B R (omega (arith, kind_same)))

@@ -1,15 +1,17 @@
 -- Adding the records that some words name.
 use mathlib.Core.Path.{◌≡◌, refl, sym, subst, ◌∙◌}
-use mathlib.Core.List.{List, [], ◌++◌}
-use Prim.Native.Nat.{ℕ, suc, ◌+◌, ◌≤◌, ◌<◌}
-use native.Mathlib.Omega.{arith}
-use lib.ListN.{length, get_or}
+use mathlib.Core.List.{List, [], ◌∷◌, ◌++◌}
+use Prim.Native.Nat.{ℕ, ◌+◌, ◌-◌, ◌≤◌, ◌<◌}
+use lib.ListN.{length, get_or, take, drop}
 use Rattle.semantics.specs.Sheet.{place}
 use Rattle.semantics.specs.Walk.{Below, children_at, fold_left, visit}
-use Rattle.records.specs.Access.{records_of, words_from, message_length, count_list_at, fields_at, root_words, ReferencesInside, RootsInside, AllRootsInside}
-use Rattle.records.specs.Orders.{Order}
-use Rattle.records.proofs.Rooting.{order_walk, visiting_none, visiting_both, visiting_name, references_below, references_fewer, roots_below, Passed, passed_none, passed_done, passed_next, passed_more}
-use Rattle.nodes.specs.Memory.{GraphHolds}
+use Rattle.semantics.proofs.Members.{mem_get_or}
+use Rattle.records.specs.declared.Interaction.{Interaction}
+use Rattle.records.specs.Access.{records_of, message_length, interaction_from, count_list_at, fields_at, root_words, RootsInside, AllRootsInside}
+use Rattle.records.specs.Orders.{Visits}
+use Rattle.records.proofs.Rooting.{order_walk, visiting_none, visiting_one, visiting_both, fields_below, roots_below, Passed, passed_none, passed_done, passed_next, passed_more}
+use Rattle.records.proofs.Parts.{take_more, mem_take}
+use Rattle.records.proofs.Interactions.{fields_named, count_named}
 use Rattle.graph_walk.specs.Walking.{AddReady, AddWalking, State, Walks}
 
 -- What one interaction names: its fields, then its count.
@@ -39,34 +41,63 @@ module _ (ws : List ℕ) where
   unfoldable pub ready_root : (r : ℕ) → r < E → (s o : List ℕ) (n : ℕ) → AddWalking ws s o n → AddReady ws r s o n
   ready_root r l s o n p = record { checked = p.checked; inside = l; room = p.room; done = p.done; order = p.order; holds = p.holds }
 
--- What holds while the records of a part are added.
-pub record Naming (ws : List ℕ) (at count : ℕ) (s₀ o₀ : List ℕ) (n : ℕ) (s o : List ℕ) (u j : ℕ) : Type 0 where
-  pub j_le : j ≤ count
-  pub walks : Walks ws (words_from at j ws) s₀ o₀ n s o u
+-- What holds while the records that are named are added.
+pub record Naming (ws names : List ℕ) (s₀ o₀ : List ℕ) (n : ℕ) (s o : List ℕ) (u j : ℕ) : Type 0 where
+  pub walks : Walks ws (take j names) s₀ o₀ n s o u
   pub out_length : length o ≡ length o₀
 
-module _ {ws : List ℕ} {at count : ℕ} {s₀ o₀ : List ℕ} {n : ℕ} (p : AddWalking ws s₀ o₀ n) (named : ReferencesInside ws at count) where
-  pub naming_none : Naming ws at count s₀ o₀ n s₀ o₀ n 0
-  naming_none = record { j_le = omega arith; walks = visiting_none ws (State ws s₀ o₀ n); out_length = refl }
+module _ {ws names : List ℕ} {s₀ o₀ : List ℕ} {n : ℕ} (p : AddWalking ws s₀ o₀ n) (below : Below (length (records_of ws)) names) where
+  pub naming_none : Naming ws names s₀ o₀ n s₀ o₀ n 0
+  naming_none = record { walks = visiting_none ws (State ws s₀ o₀ n); out_length = refl }
 
-  module _ {s o : List ℕ} {u j : ℕ} (h : Naming ws at count s₀ o₀ n s o u j) where
-    so_far : Below (length (records_of ws)) (words_from at j ws)
-    so_far = references_below ws at j (references_fewer ws at count j h.j_le named)
+  module _ {s o : List ℕ} {u j : ℕ} (h : Naming ws names s₀ o₀ n s o u j) where
+    so_far : Below (length (records_of ws)) (take j names)
+    so_far x m = below x (mem_take x j names m)
 
-    naming_walking : AddWalking ws s o u
-    naming_walking = walking_after ws (words_from at j ws) so_far s₀ o₀ n s o u p h.out_length h.walks
+    module _ (l : j < length names) where
+      abbrev r : ℕ
+      r = get_or names j 0
 
-    pub naming_ready : j < count → (r : ℕ) → r ≡ get_or ws (at + j) 0 → AddReady ws r s o u
-    naming_ready l r e = ready_root ws r (subst (λ (x : ℕ). x < length (records_of ws)) (sym e) (named.below j l)) s o u naming_walking
+      inside : r < length (records_of ws)
+      inside = below r (mem_get_or names j l)
 
-    pub naming_more : j < count → (r : ℕ) → r ≡ get_or ws (at + j) 0 → (s₁ o₁ : List ℕ) (u₁ : ℕ) → length o₁ ≡ length o
-        → ((done : List ℕ) → Order ws done → GraphHolds ws done s o u → GraphHolds ws (visit (children_at (records_of ws)) (suc r) done r) s₁ o₁ u₁)
-        → Naming ws at count s₀ o₀ n s₁ o₁ u₁ (j + 1)
-    naming_more l r e s₁ o₁ u₁ k f = record {
-      j_le = omega arith;
-      walks = visiting_name ws p.checked at count j named l r e (State ws s₀ o₀ n) (State ws s o u) (State ws s₁ o₁ u₁) h.walks f;
-      out_length = k ∙ h.out_length;
-    }
+      pub naming_ready : AddReady ws r s o u
+      naming_ready = ready_root ws r inside s o u (walking_after ws (take j names) so_far s₀ o₀ n s o u p h.out_length h.walks)
+
+      pub naming_more : (s₁ o₁ : List ℕ) (u₁ : ℕ) → length o₁ ≡ length o → Visits ws r (State ws s o u) (State ws s₁ o₁ u₁)
+          → Naming ws names s₀ o₀ n s₁ o₁ u₁ (j + 1)
+      naming_more s₁ o₁ u₁ k f = record {
+        walks =
+            subst (λ (xs : List ℕ). Walks ws xs s₀ o₀ n s₁ o₁ u₁) (sym (take_more names j l))
+            (walks_both ws p (take j names) (r ∷ []) so_far s o u s₁ o₁ u₁ h.walks
+            (visiting_one ws p.checked r inside (State ws s o u) (State ws s₁ o₁ u₁) f));
+        out_length = k ∙ h.out_length;
+      }
+
+-- The fields of an interaction are added, then its count.
+module _ {ws : List ℕ} {at : ℕ} {s₀ o₀ : List ℕ} {n : ℕ} (p : AddWalking ws s₀ o₀ n) (h : RootsInside ws at) {x : Interaction}
+    (e : x ≡ interaction_from at (message_length ws at)) where
+  abbrev fields : List ℕ
+  fields = take (x.next - x.fields) (drop x.fields ws)
+
+  pub fields_inside : Below (length (records_of ws)) fields
+  fields_inside = subst (Below (length (records_of ws))) (sym (fields_named ws at x e)) (fields_below ws at h)
+
+  abbrev count : ℕ
+  count = get_or ws x.count 0
+
+  count_inside : count < length (records_of ws)
+  count_inside = subst (λ (z : Interaction). get_or ws z.count 0 < length (records_of ws)) (sym e) h.count
+
+  module _ {s o : List ℕ} {u : ℕ} (k : length o ≡ length o₀) (f : Walks ws fields s₀ o₀ n s o u) where
+    pub count_ready : AddReady ws count s o u
+    count_ready = ready_root ws count count_inside s o u (walking_after ws fields fields_inside s₀ o₀ n s o u p k f)
+
+    pub interaction_walked : (s₁ o₁ : List ℕ) (u₁ : ℕ) → Visits ws count (State ws s o u) (State ws s₁ o₁ u₁) → Walks ws (roots_at ws at) s₀ o₀ n s₁ o₁ u₁
+    interaction_walked s₁ o₁ u₁ g =
+        subst (λ (xs : List ℕ). Walks ws xs s₀ o₀ n s₁ o₁ u₁) (λ i. fields_named ws at x e i ++ sym (count_named ws at x e h.inside) i)
+        (walks_both ws p fields (count ∷ []) fields_inside s o u s₁ o₁ u₁ f
+        (visiting_one ws p.checked count count_inside (State ws s o u) (State ws s₁ o₁ u₁) g))
 
 -- What holds while the interactions are added.
 pub record Rooting (ws : List ℕ) (at count : ℕ) (s₀ o₀ : List ℕ) (n : ℕ) (s o : List ℕ) (u from i : ℕ) : Type 0 where

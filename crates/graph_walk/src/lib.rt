@@ -4,7 +4,8 @@
 ghost use Rattle.std.specs.Prelude.{◌≡◌, ◌++◌, ℕ, ◌+◌, ◌-◌, ◌≤◌, ◌<◌, length, get_or};
 ghost use Rattle.semantics.specs.Arithmetic.{prime};
 ghost use Rattle.semantics.specs.Sheet.{place};
-ghost use Rattle.records.specs.Access.{node_in, words_from, fields_at, count_list_at, root_words, ReferencesInside, RootsInside, AllRootsInside};
+ghost use Rattle.semantics.specs.Walk.{Below};
+ghost use Rattle.records.specs.Access.{node_in, records_of, fields_at, count_list_at, root_words, RootsInside, AllRootsInside};
 ghost use Rattle.records.specs.Orders.{Visits, Finishes};
 ghost use Rattle.nodes.specs.Picks.{pick_of, view_of};
 ghost use Rattle.graph_walk.specs.Walking.{AddReady, Adding, Picks, two_rule, child_of, AddWalking, State, Walks};
@@ -26,13 +27,11 @@ fn built_child(scratch: &[u32], out: &[u32], c: usize) -> Child
 fn two_rule(kind: u32, l: Child, r: Child, g: u32) -> Pick
     ensures { pick_of result ≡ two_rule prime kind l.number r.number (view_of l) (view_of r) g }
 {
-    if kind == 6 {
-        return rules::add_rule(l, r, g);
+    match kind {
+        6 => rules::add_rule(l, r, g),
+        7 => rules::sub_rule(l, r, g),
+        _ => rules::mul_rule(l, r, g),
     }
-    if kind == 7 {
-        return rules::sub_rule(l, r, g);
-    }
-    rules::mul_rule(l, r, g)
 }
 
 // The node of a record whose children are added.
@@ -44,16 +43,11 @@ fn pick_node(sheet: &[u32], scratch: &[u32], out: &[u32], r: usize) -> Pick
     if q.kind < 6 {
         return Pick::Make(q);
     }
-    let l = built_child(scratch, out, answers::wide(q.a));
+    let l = built_child(scratch, out, q.a as usize);
     if q.kind == 8 {
         return rules::neg_rule(l, q.c);
     }
-    two_rule(
-        q.kind,
-        l,
-        built_child(scratch, out, answers::wide(q.b)),
-        q.c,
-    )
+    two_rule(q.kind, l, built_child(scratch, out, q.b as usize), q.c)
 }
 
 // Adds a record whose children are added, and hands back the number of nodes.
@@ -81,13 +75,11 @@ fn child_at(sheet: &[u32], r: usize, i: usize) -> usize
     requires { place 5 r + 5 ≤ length sheet.now }
     ensures { result ≡ child_of (node_in sheet.now r) i }
 {
-    if i == 0 {
-        return records::left_at(sheet, r);
+    if i == 0 || records::kind_at(sheet, r) == 8 {
+        records::left_at(sheet, r)
+    } else {
+        records::right_at(sheet, r)
     }
-    if records::kind_at(sheet, r) == 8 {
-        return records::left_at(sheet, r);
-    }
-    records::right_at(sheet, r)
 }
 
 // Adds record r with all that it reaches, children first, left before right; hands back the number of nodes.
@@ -104,34 +96,27 @@ fn add_expr(sheet: &[u32], scratch: &mut [u32], out: &mut [u32], r: usize, n: us
         return add_record(sheet, scratch, out, r, n);
     }
     let mut used = n;
-    let mut i: usize = 0;
-    while i < 2 {
+    for i in 0..2 {
         let child = child_at(sheet, r, i);
         used = add_expr(sheet, scratch, out, child, used);
-        i += 1;
     }
     add_record(sheet, scratch, out, r, used)
 }
 
-// Adds the records that the words from `at` on name.
+// Adds the records that are named.
 pub fn add_references(
     sheet: &[u32],
-    at: usize,
-    count: usize,
+    names: &[u32],
     scratch: &mut [u32],
     out: &mut [u32],
     n: usize,
 ) -> usize
-    requires { AddWalking sheet.now scratch.old out.old n × ReferencesInside sheet.now at count }
-    ensures { Walks sheet.now (words_from at count sheet.now) scratch.old out.old n scratch.new
-        out.new result }
+    requires { AddWalking sheet.now scratch.old out.old n × Below (length (records_of sheet.now)) names.now }
+    ensures { Walks sheet.now names.now scratch.old out.old n scratch.new out.new result }
 {
     let mut used = n;
-    let mut j: usize = 0;
-    while j < count {
-        let r = answers::wide(sheet[at + j]);
-        used = add_expr(sheet, scratch, out, r, used);
-        j += 1;
+    for r in names {
+        used = add_expr(sheet, scratch, out, *r as usize, used);
     }
     used
 }
@@ -149,8 +134,8 @@ fn add_interaction(
         out.old n scratch.new out.new result }
 {
     let x = records::interaction_at(sheet, at);
-    let fields = add_references(sheet, x.fields, x.message, scratch, out, n);
-    add_references(sheet, x.count, 1, scratch, out, fields)
+    let fields = add_references(sheet, &sheet[x.fields..x.next], scratch, out, n);
+    add_expr(sheet, scratch, out, sheet[x.count] as usize, fields)
 }
 
 // Adds what the interactions from `at` on name.
@@ -168,12 +153,10 @@ pub fn add_interactions(
 {
     let mut used = n;
     let mut from = at;
-    let mut i: usize = 0;
-    while i < count {
+    for _ in 0..count {
         let x = records::interaction_at(sheet, from);
         used = add_interaction(sheet, from, scratch, out, used);
         from = x.next;
-        i += 1;
     }
     used
 }

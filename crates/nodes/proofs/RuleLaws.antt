@@ -1,16 +1,14 @@
 -- The rules look only at the kind and the word a of a child's node.
-use mathlib.Core.Path.{◌≡◌, refl, sym, ◌∙◌, ap}
+use mathlib.Core.Path.{◌≡◌, refl, ◌∙◌, ap}
 use mathlib.Core.Bool.{Bool, true, false, cond, ◌&&◌, ◌||◌}
 use Prim.Native.Nat.{ℕ}
 use lib.Dec.{eqb}
 use borrow.Author.Tests.{eqb-true}
-use Rattle.semantics.specs.Arithmetic.{add_m, sub_m, mul_m, neg_m}
+use Rattle.semantics.specs.Arithmetic.{add_m, sub_m, mul_m}
 use Rattle.semantics.specs.Sheet.{Record, record_of}
 use Rattle.semantics.specs.Value.{Leaf, Node, leaf, const, add, sub, neg, mul, leaf_of, node_of}
 use Rattle.semantics.specs.Graph.{present, make, if_constants, is_const, if_neg, add_rule, sub_rule, neg_rule, mul_rule}
-use Rattle.semantics.proofs.Basics.{by_test, cond_true, cond_false}
-use Rattle.nodes.specs.declared.rules.Option.{Option}
-use Rattle.nodes.specs.declared.rules.Option.TheVariants.{Some, None}
+use Rattle.semantics.proofs.Basics.{by_test}
 
 -- A choice that treats all nodes alike but constants and Neg.
 module _ {X : Type 0} (H : Node → X) (x : X) (on-leaf : (v : Leaf) → H (leaf v) ≡ x) (on-add : (l r : ℕ) → H (add l r) ≡ x)
@@ -94,56 +92,6 @@ module _ (p l r : ℕ) (m n : Record) (g : ℕ) where
   unfolding mul_rule
   mul_is = simp (constants_is, either)
 
--- What follows from the answers of `get_neg_child` and `get_const`.
-module _ {X : Type 0} (f : ℕ → X) (z : X) where
-  abbrev or_else : Option → X
-  or_else (Some y) = f y
-  or_else None = z
-
-  module _ (n : Node) where
-    neg_through : or_else (if_neg n Some None) ≡ if_neg n f z
-    unfolding if_neg
-    neg_through = elim n as (λ k. or_else (if_neg k Some None) ≡ if_neg k f z) [
-      | leaf x ↦ refl
-      | const k ↦ refl
-      | add l r ↦ refl
-      | sub l r ↦ refl
-      | neg x ↦ refl
-      | mul l r ↦ refl
-    ]
-
-    pub neg_some : {v : Option} → v ≡ if_neg n Some None → {y : ℕ} → v ≡ Some y → f y ≡ if_neg n f z
-    neg_some e h = ap or_else (sym h ∙ e) ∙ neg_through
-
-    pub neg_none : {v : Option} → v ≡ if_neg n Some None → v ≡ None → z ≡ if_neg n f z
-    neg_none e h = ap or_else (sym h ∙ e) ∙ neg_through
-
-    const_through : or_else (if_constants n n (λ a b. Some a) None) ≡ if_constants n n (λ a b. f a) z
-    unfolding if_constants
-    const_through = elim n as (λ k. or_else (if_constants k k (λ a b. Some a) None) ≡ if_constants k k (λ a b. f a) z) [
-      | leaf x ↦ refl
-      | const k ↦ refl
-      | add l r ↦ refl
-      | sub l r ↦ refl
-      | neg x ↦ refl
-      | mul l r ↦ refl
-    ]
-
-    const_some : {v : Option} → v ≡ if_constants n n (λ a b. Some a) None → {a : ℕ} → v ≡ Some a → f a ≡ if_constants n n (λ a b. f a) z
-    const_some e h = ap or_else (sym h ∙ e) ∙ const_through
-
-    const_none : {v : Option} → v ≡ if_constants n n (λ a b. Some a) None → v ≡ None → z ≡ if_constants n n (λ a b. f a) z
-    const_none e h = ap or_else (sym h ∙ e) ∙ const_through
-
-module _ (p x : ℕ) (n : Node) (g : ℕ) {v : Option} (e : v ≡ if_constants n n (λ a b. Some a) None) where
-  pub neg_folds : {a : ℕ} → v ≡ Some a → make (record_of 5 (neg_m p a) 0 0 0) ≡ neg_rule p x n g
-  unfolding neg_rule
-  neg_folds h = const_some (λ (a : ℕ). make (record_of 5 (neg_m p a) 0 0 0)) (make (record_of 8 x 0 g 0)) n e h
-
-  pub neg_stays : v ≡ None → make (record_of 8 x 0 g 0) ≡ neg_rule p x n g
-  unfolding neg_rule
-  neg_stays h = const_none (λ (a : ℕ). make (record_of 5 (neg_m p a) 0 0 0)) (make (record_of 8 x 0 g 0)) n e h
-
 -- What the rules say of a node is what they say of its kind and its word a.
 abbrev pub seen : Record → Node
 seen m = node_of (record_of m.kind m.a 0 0 0)
@@ -161,11 +109,3 @@ module _ (p l r : ℕ) (m n : Record) (g : ℕ) where
 pub view_neg : (p x : ℕ) (m : Record) (g : ℕ) → neg_rule p x (seen m) g ≡ neg_rule p x (node_of m) g
 unfolding neg_rule
 view_neg p x m g = simp const_one
-
--- A test t that the code makes as b: the first choice, or what follows from the second.
-module _ {X : Type 0} {b t : Bool} (x y : X) (e : b ≡ t) where
-  pub chosen : b ≡ true → x ≡ cond t x y
-  chosen h = sym (cond_true t x y (sym e ∙ h))
-
-  pub passed : {z : X} → b ≡ false → z ≡ y → z ≡ cond t x y
-  passed h k = k ∙ sym (cond_false t x y (sym e ∙ h))

@@ -29,14 +29,9 @@ module _ (r : Record) where
   unfolding above_all
   from_neg h x e = let m : x + 1 ≡ max (suc r.a) 0 = omega arith in m ∙ sym (ap above_all (kind_neg r h))
 
-  module _ (l : 6 ≤ r.kind) (h : r.kind ≤ 9) (n : r.kind ≡ 8 → ⊥) where
-    pub from_right : r.a < r.b → (x : ℕ) → x ≡ r.b → x + 1 ≡ above_all (children (node_of r))
-    unfolding above_all
-    from_right o x e = let m : x + 1 ≡ max (suc r.a) (max (suc r.b) 0) = omega arith in m ∙ sym (ap above_all (kind_two r l h n))
-
-    pub from_left : r.b ≤ r.a → (x : ℕ) → x ≡ r.a → x + 1 ≡ above_all (children (node_of r))
-    unfolding above_all
-    from_left o x e = let m : x + 1 ≡ max (suc r.a) (max (suc r.b) 0) = omega arith in m ∙ sym (ap above_all (kind_two r l h n))
+  pub from_two : 6 ≤ r.kind → r.kind ≤ 9 → (r.kind ≡ 8 → ⊥) → (x : ℕ) → x ≡ max r.a r.b → x + 1 ≡ above_all (children (node_of r))
+  unfolding above_all
+  from_two l h n x e = let m : x + 1 ≡ max (suc r.a) (max (suc r.b) 0) = omega arith in m ∙ sym (ap above_all (kind_two r l h n))
 
 above_le : (cs : List ℕ) (k : ℕ) → ((c : ℕ) → Mem c cs → c < k) → above_all cs ≤ k
 unfolding above_all

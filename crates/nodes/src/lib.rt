@@ -1,7 +1,7 @@
 // The nodes in the output, which are the records of the graph.
 #![tactic(auto)]
 
-ghost use Rattle.std.specs.Prelude.{◌≡◌, ◌+◌, ◌≤◌, length};
+ghost use Rattle.std.specs.Prelude.{◌≡◌, ◌+◌, ◌≤◌, ◌<◌, length, MatchOption};
 ghost use Rattle.semantics.specs.Sheet.{place};
 ghost use Rattle.semantics.specs.Value.{node_of};
 ghost use Rattle.semantics.specs.Walk.{children};
@@ -25,46 +25,38 @@ pub fn child(out: &[u32], number: u32) -> Child
     requires { place 5 number + 5 ≤ length out.now }
     ensures { (result.number ≡ number) × (result.kind ≡ (node_in out.now number).kind) × (result.a ≡ (node_in out.now number).a) }
 {
-    let m = records::record_at(out, answers::wide(number));
+    let m = records::record_at(out, number as usize);
     Child {
-        number: number,
+        number,
         kind: m.kind,
         a: m.a,
     }
 }
 
 // Where the search for a node begins: above its children.
+#[tactic(auto, using(crate::proofs::Searches::from_flat, crate::proofs::Searches::from_neg, crate::proofs::Searches::from_two))]
 pub fn search_from(r: Record) -> usize
     ensures { result ≡ above_all (children (node_of (five_words r))) }
 {
-    if r.kind < 6 {
-        return 0;
+    match r.kind {
+        8 => r.a as usize + 1,
+        6..=9 => r.a.max(r.b) as usize + 1,
+        _ => 0,
     }
-    if 9 < r.kind {
-        return 0;
-    }
-    if r.kind == 8 {
-        return answers::wide(r.a) + 1;
-    }
-    if r.a < r.b {
-        return answers::wide(r.b) + 1;
-    }
-    answers::wide(r.a) + 1
 }
 
-// The first node from `from` on that is equal, or the number of nodes.
-fn find_node(out: &[u32], n: usize, from: usize, r: Record) -> usize
+// The first node from `from` on that is equal.
+fn find_node(out: &[u32], n: usize, from: usize, r: Record) -> Option<usize>
     requires { (from ≤ n) × (place 5 n ≤ length out.now) }
-    ensures { FirstEqual out.now n from (five_words r) result }
+    ensures { MatchOption result (FirstEqual out.now n from (five_words r) n)
+        (λ x. (x < n) × FirstEqual out.now n from (five_words r) x) }
 {
-    let mut i = from;
-    while i < n {
+    for i in from..n {
         if records::same_record(out, i, r) {
-            return i;
+            return Some(i);
         }
-        i += 1;
     }
-    i
+    None
 }
 
 // The node equal to r, which no node below `from` is; appended where there is none.
@@ -72,12 +64,8 @@ pub fn intern_node(out: &mut [u32], n: usize, from: usize, r: Record) -> Interne
     requires { (from ≤ n) × (place 5 (n + 1) ≤ length out.old) }
     ensures { Interns out.old n from (five_words r) result out.new }
 {
-    let at = find_node(out, n, from, r);
-    if at < n {
-        return Interned {
-            index: at,
-            count: n,
-        };
+    if let Some(index) = find_node(out, n, from, r) {
+        return Interned { index, count: n };
     }
     records::put_record(out, n, r);
     Interned {

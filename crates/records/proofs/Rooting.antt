@@ -13,7 +13,7 @@ use Rattle.semantics.proofs.Members.{mem_here, mem_there, not_in, append_below}
 use Rattle.records.specs.Access.{records_of, words_from, message_length, each_words, count_list_at, fields_at, ReferencesInside, RootsInside, AllRootsInside}
 use Rattle.records.specs.Orders.{Order, Visiting}
 use Rattle.records.proofs.Steps.{child_low, order_visit}
-use Rattle.records.proofs.Parts.{part_more, part_below}
+use Rattle.records.proofs.Parts.{part_below}
 
 pub fold_append : {S : Type 0} (f : S → ℕ → S) (s : S) (xs ys : List ℕ) → fold_left f s (xs ++ ys) ≡ fold_left f (fold_left f s xs) ys
 unfolding fold_left
@@ -54,21 +54,8 @@ module _ (ws : List ℕ) where
     visiting_one r l P Q f done q h =
         subst Q (visit_fuel ch (child_low ws checked) (suc r) E done r (omega arith) l) (f done q h)
 
-    -- One more record that a word names.
-    pub visiting_name : (at count j : ℕ) → ReferencesInside ws at count → j < count → (r : ℕ) → r ≡ get_or ws (at + j) 0 → (P Q R : List ℕ → Type 0)
-        → Visiting ws (words_from at j ws) P Q → ((done : List ℕ) → Order ws done → Q done → R (visit ch (suc r) done r)) → Visiting ws (words_from at (j + 1) ws) P R
-    visiting_name at count j named l r e P Q R f g =
-        let b : r < E = subst (λ (x : ℕ). x < E) (sym e) (named.below j l) in
-        let more : words_from at (j + 1) ws ≡ words_from at j ws ++ (r ∷ []) = part_more ws at j (omega (arith, named.inside)) ∙ ap (λ (x : ℕ). words_from at j ws ++ (x ∷ [])) (sym e) in
-        let below : Below E (words_from at j ws) = part_below E ws at j (omega (arith, named.inside)) (λ i k. named.below i (omega arith)) in
-        subst (λ (xs : List ℕ). Visiting ws xs P R) (sym more) (visiting_both (words_from at j ws) (r ∷ []) below P Q R f (visiting_one r b Q R g))
-
   pub references_below : (a n : ℕ) → ReferencesInside ws a n → Below E (words_from a n ws)
   references_below a n h = part_below E ws a n h.inside h.below
-
-  -- The first of some references.
-  pub references_fewer : (a n j : ℕ) → j ≤ n → ReferencesInside ws a n → ReferencesInside ws a j
-  references_fewer a n j l h = record { inside = omega (arith, h.inside); below = λ i k. h.below i (omega arith) }
 
 -- The records that one interaction names.
 module _ (ws : List ℕ) (at : ℕ) (inside : RootsInside ws at) where

@@ -9,7 +9,7 @@ ghost use Rattle.semantics.specs.Graph.{equal_records};
 ghost use Rattle.records.specs.Access.{IsSheet, five_words, node_in, constraints_at, interactions_at, message_length, interaction_from};
 
 // A record as five words.
-#[derive(Clone, Copy)]
+#[derive(Clone, Copy, PartialEq, Eq)]
 pub struct Record {
     pub kind: u32,
     pub a: u32,
@@ -19,6 +19,7 @@ pub struct Record {
 }
 
 // Where the first n records end, and record n starts.
+#[tactic(auto, unfolding(semantics::specs::Sheet::place))]
 pub fn records_end(n: usize) -> usize
     requires { place 5 n < 2 ^ 63 }
     ensures { result ≡ place 5 n }
@@ -27,6 +28,7 @@ pub fn records_end(n: usize) -> usize
 }
 
 // The five words of record r.
+#[tactic(auto, unfolding(semantics::specs::Sheet::place))]
 pub fn record_at(sheet: &[u32], r: usize) -> Record
     requires { place 5 r + 5 ≤ length sheet.now }
     ensures { five_words result ≡ node_in sheet.now r }
@@ -46,7 +48,7 @@ pub fn kind_at(sheet: &[u32], r: usize) -> u32
     requires { place 5 r + 5 ≤ length sheet.now }
     ensures { result ≡ (node_in sheet.now r).kind }
 {
-    sheet[4 + 5 * r]
+    record_at(sheet, r).kind
 }
 
 // Its left child, which is a Neg's only one.
@@ -54,7 +56,7 @@ pub fn left_at(sheet: &[u32], r: usize) -> usize
     requires { place 5 r + 5 ≤ length sheet.now }
     ensures { result ≡ (node_in sheet.now r).a }
 {
-    answers::wide(sheet[4 + 5 * r + 1])
+    record_at(sheet, r).a as usize
 }
 
 // Its right child.
@@ -62,28 +64,16 @@ pub fn right_at(sheet: &[u32], r: usize) -> usize
     requires { place 5 r + 5 ≤ length sheet.now }
     ensures { result ≡ (node_in sheet.now r).b }
 {
-    answers::wide(sheet[4 + 5 * r + 2])
+    record_at(sheet, r).b as usize
 }
 
 // Whether record r is equal to q in all five words.
+#[tactic(auto, using(crate::proofs::Writing::equal_words))]
 pub fn same_record(out: &[u32], r: usize, q: Record) -> bool
     requires { place 5 r + 5 ≤ length out.now }
     ensures { result ≡ equal_records (five_words q) (node_in out.now r) }
 {
-    let m = record_at(out, r);
-    if q.kind != m.kind {
-        return false;
-    }
-    if q.a != m.a {
-        return false;
-    }
-    if q.b != m.b {
-        return false;
-    }
-    if q.c != m.c {
-        return false;
-    }
-    q.d == m.d
+    q == record_at(out, r)
 }
 
 // Writes q as record r.
@@ -115,7 +105,7 @@ pub fn num_constraints(sheet: &[u32]) -> usize
     requires { IsSheet sheet.now }
     ensures { result ≡ length (read_sheet sheet.now).constraints }
 {
-    answers::wide(sheet[2])
+    sheet[2] as usize
 }
 
 // How many interactions it has.
@@ -123,7 +113,7 @@ pub fn num_interactions(sheet: &[u32]) -> usize
     requires { IsSheet sheet.now }
     ensures { result ≡ length (read_sheet sheet.now).interactions }
 {
-    answers::wide(sheet[3])
+    sheet[3] as usize
 }
 
 // Where the constraints of a checked sheet start.
@@ -131,7 +121,7 @@ pub fn constraints_at(sheet: &[u32]) -> usize
     requires { IsSheet sheet.now }
     ensures { result ≡ constraints_at sheet.now }
 {
-    records_end(answers::wide(sheet[1]))
+    records_end(sheet[1] as usize)
 }
 
 // Where its interactions start.
@@ -140,6 +130,14 @@ pub fn interactions_at(sheet: &[u32]) -> usize
     ensures { result ≡ interactions_at sheet.now }
 {
     constraints_at(sheet) + num_constraints(sheet)
+}
+
+// The constraints of a checked sheet, each the name of a record.
+pub fn constraints(sheet: &[u32]) -> &[u32]
+    requires { IsSheet sheet.now }
+    ensures { result.now ≡ (read_sheet sheet.now).constraints }
+{
+    &sheet[constraints_at(sheet)..interactions_at(sheet)]
 }
 
 // Where the words of an interaction stand: its count, its message's length, the message's fields, and what follows it.
@@ -161,7 +159,7 @@ pub fn interaction_from(at: usize, message: usize) -> Interaction
         count: at + 2,
         length: at + 3,
         fields: at + 4,
-        message: message,
+        message,
         next: at + (4 + message),
     }
 }
@@ -171,7 +169,7 @@ pub fn interaction_at(sheet: &[u32], at: usize) -> Interaction
     requires { at + (4 + message_length sheet.now at) ≤ length sheet.now }
     ensures { result ≡ interaction_from at (message_length sheet.now at) }
 {
-    interaction_from(at, answers::wide(sheet[at + 3]))
+    interaction_from(at, sheet[at + 3] as usize)
 }
 
 // Copies the bus and the weight of the interaction that starts at `at` to the one that starts at `to`.

@@ -1,23 +1,21 @@
-use Prim.Native.Nat.{◌<◌}
-use native.Mathlib.Omega.{arith}
-use Rattle.graph_lists.proofs.Sweeps.{swept_none, swept_wanted, swept_more}
+use Rattle.graph_lists.proofs.Sweeps.{swept_none, swept_inside, swept_taken, swept_passed}
 use Rattle.graph_lists.proofs.write_flagged.Goals as goal
+use Rattle.graph_lists.proofs.write_flagged.Goals.{then-scratch-node-ge-FLAG, else-scratch-node-ge-FLAG}
 
 pub loop-node-init : goal.loop-node-init
 loop-node-init c = let a = c.args in swept_none a.scratch.now a.out.now a.at a.nodes
 
-pub put_node-after-requires : goal.put_node-after-requires
-put_node-after-requires c =
-    let left : c.loop-node.node < c.args.nodes =
-    omega arith in
+pub bounds-out-next : goal.bounds-out-next
+bounds-out-next c =
     let p = c.requires in
-    (omega (arith, p.1, left), swept_wanted c.loop-node.invariant p.0 p.2 left c.unflag_node-had.result c.unflag_node-had.ensures.0)
+    swept_inside c.loop-node.invariant p.0 p.2 c.loop-node-test.true c.if-scratch-node-ge-FLAG.true
 
 pub loop-node-preserved : goal.loop-node-preserved
 loop-node-preserved c =
-    let left : c.loop-node.node < c.args.nodes =
-    omega arith in
-    let w = c.put_node-after in
-    let v = c.unflag_node-had in
     let p = c.requires in
-    swept_more c.loop-node.invariant p.0 p.2 left v.result v.ensures.0 _ _ _ v.ensures.1 w.ensures.out_is w.ensures.next_is
+    let h = c.loop-node.invariant in
+    let l = c.loop-node-test.true in
+    elim c.if-scratch-node-ge-FLAG.branch [
+      | then-scratch-node-ge-FLAG w ↦ swept_taken h p.0 p.2 l w.if-scratch-node-ge-FLAG.true _ _ _ w.scratch-is w.out-is w.next-is
+      | else-scratch-node-ge-FLAG w ↦ swept_passed h p.0 p.2 l w.if-scratch-node-ge-FLAG.false _ _ _ w.scratch-is w.out-is w.next-is
+    ]

@@ -1,18 +1,18 @@
 use mathlib.Core.Path.{◌∙◌}
-use Prim.Native.Nat.{◌<◌}
 use native.Mathlib.Omega.{arith}
 use lib.ListN.{length-set}
-use Rattle.graph_lists.proofs.Naming.{number_is, naming_more}
+use Rattle.graph_lists.proofs.Naming.{number_asks, naming_more}
 use Rattle.graph_lists.proofs.write_references.Goals as goal
+
+pub node_number-requires : goal.node_number-requires
+node_number-requires c = number_asks c.requires.0 (omega arith)
 
 pub loop-j-preserved : goal.loop-j-preserved
 loop-j-preserved c =
-    let left : c.loop-j.j < c.args.count =
-    omega arith in
     let loop = c.loop-j in
     let p = c.requires in
     let a = c.args in (
       omega arith,
       length-set loop.out _ _ ∙ loop.invariant.1,
-      naming_more p.0 left a.out.now a.to p.1 loop.invariant.2 (number_is p.0 left c.wide.ensures c.node_number-node.ensures),
+      naming_more p.0 (omega arith) a.out.now a.to p.1 loop.invariant.2 c.node_number.ensures,
     )

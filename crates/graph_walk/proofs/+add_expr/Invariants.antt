@@ -1,6 +1,5 @@
 -- A record that is added already changes nothing; one with no child is added; another one is added after a loop over its children, which keeps
 -- what visiting the first i of them came to (`Children`). The measure is the record's number, since a child's is lower.
-use Prim.Native.Nat.{◌-◌}
 use Rattle.graph_walk.proofs.Visits.{Children}
 use Rattle.graph_walk.proofs.+add_expr.Given as goal
 
@@ -9,6 +8,3 @@ decreases-add_expr l = l.r
 
 abbrev pub invariant-loop-i : goal.invariant-loop-i
 invariant-loop-i l = Children l.sheet l.r l.initial.scratch l.initial.out l.n l.scratch l.out l.used l.i
-
-abbrev pub decreases-loop-i : goal.decreases-loop-i
-decreases-loop-i l = 2 - l.i

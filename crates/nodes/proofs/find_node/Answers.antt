@@ -1,8 +1,6 @@
-use borrow.Author.Rules.{rules}
 use native.Mathlib.Omega.{arith}
 use Rattle.semantics.proofs.Places.{place_below}
 use Rattle.nodes.proofs.find_node.Goals as goal
 
 pub same_record-requires : goal.same_record-requires
-same_record-requires c =
-    omega (arith, place_below 5 c.loop-i.i c.args.n (search rules))
+same_record-requires c = omega (arith, place_below 5 c.loop-i.i c.args.n)

@@ -12,8 +12,8 @@ pub records_end-requires : goal.records_end-requires
 records_end-requires c =
     let ws = c.args.sheet.now in
     let h = c.requires in
-    omega (arith, ap (place 5) (c.wide.ensures ∙ (head_counts ws h).0), (places_small ws h).0)
+    omega (arith, ap (place 5) ((head_counts ws h).0), (places_small ws h).0)
 
 pub returns : goal.returns
 returns c =
-    c.records_end.ensures ∙ ap (place 5) (c.wide.ensures ∙ (head_counts c.args.sheet.now c.requires).0)
+    c.records_end.ensures ∙ ap (place 5) ((head_counts c.args.sheet.now c.requires).0)

@@ -1,5 +1,4 @@
 -- The head of a checked sheet says how many there are.
-use mathlib.Core.Path.{◌∙◌}
 use native.Mathlib.Omega.{arith}
 use Rattle.records.proofs.Reading.{head_inside, head_counts}
 use Rattle.records.proofs.num_constraints.Goals as goal
@@ -8,4 +7,4 @@ pub bounds-sheet-2 : goal.bounds-sheet-2
 bounds-sheet-2 c = omega (arith, head_inside c.args.sheet.now c.requires)
 
 pub returns : goal.returns
-returns c = c.wide.ensures ∙ (head_counts c.args.sheet.now c.requires).1
+returns c = (head_counts c.args.sheet.now c.requires).1
