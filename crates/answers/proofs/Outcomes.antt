@@ -29,12 +29,13 @@ handed_back numbers (Ok x) = refl
 handed_back numbers (Err r) = refl
 
 -- Zeros past what was written finish a call.
-pub finish : (r : Result ℕ Refusal) (o : List ℕ) {o' : List ℕ} {k : ℕ} → k ≡ count_of r → o' ≡ take k o ++ replicate (length o - k) 0
-    → written_outcome r o' ≡ rest_zeroed r o
+pub finished : (r : Result ℕ Refusal) (o : List ℕ) {r' : Result ℕ Refusal} {o' : List ℕ}
+    → (r' ≡ r) × (o' ≡ take (count_of r) o ++ replicate (length o - count_of r) 0) → written_outcome r' o' ≡ rest_zeroed r o
 unfolding padded zeros
-finish r o {o'} {k} e f =
+finished r o (e, f) =
+    let k : ℕ = count_of r in
     let m : length o - k ≡ length o - length (take k o) = omega (arith, length-take k o) in
-    ap (written_outcome r) (f ∙ ap (λ (j : ℕ). take k o ++ replicate j 0) m ∙ ap (λ (j : ℕ). padded (take j o) (length o)) e)
+    (λ i. written_outcome (e i) (f i)) ∙ ap (λ (j : ℕ). written_outcome r (take k o ++ replicate j 0)) m
 
 module _ (o : List ℕ) {n : ℕ} (l : length o ≡ n) where
   pub refused_outcome : (v : Refusal) → rest_zeroed (Err v) o ≡ outcome [] (n ∷ []) (refused (number_of v.reason) v.place)

@@ -12,12 +12,13 @@ use lib.Seq.{drop-drop, length-take-le}
 use borrow.Author.Tests.{ltb-false}
 use Rattle.semantics.specs.Answer.{Answer, good, refused, and_then}
 use Rattle.semantics.specs.Block.{word_at, words_of, block_good, bad_length, read_blocks}
-use Rattle.semantics.specs.Call.{Result, Outcome, outcome, result, reader_call}
+use Rattle.semantics.specs.Call.{Result as Made, Outcome, outcome, result, reader_call}
 use Rattle.semantics.proofs.Blocks.{reader_is}
 use Rattle.semantics.proofs.Basics.{cond_true, cond_false}
 use Rattle.semantics.proofs.Calls.{needs_short}
-use Rattle.answers.specs.declared.Written.{Written}
-use Rattle.answers.specs.declared.Written.TheVariants.{Words, Refused}
+use Rattle.std.specs.Prelude.{Result, Ok, Err}
+use Rattle.answers.specs.declared.Reason.TheVariants.{WrongLength, WrongCheck, OutputTooShort}
+use Rattle.answers.specs.declared.Refusal.{Refusal}
 use Rattle.answers.specs.Replies.{rest_zeroed}
 use Rattle.block_reader.specs.Replies.{words_outcome}
 use Rattle.slices.proofs.Laws.{put_next}
@@ -82,13 +83,13 @@ module _ {bs o o₀ : List ℕ} {n k : ℕ} (r : BlocksRead bs o o₀ n k) where
     left = omega arith
 
     pub block_bad : false ≡ block_good (k + 1) (drop (512 * k) bs)
-        → rest_zeroed (Refused (record { number = 2; place = k })) o ≡ words_outcome (length o₀) (read_blocks n 0 bs)
+        → rest_zeroed (Err (record { reason = WrongCheck; place = k })) o ≡ words_outcome (length o₀) (read_blocks n 0 bs)
     unfolding read_blocks and_then
     block_bad g =
         let e : read_blocks (n - k) k (drop (512 * k) bs) ≡ refused 2 k =
         ap (λ (m : ℕ). read_blocks m k (drop (512 * k) bs)) left
         ∙ cond_false (block_good (suc k) (drop (512 * k) bs)) _ _ (ap (λ (m : ℕ). block_good m (drop (512 * k) bs)) (sym (add-one k)) ∙ sym g) in
-        refused_outcome o r.kept (record { number = 2; place = k })
+        refused_outcome o r.kept (record { reason = WrongCheck; place = k })
         ∙ ap (following (length o₀) (take (127 * k) o)) (sym e) ∙ r.follow
 
     pub block_more : (o' : List ℕ) → true ≡ block_good (k + 1) (drop (512 * k) bs) → length o' ≡ length o
@@ -114,7 +115,7 @@ module _ {bs o o₀ : List ℕ} {n k : ℕ} (r : BlocksRead bs o o₀ n k) where
               ∙ ap (following (length o₀) (take (127 * k) o)) (sym e) ∙ r.follow;
         }
 
-  pub blocks_all : n ≤ k → 127 * n ≤ length o₀ → rest_zeroed (Words (127 * n)) o ≡ words_outcome (length o₀) (read_blocks n 0 bs)
+  pub blocks_all : n ≤ k → 127 * n ≤ length o₀ → rest_zeroed (Ok (127 * n)) o ≡ words_outcome (length o₀) (read_blocks n 0 bs)
   unfolding read_blocks and_then
   blocks_all h l =
       let e : k ≡ n = omega arith in
@@ -135,21 +136,21 @@ blocks_fit n b =
 
 -- The order of the reader: 1, 15, 2.
 module _ (bs o : List ℕ) {lent : ℕ} (l : length o ≡ lent) where
-  abbrev reads : Answer Result
+  abbrev reads : Answer Made
   reads = and_then (read_blocks (length bs / 512) 0 bs) (λ (ws : List ℕ). result (ws ∷ []) [])
 
-  pub length_bad : true ≡ bad_length (length bs) → rest_zeroed (Refused (record { number = 1; place = 0 })) o ≡ reader_call bs (lent ∷ [])
+  pub length_bad : true ≡ bad_length (length bs) → rest_zeroed (Err (record { reason = WrongLength; place = 0 })) o ≡ reader_call bs (lent ∷ [])
   unfolding reader_call
   length_bad b = refused_outcome o l _ ∙ ap (outcome [] (lent ∷ [])) (sym (cond_true (bad_length (length bs)) _ _ (sym b)))
 
   module _ (b : false ≡ bad_length (length bs)) where
     pub output_short : lent < 127 * (length bs / 512)
-        → rest_zeroed (Refused (record { number = 15; place = 127 * (length bs / 512) })) o ≡ reader_call bs (lent ∷ [])
+        → rest_zeroed (Err (record { reason = OutputTooShort; place = 127 * (length bs / 512) })) o ≡ reader_call bs (lent ∷ [])
     unfolding reader_call
     output_short h =
         refused_outcome o l _
         ∙ ap (outcome [] (lent ∷ [])) (needs_short 15 _ lent reads h ∙ sym (cond_false (bad_length (length bs)) _ _ (sym b)))
 
-    pub blocks_read : (r : Written) → 127 * (length bs / 512) ≤ lent → rest_zeroed r o ≡ words_outcome lent (read_blocks (length bs / 512) 0 bs)
+    pub blocks_read : (r : Result ℕ Refusal) → 127 * (length bs / 512) ≤ lent → rest_zeroed r o ≡ words_outcome lent (read_blocks (length bs / 512) 0 bs)
         → rest_zeroed r o ≡ reader_call bs (lent ∷ [])
     blocks_read r h e = e ∙ sym (reader_is bs lent (sym b) h)

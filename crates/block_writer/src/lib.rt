@@ -9,18 +9,14 @@ ghost use Rattle.semantics.specs.Block.{words_of, word_bytes, first_words, block
 ghost use Rattle.semantics.specs.Call.{writer_call, Gives};
 ghost use Rattle.answers.specs.Replies.{rest_zeroed, written_reply};
 
-use answers::{Refusal, Written};
+use answers::{Reason, Refusal};
 use block::words;
-use sheet::Checked;
 
 // The word at i, 0 past the end.
 fn word_or_zero(s: &[u32], i: usize) -> u32
     ensures { (result ≡ get_or s.now i 0) × (result < 4294967296) }
 {
-    if s.len() <= i {
-        return 0;
-    }
-    s[i]
+    s.get(i).copied().unwrap_or(0)
 }
 
 // A word goes as four bytes to the output at `at`.
@@ -28,11 +24,7 @@ fn put_word(w: u32, out: &mut [u8], at: usize)
     requires { at + 4 ≤ length out.old }
     ensures { take (at + 4) out.new ≡ take at out.old ++ word_bytes w }
 {
-    let b = words::word_bytes(w);
-    out[at] = b[0];
-    out[at + 1] = b[1];
-    out[at + 2] = b[2];
-    out[at + 3] = b[3];
+    out[at..at + 4].copy_from_slice(&words::word_bytes(w));
 }
 
 // The 127 words from `from` on, zeros past the end, go as bytes to the output from `at` on, and can be read there.
@@ -41,10 +33,8 @@ fn put_words(s: &[u32], from: usize, out: &mut [u8], at: usize)
     ensures { (take (at + 508) out.new ≡ take at out.old ++ flat_map word_bytes (first_words 127 (drop from s.now)))
         × (words_of 127 (drop at out.new) ≡ first_words 127 (drop from s.now)) }
 {
-    let mut i: usize = 0;
-    while i < 127 {
+    for i in 0..127 {
         put_word(word_or_zero(s, from + i), out, at + 4 * i);
-        i += 1;
     }
 }
 
@@ -64,39 +54,36 @@ fn write_each(s: &[u32], blocks: usize, out: &mut [u8])
     requires { (blocks ≤ 710) × (512 * blocks ≤ length out.old) }
     ensures { take (512 * blocks) out.new ≡ write_blocks blocks 0 s.now }
 {
-    let mut k: usize = 0;
-    while k < blocks {
+    for k in 0..blocks {
         write_block(s, k, out);
-        k += 1;
     }
 }
 
 // The blocks of a sheet go to the front of the output.
-fn write_all(s: &[u32], out: &mut [u8]) -> Written
+fn write_all(s: &[u32], out: &mut [u8]) -> Result<usize, Refusal>
     ensures { rest_zeroed result out.new ≡ writer_call (prime_of s.now) s.now (lengths (out ∷ [])) }
 {
     let checked = sheet::check_sheet(s);
-    let Checked::Sheet(head) = checked else {
-        return Written::Refused(sheet::refusal_of(checked));
+    let Ok(head) = checked else {
+        return Err(checked.unwrap_err());
     };
     let words = head.words;
     let blocks = (words + 126) / 127;
     let needed = 512 * blocks;
     if out.len() < needed {
-        return Written::Refused(Refusal {
-            number: 15,
+        return Err(Refusal {
+            reason: Reason::OutputTooShort,
             place: needed,
         });
     }
     write_each(&s[..words], blocks, out);
-    Written::Words(needed)
+    Ok(needed)
 }
 
 // The sheet in blocks: its words, zero fill and the check words.
-pub fn write_blocks(s: &[u32], out: &mut [u8]) -> Written
+pub fn write_blocks(s: &[u32], out: &mut [u8]) -> Result<usize, Refusal>
     ensures { Gives written_reply result (out ∷ []) (writer_call (prime_of s.now) s.now) }
 {
     let written = write_all(s, out);
-    slices::zero_bytes_from(out, answers::count_of(written));
-    written
+    answers::zero_rest(written, out, 0)
 }

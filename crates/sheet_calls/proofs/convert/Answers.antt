@@ -1,11 +1,9 @@
 -- The words are copied, and what was not written is zeroed.
-use mathlib.Core.Path.{refl, ap, ◌∙◌}
-use Rattle.answers.specs.Replies.{written_outcome}
-use Rattle.answers.proofs.Outcomes.{finish}
+use mathlib.Core.Path.{◌∙◌}
+use Rattle.answers.proofs.Outcomes.{finished}
 use Rattle.sheet_calls.proofs.convert.Goals as goal
 
 pub returns : goal.returns
 returns c =
     let copy = c.copy_sheet-copied in
-    let rest = c.zero_rest in
-    ap (λ r. written_outcome r rest.new.out) rest.ensures.0 ∙ finish copy.result copy.new.out refl rest.ensures.1 ∙ copy.ensures
+    finished copy.result copy.new.out c.zero_rest.ensures ∙ copy.ensures

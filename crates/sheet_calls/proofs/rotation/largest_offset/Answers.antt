@@ -19,7 +19,7 @@ record_at-q-requires c =
 pub loop-i-preserved : goal.loop-i-preserved
 loop-i-preserved c =
     largest_more c.loop-i.invariant (search rules)
-    (c.offset_of.ensures ∙ ap (λ (q : Record). cond (eqb q.kind 1) q.c 0) c.record_at-q.ensures) c.max-most.ensures
+    (c.offset_of.ensures ∙ ap (λ (q : Record). cond (eqb q.kind 1) q.c 0) c.record_at-q.ensures) (search rules)
 
 pub returns : goal.returns
 returns c = largest_all c.loop-i.invariant (search rules)
