@@ -29,7 +29,7 @@ impl<'a> Out<'a> {
         self.at
     }
 
-    pub fn put_byte(&mut self, byte: u8)
+    pub(crate) fn put_byte(&mut self, byte: u8)
         requires { Room self.old (byte ∷ []) }
         ensures { Writes self.old (byte ∷ []) self.new }
     {
@@ -37,7 +37,7 @@ impl<'a> Out<'a> {
         self.at += 1;
     }
 
-    pub fn put_text(&mut self, text: &[u8])
+    pub(crate) fn put_text(&mut self, text: &[u8])
         requires { Room self.old text.now }
         ensures { Writes self.old text.now self.new }
     {
@@ -46,8 +46,8 @@ impl<'a> Out<'a> {
         self.at = end;
     }
 
-    // A number in decimal.
-    pub fn put_decimal(&mut self, n: usize)
+    // A number in decimal. The digits are written here: `write!` promises its text only where it hands back no error, and this always.
+    fn put_decimal(&mut self, n: usize)
         requires { Room self.old (decimal n) }
         ensures { Writes self.old (decimal n) self.new }
     {
@@ -69,7 +69,7 @@ impl<'a> Out<'a> {
     }
 
     // A coefficient as a signed number in decimal.
-    pub fn put_signed(&mut self, coefficient: u32)
+    pub(crate) fn put_signed(&mut self, coefficient: u32)
         requires { Room self.old (signed prime coefficient) }
         ensures { Writes self.old (signed prime coefficient) self.new }
     {
@@ -81,7 +81,7 @@ impl<'a> Out<'a> {
     }
 
     // A space and a number, for each of them.
-    pub fn put_numbers(&mut self, numbers: &[usize])
+    pub(crate) fn put_numbers(&mut self, numbers: &[usize])
         requires { Room self.old (spaced decimal numbers.now) }
         ensures { Writes self.old (spaced decimal numbers.now) self.new }
     {
@@ -92,7 +92,7 @@ impl<'a> Out<'a> {
     }
 
     // A variable in hex, eight digits.
-    pub fn put_hex(&mut self, var: PackedVar)
+    fn put_hex(&mut self, var: PackedVar)
         requires { Room self.old (hex_digits 8 var.0) }
         ensures { Writes self.old (hex_digits 8 var.0) self.new }
     {
@@ -112,7 +112,7 @@ impl<'a> Out<'a> {
     }
 
     // A space and a variable in hex, for each of them.
-    pub fn put_variables(&mut self, variables: &[u32])
+    pub(crate) fn put_variables(&mut self, variables: &[u32])
         requires { Room self.old (spaced (hex_digits 8) variables.now) }
         ensures { Writes self.old (spaced (hex_digits 8) variables.now) self.new }
     {
