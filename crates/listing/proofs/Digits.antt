@@ -1,41 +1,47 @@
 -- Numbers in decimal and in hex, digit by digit.
 use mathlib.Core.Path.{◌≡◌, refl, sym, ap, ◌∙◌}
-use mathlib.Core.List.{[], ◌∷◌, ◌++◌}
-use Prim.Native.Nat.{ℕ, zero, suc, ◌+◌, ◌-◌, ◌/◌, ◌%◌, ◌≤◌, ◌<◌}
+use mathlib.Core.List.{List, [], ◌∷◌, ◌++◌}
+use mathlib.Core.Logic.{inl, inr}
+use Prim.Native.Nat.{◌^◌, ℕ, zero, suc, ◌+◌, ◌-◌, ◌/◌, ◌%◌, ◌≤◌, ◌<◌}
 use native.Mathlib.Omega.{arith}
 use borrow.Author.Tests.{lt-ltb, le-ltb}
-use Rattle.semantics.specs.Sheetlist.{digits, hex_digit, hex_digits}
+use Rattle.std.specs.Fmt.{decimal as printed}
+use Rattle.std.proofs.lemmas.Fmt.{decimal_digit, decimal_step}
+use Rattle.std.proofs.lemmas.Bool.{cases_lt}
+use Rattle.std.proofs.Math.Nat.{pow-suc}
+use Rattle.semantics.specs.Sheetlist.{digits, decimal, hex_digit, hex_digits}
+use Rattle.listing.specs.declared.out.Out.{Out}
+use Rattle.listing.specs.Putting.{Room, Writes}
+use Rattle.listing.proofs.Writing.{room_front, puts_none, puts_is, Done, done_none, done_more}
 
 -- No digits; a number below 10 is one digit, and any other its tenth and one digit more.
-pub digits_none : (most n : ℕ) → most ≡ 0 → [] ≡ digits most n
+pub digits_none : (o : Out) (most n : ℕ) → most ≡ 0 → Writes o (digits most n) o
 unfolding digits
-digits_none zero n h = refl
-digits_none (suc most) n h = absurd (omega arith)
+digits_none o most n h = puts_is (puts_none o) (rw h)
 
-module _ (most n d : ℕ) (some : most ≡ 0 → ⊥) where
+module _ (o : Out) (most n : ℕ) (some : most ≡ 0 → ⊥) (room : Room o (digits most n)) where
   some_more : most ≡ suc (most - 1)
-  some_more = above most some
-    where
-      above : (k : ℕ) → (k ≡ 0 → ⊥) → k ≡ suc (k - 1)
-      above zero h = absurd (h refl)
-      above (suc k) h = omega arith
+  some_more = omega arith
 
-  pub digits_one : n < 10 → d ≡ 48 + n → d ∷ [] ≡ digits most n
+  pub digits_one : n < 10 → Done o (digits most n) ((48 + n % 10) ∷ []) o
   unfolding digits
-  digits_one h e = rw (some_more, lt-ltb n 10 h, e)
+  digits_one h = let e : n % 10 ≡ n = omega arith in done_none o (rw (some_more, lt-ltb n 10 h, e)) room
 
-  pub digits_more : 10 ≤ n → d ≡ 48 + n % 10 → digits (most - 1) (n / 10) ++ (d ∷ []) ≡ digits most n
-  unfolding digits
-  digits_more h e = ap (λ (x : ℕ). digits (most - 1) (n / 10) ++ (x ∷ [])) e ∙ sym (ap (λ (m : ℕ). digits m n) some_more ∙ high (most - 1))
-    where
-      high : (m : ℕ) → digits (suc m) n ≡ digits m (n / 10) ++ ((48 + n % 10) ∷ [])
-      high m = rw (le-ltb n 10 h)
+  module _ (h : 10 ≤ n) where
+    tenth_joins : digits (most - 1) (n / 10) ++ ((48 + n % 10) ∷ []) ≡ digits most n
+    unfolding digits
+    tenth_joins = sym (ap (λ (m : ℕ). digits m n) some_more ∙ rw (le-ltb n 10 h))
+
+    pub tenth_room : Room o (digits (most - 1) (n / 10))
+    tenth_room = room_front o (digits (most - 1) (n / 10)) ((48 + n % 10) ∷ []) tenth_joins room
+
+    pub tenth_put : {o' : Out} → Writes o (digits (most - 1) (n / 10)) o' → Done o (digits most n) ((48 + n % 10) ∷ []) o'
+    tenth_put k = done_more (done_none o tenth_joins room) (digits (most - 1) (n / 10)) ((48 + n % 10) ∷ []) refl k
 
 -- A word's digits in hex.
-pub hex_none : (count n : ℕ) → count ≡ 0 → [] ≡ hex_digits count n
+pub hex_none : (o : Out) (count n : ℕ) → count ≡ 0 → Writes o (hex_digits count n) o
 unfolding hex_digits
-hex_none zero n h = refl
-hex_none (suc count) n h = absurd (omega arith)
+hex_none o count n h = puts_is (puts_none o) (rw h)
 
 pub hex_more : (count n d : ℕ) → (count ≡ 0 → ⊥) → d ≡ hex_digit (n % 16) → hex_digits (count - 1) (n / 16) ++ (d ∷ []) ≡ hex_digits count n
 unfolding hex_digits
@@ -46,6 +52,21 @@ pub hex_low : (d : ℕ) → d < 10 → 48 + d ≡ hex_digit d
 unfolding hex_digit
 hex_low d h = rw (lt-ltb d 10 h)
 
-pub hex_high : (d : ℕ) → 10 ≤ d → 87 + d ≡ hex_digit d
+pub hex_high : (d : ℕ) → 10 ≤ d → 97 + (d - 10) ≡ hex_digit d
 unfolding hex_digit
-hex_high d h = rw (le-ltb d 10 h)
+hex_high d h = rw (le-ltb d 10 h) (omega arith)
+
+-- Below 10^10 a number's text is what `{}` prints of it.
+digits_printed : (most n : ℕ) → n < 10 ^ suc most → n < 2 ^ 64 → digits (suc most) n ≡ printed n
+unfolding digits
+digits_printed zero n h k = let low : n < 10 = omega arith in rw (lt-ltb n 10 low) (sym (decimal_digit n low))
+digits_printed (suc most) n h k = elim (cases_lt n 10) [
+  | inl low ↦ rw (lt-ltb n 10 low) (sym (decimal_digit n low))
+  | inr high ↦
+      rw (le-ltb n 10 high)
+      (ap (λ (l : List ℕ). l ++ ((48 + n % 10) ∷ [])) (digits_printed most (n / 10) (omega (arith, pow-suc 10 (suc most))) (omega arith)) ∙ sym (decimal_step n high k))
+]
+
+pub decimal_printed : (n : ℕ) → n < 10 ^ 10 → decimal n ≡ printed n
+unfolding decimal
+decimal_printed n h = digits_printed 9 n h (omega arith)

@@ -14,6 +14,7 @@ use Rattle.semantics.proofs.Grouping.{shown, listed_layout, headers_length}
 use Rattle.listing.specs.declared.headers.Family.{Family}
 use Rattle.listing.specs.declared.headers.Family.TheVariants.{Constraints, Numerators, Denominators}
 use Rattle.listing.specs.Families.{letter_of, width_of, line_of, header_line, family_lines, HeadersInside}
+use Rattle.listing.proofs.Heads.{some_words}
 use Rattle.listing.proofs.Lengths.{header_length, t_most, u_most, w_most}
 
 -- The number of terms of all groups.
@@ -102,11 +103,6 @@ line_most : (family : Family) (t : List ℕ) → length (line_of family t) ≤ m
 line_most Constraints t = t_most prime t
 line_most Numerators t = u_most prime t
 line_most Denominators t = w_most prime t
-
-some_words : (family : Family) → 0 < width_of family
-some_words Constraints = omega arith
-some_words Numerators = omega arith
-some_words Denominators = omega arith
 
 pub family_most : (family : Family) (term : Item → List ℕ) → ((t : Item) → length (term t) ≡ width_of family) → (gs : List Group) (h v t : ℕ)
     → length (headers 0 0 gs) ≤ 4 * h → length (variables gs) ≤ v → length (terms term gs) ≤ width_of family * t

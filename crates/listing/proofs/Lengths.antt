@@ -10,8 +10,9 @@ use Rattle.slices.proofs.Lists.{flat_length}
 use Rattle.semantics.specs.Arithmetic.{signed_of}
 use Rattle.semantics.specs.Sheetlist.{digits, decimal, hex_digit, hex_digits, integer, signed, line, t_line, u_line, w_line, dag_text, end_text, refused_text}
 use Rattle.semantics.proofs.Basics.{by_test}
-use Rattle.listing.specs.Families.{spaced, header_line}
-use Rattle.listing.proofs.Rows.{header_pieces}
+use Rattle.listing.specs.Putting.{spaced}
+use Rattle.listing.specs.Families.{header_line}
+use Rattle.listing.proofs.Pieces.{header_pieces}
 
 -- Numbers.
 digits_most : (most n : ℕ) → length (digits most n) ≤ most
@@ -67,4 +68,4 @@ end_length = refl
 pub header_length : (letter : ℕ) (vs : List ℕ) → length (header_line letter vs) ≡ 2 + 9 * length vs
 header_length letter vs =
     ap length (sym (header_pieces letter vs))
-    ∙ omega (arith, length-append (spaced vs) (10 ∷ []), flat_length (λ (v : ℕ). 32 ∷ hex_digits 8 v) 9 (λ v. ap suc (hex_length 8 v)) vs)
+    ∙ omega (arith, length-append (spaced (hex_digits 8) vs) (10 ∷ []), flat_length (λ (v : ℕ). 32 ∷ hex_digits 8 v) 9 (λ v. ap suc (hex_length 8 v)) vs)

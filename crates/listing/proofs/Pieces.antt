@@ -1,71 +1,47 @@
--- Lines as the pieces that are put one behind the other.
-use mathlib.Core.Path.{◌≡◌, refl, sym, ap, ◌∙◌}
-use mathlib.Core.List.{List, [], ◌∷◌, ◌++◌}
-use Prim.Native.Nat.{ℕ, ◌+◌, ◌<◌}
-use native.Mathlib.Omega.{arith}
-use native.Mathlib.Nat.{add-zero}
-use lib.ListN.{get_or, take, drop}
-use lib.Seq.{get_or-take, get_or-drop}
+-- Lines as the pieces that are written one behind the other.
+use mathlib.Core.Path.{◌≡◌, refl, ap, ◌∙◌}
+use mathlib.Core.List.{List, [], ◌∷◌, ◌++◌, map, flat_map, append_assoc, append-nil}
+use Prim.Native.Nat.{ℕ}
 use Rattle.semantics.specs.Arithmetic.{prime}
-use Rattle.semantics.specs.Sheetlist.{decimal, signed, line, dag_text, end_text, refused_text, t_line, u_line, w_line}
-use Rattle.slices.specs.Putting.{Puts}
-use Rattle.listing.specs.Putting.{Room}
-use Rattle.listing.proofs.Writing.{Done, done_room, done_more}
+use Rattle.semantics.specs.Sheetlist.{decimal, hex_digits, signed, line, dag_text, end_text, refused_text}
+use Rattle.listing.specs.Putting.{spaced}
+use Rattle.listing.specs.Families.{term_line, header_line}
 
--- A space and a number; a space, a coefficient and the end of the line.
-abbrev pub number : ℕ → List ℕ
-number n = 32 ∷ decimal n
+-- What stands behind a word: a space and the words that follow, or the end of the line.
+abbrev pub behind_word : List (List ℕ) → List ℕ
+behind_word [] = 10 ∷ []
+behind_word (w ∷ ws) = 32 ∷ line (w ∷ ws)
 
-abbrev pub ending : ℕ → List ℕ
-ending c = 32 ∷ line (signed prime c ∷ [])
-
-pub ending_pieces : (c : ℕ) → (32 ∷ []) ++ (signed prime c ++ (10 ∷ [])) ≡ ending c
+line_word : (w : List ℕ) (ws : List (List ℕ)) → w ++ behind_word ws ≡ line (w ∷ ws)
 unfolding line
-ending_pieces c = refl
+line_word w [] = refl
+line_word w (v ∷ ws) = refl
 
--- A term's words.
-module _ (ts : List ℕ) (k : ℕ) where
-  pub word_first : (w : ℕ) → 0 < w → get_or (take w (drop k ts)) 0 0 ≡ get_or ts k 0
-  word_first w h = get_or-take w (drop k ts) 0 0 h ∙ get_or-drop k ts 0 0 ∙ ap (λ (i : ℕ). get_or ts i 0) (add-zero k)
+line_spaced : (text : ℕ → List ℕ) (w : List ℕ) (ns : List ℕ) (ws : List (List ℕ)) → w ++ (spaced text ns ++ behind_word ws) ≡ line (w ∷ (map text ns ++ ws))
+unfolding line flat_map
+line_spaced text w [] ws = line_word w ws
+line_spaced text w (n ∷ ns) ws =
+    ap (λ (l : List ℕ). w ++ (32 ∷ l)) (append_assoc (text n) (spaced text ns) (behind_word ws) ∙ line_spaced text (text n) ns ws)
 
-  pub word_at : (w j : ℕ) → j < w → get_or (take w (drop k ts)) j 0 ≡ get_or ts (k + j) 0
-  word_at w j h = get_or-take w (drop k ts) j 0 h ∙ get_or-drop k ts j 0
+-- A header's line, and a term's.
+pub header_pieces : (letter : ℕ) (vs : List ℕ) → (letter ∷ []) ++ (spaced (hex_digits 8) vs ++ (10 ∷ [])) ≡ header_line letter vs
+header_pieces letter vs =
+    line_spaced (hex_digits 8) (letter ∷ []) vs [] ∙ ap (λ (ws : List (List ℕ)). line ((letter ∷ []) ∷ ws)) (append-nil (map (hex_digits 8) vs))
 
-  pub t_pieces : (116 ∷ []) ++ (number (get_or ts k 0) ++ ending (get_or ts (k + 1) 0)) ≡ t_line prime (take 2 (drop k ts))
-  unfolding t_line line
-  t_pieces = rw (word_first 2 (omega arith), word_at 2 1 (omega arith))
-
-  pub u_pieces : (117 ∷ []) ++ (number (get_or ts (k + 1) 0) ++ ending (get_or ts k 0)) ≡ u_line prime (take 3 (drop k ts))
-  unfolding u_line line
-  u_pieces = rw (word_first 3 (omega arith), word_at 3 1 (omega arith))
-
-  pub w_pieces : (119 ∷ []) ++ (number (get_or ts (k + 1) 0) ++ (number (get_or ts (k + 2) 0) ++ ending (get_or ts k 0)))
-      ≡ w_line prime (take 3 (drop k ts))
-  unfolding w_line line
-  w_pieces = rw (word_first 3 (omega arith), word_at 3 1 (omega arith), word_at 3 2 (omega arith))
-
--- A number that is known by an equation: there is room for it, and it is put.
-module _ {out : List ℕ} {at : ℕ} {whole out' : List ℕ} {next n m : ℕ} (rest : List ℕ) (h : Done out at whole (number m ++ rest) out' next) (e : n ≡ m) where
-  number_is : number m ++ rest ≡ number n ++ rest
-  number_is = ap (λ (k : ℕ). number k ++ rest) (sym e)
-
-  pub number_room : Room out' next (number n)
-  number_room = done_room h (number n) rest number_is
-
-  pub number_more : {out'' : List ℕ} {last : ℕ} → Puts out' next (number n) out'' last → Done out at whole rest out'' last
-  number_more p = done_more h (number n) rest number_is p
+pub term_pieces : (letter : ℕ) (ns : List ℕ) (c : ℕ) → (letter ∷ []) ++ (spaced decimal ns ++ (32 ∷ (signed prime c ++ (10 ∷ [])))) ≡ term_line letter ns c
+unfolding line
+term_pieces letter ns c = line_spaced decimal (letter ∷ []) ns (signed prime c ∷ [])
 
 -- The graph's line, a refusal, and the last line.
 pub dag_pieces : (nodes constraints rotation : ℕ)
-    → dag_text ++ (number nodes ++ (number constraints ++ (number rotation ++ (10 ∷ []))))
+    → dag_text ++ (spaced decimal (nodes ∷ constraints ∷ rotation ∷ []) ++ (10 ∷ []))
     ≡ line (dag_text ∷ decimal nodes ∷ decimal constraints ∷ decimal rotation ∷ [])
-unfolding line
-dag_pieces nodes constraints rotation = refl
+dag_pieces nodes constraints rotation = line_spaced decimal dag_text (nodes ∷ constraints ∷ rotation ∷ []) []
 
 pub refused_pieces : (step : List ℕ) (n place : ℕ)
-    → (refused_text ++ (32 ∷ [])) ++ (step ++ (number n ++ (number place ++ (10 ∷ [])))) ≡ line (refused_text ∷ step ∷ decimal n ∷ decimal place ∷ [])
+    → (refused_text ++ (32 ∷ [])) ++ (step ++ (spaced decimal (n ∷ place ∷ []) ++ (10 ∷ []))) ≡ line (refused_text ∷ step ∷ decimal n ∷ decimal place ∷ [])
 unfolding line
-refused_pieces step n place = refl
+refused_pieces step n place = ap (λ (l : List ℕ). refused_text ++ (32 ∷ l)) (line_spaced decimal step (n ∷ place ∷ []) [])
 
 pub end_pieces : end_text ++ (10 ∷ []) ≡ line (end_text ∷ [])
 unfolding line

@@ -3,8 +3,8 @@ use mathlib.Core.List.{List, [], ◌∷◌, ◌++◌, map, flat_map}
 use Rattle.std.specs.Prelude.{ℕ, ◌+◌, ◌*◌, ◌/◌, ◌≤◌, ◌<◌, length, get_or, take, drop}
 use Rattle.semantics.specs.Arithmetic.{prime}
 use Rattle.semantics.specs.Group.{Listed, listed_at, listed}
-use Rattle.semantics.specs.Sheetlist.{line, hex_digits, t_line, u_line, w_line, header_lines}
-use Rattle.listing.specs.Putting.{Room}
+use Rattle.semantics.specs.Sheetlist.{decimal, hex_digits, signed, line, t_line, u_line, w_line, header_lines}
+use Rattle.slices.specs.Rows.{rows}
 use Rattle.listing.specs.declared.headers.Family.{Family}
 use Rattle.listing.specs.declared.headers.Family.TheVariants.{Constraints, Numerators, Denominators}
 
@@ -25,9 +25,13 @@ line_of Constraints = t_line prime
 line_of Numerators = u_line prime
 line_of Denominators = w_line prime
 
--- Variables in hex, a space before each.
-abbrev pub spaced : List ℕ → List ℕ
-spaced vs = flat_map (λ (v : ℕ). 32 ∷ hex_digits 8 v) vs
+-- The line of a letter, numbers and a coefficient.
+abbrev pub term_line : (letter : ℕ) → List ℕ → (coefficient : ℕ) → List ℕ
+term_line letter numbers coefficient = line ((letter ∷ []) ∷ (map decimal numbers ++ (signed prime coefficient ∷ [])))
+
+-- The lines of terms, from their words.
+abbrev pub term_lines : Family → List ℕ → List ℕ
+term_lines family ts = flat_map (line_of family) (rows (width_of family) (length ts / width_of family) ts)
 
 -- A header's line, and a header with its terms.
 abbrev pub header_line : (letter : ℕ) → List ℕ → List ℕ
@@ -36,9 +40,9 @@ header_line letter vs = line ((letter ∷ []) ∷ map (hex_digits 8) vs)
 abbrev pub header_text : Family → Listed → List ℕ
 header_text family h = header_line (letter_of family) h.vars ++ flat_map (line_of family) h.terms
 
--- The text of the header whose words stand from h on.
-abbrev pub header_text_at : Family → (hs vs ts : List ℕ) (h : ℕ) → List ℕ
-header_text_at family hs vs ts h = header_text family (listed_at (width_of family) vs ts (take 4 (drop h hs)))
+-- The text of the header of some four words.
+abbrev pub header_of : Family → (vs ts : List ℕ) → (header : List ℕ) → List ℕ
+header_of family vs ts header = header_text family (listed_at (width_of family) vs ts header)
 
 -- All headers of a family, from its three lists of words.
 abbrev pub family_lines : Family → (hs vs ts : List ℕ) → List ℕ
@@ -51,8 +55,3 @@ pub record HeaderInside (width : ℕ) (header vs ts : List ℕ) : Type 0 where
 
 pub record HeadersInside (width : ℕ) (hs vs ts : List ℕ) : Type 0 where
   pub each : (i : ℕ) → i < length hs / 4 → HeaderInside width (take 4 (drop (4 * i) hs)) vs ts
-
--- What printing the header whose words stand from h on asks: they stand inside the lists, and the output has room for its text.
-abbrev pub ToPutHeader : Family → (hs vs ts : List ℕ) (h : ℕ) → (out : List ℕ) (at : ℕ) → Type 0
-ToPutHeader family hs vs ts h out at =
-    (h + 4 ≤ length hs) × HeaderInside (width_of family) (take 4 (drop h hs)) vs ts × Room out at (header_text_at family hs vs ts h)

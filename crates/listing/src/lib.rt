@@ -1,7 +1,7 @@
-// What `sheetlist` prints, as bytes in a slice. Each function writes from `at` on and hands back where the output goes on.
+// What `sheetlist` prints, as bytes in a slice. Each function writes from where the output stands, and the output goes on behind it.
 #![tactic(auto)]
 
 pub mod headers;
 pub mod lines;
-mod numbers;
+pub mod out;
 mod terms;

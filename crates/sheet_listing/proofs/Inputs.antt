@@ -9,31 +9,32 @@ use Rattle.semantics.specs.Arithmetic.{prime}
 use Rattle.semantics.specs.Call.{zeros, padded}
 use Rattle.semantics.specs.Sheetlist.{most_read, sheetlist}
 use Rattle.semantics.proofs.Listings.{reads_enough}
-use Rattle.slices.specs.Putting.{Puts}
-use Rattle.listing.specs.Putting.{Room}
+use Rattle.slices.specs.Putting.{put}
+use Rattle.listing.specs.declared.out.Out.{Out}
+use Rattle.listing.specs.Putting.{Room, Writes}
 use Rattle.listing.proofs.Writing.{puts_length}
 use Rattle.listing.proofs.Totals.{sheetlist_most}
 use Rattle.sheet_listing.specs.Inputs.{ReadOf}
 
 -- The whole slice: what is printed, and zeros behind it.
-module _ (bytes out : List ℕ) (long : length out ≡ 65536) where
-  pub whole_room : Room out 0 (sheetlist prime bytes)
+module _ (bytes : List ℕ) (o : Out) (long : length o.bytes.now ≡ 65536) (start : o.at ≡ 0) where
+  pub whole_room : Room o (sheetlist prime bytes)
   whole_room = omega (arith, sheetlist_most bytes)
 
-  module _ (put : List ℕ) (r : ℕ) (h : Puts out 0 (sheetlist prime bytes) put r) where
-    pub printed : r ≡ length (sheetlist prime bytes)
-    printed = h.next_is ∙ omega arith
+  module _ {new : Out} (h : Writes o (sheetlist prime bytes) new) where
+    pub printed : new.at ≡ length (sheetlist prime bytes)
+    printed = h.puts.next_is ∙ omega arith
 
-    front : take r put ≡ sheetlist prime bytes
+    front : take new.at new.bytes.now ≡ sheetlist prime bytes
     front =
-        (λ i. take (printed i) (h.out_is i))
-        ∙ take_at (sheetlist prime bytes) (drop (0 + length (sheetlist prime bytes)) out) (length (sheetlist prime bytes)) refl
+        (λ i. take (printed i) ((h.puts.out_is ∙ ap (λ (k : ℕ). put o.bytes.now k (sheetlist prime bytes)) start) i))
+        ∙ take_at (sheetlist prime bytes) (drop (0 + length (sheetlist prime bytes)) o.bytes.now) (length (sheetlist prime bytes)) refl
 
-    pub whole : {all : List ℕ} → all ≡ take r put ++ replicate (length put - r) 0 → all ≡ padded (sheetlist prime bytes) 65536
+    pub whole : {r : ℕ} {all : List ℕ} → r ≡ new.at → all ≡ take r new.bytes.now ++ replicate (length new.bytes.now - r) 0 → all ≡ padded (sheetlist prime bytes) 65536
     unfolding padded zeros
-    whole e =
-        let n : length put - r ≡ 65536 - length (sheetlist prime bytes) = omega (arith, printed, puts_length h whole_room) in
-        e ∙ (λ i. front i ++ replicate (n i) 0)
+    whole {r} f e =
+        let n : length new.bytes.now - r ≡ 65536 - length (sheetlist prime bytes) = omega (arith, f, printed, puts_length h whole_room) in
+        e ∙ (λ i. take (f i) new.bytes.now ++ replicate (n i) 0) ∙ ap (λ (l : List ℕ). l ++ replicate (65536 - length (sheetlist prime bytes)) 0) front
 
 -- What is printed stands inside the slice.
 pub printed_fits : (ws : List ℕ) (lent : ℕ) {out : List ℕ} {r : ℕ} → out ≡ padded ws lent → r ≡ length ws → r ≤ length out

@@ -1,6 +1,7 @@
 -- Lists that stand in front of their slices, as an expansion writes them.
 use Rattle.std.specs.Prelude.{List, [], ◌∷◌, ◌++◌, ℕ, ◌≤◌, length, take}
 use Rattle.semantics.specs.Sheetlist.{line, end_text}
+use Rattle.listing.specs.declared.out.Out.{Out}
 use Rattle.listing.specs.declared.headers.Family.{Family}
 use Rattle.listing.specs.declared.headers.Family.TheVariants.{Numerators, Denominators}
 use Rattle.listing.specs.Putting.{Room}
@@ -24,8 +25,8 @@ abbrev pub both_lines : InteractionLengths → (hs vs ts hs' vs' ts' : List ℕ)
 both_lines n hs vs ts hs' vs' ts' =
     front_lines Numerators n.numerators hs vs ts ++ (front_lines Denominators n.denominators hs' vs' ts' ++ line (end_text ∷ []))
 
-abbrev pub BothFronts : InteractionLengths → (hs vs ts hs' vs' ts' : List ℕ) → (out : List ℕ) (at : ℕ) → Type 0
-BothFronts n hs vs ts hs' vs' ts' out at =
+abbrev pub BothFronts : InteractionLengths → (hs vs ts hs' vs' ts' : List ℕ) → (out : Out) → Type 0
+BothFronts n hs vs ts hs' vs' ts' out =
     Fronts Numerators n.numerators hs vs ts
     × Fronts Denominators n.denominators hs' vs' ts'
-    × Room out at (both_lines n hs vs ts hs' vs' ts')
+    × Room out (both_lines n hs vs ts hs' vs' ts')

@@ -7,8 +7,7 @@ ghost use Rattle.semantics.specs.Arithmetic.{prime};
 ghost use Rattle.semantics.specs.Call.{padded};
 ghost use Rattle.semantics.specs.Sheetlist.{interaction_step, constraint_step, graph_lines, sheet_lines, sheetlist};
 ghost use Rattle.semantics.specs.Check.{prime_of};
-ghost use Rattle.slices.specs.Putting.{Puts};
-ghost use Rattle.listing.specs.Putting.{Room};
+ghost use Rattle.listing.specs.Putting.{Room, Writes};
 ghost use Rattle.sheet_listing.specs.Fronts.{front_lines, Fronts, both_lines, BothFronts};
 ghost use Rattle.sheet_listing.specs.Inputs.{ReadOf};
 
@@ -19,35 +18,34 @@ use constraint_lists::ConstraintLists;
 use grouping::Lengths;
 use interaction_lists::{InteractionLengths, InteractionLists};
 use listing::headers::Family;
+use listing::out::Out;
 use listing::{headers, lines};
 use std::io;
 use std::io::{Read, Write};
 
 // The headers of a family, from the front of three slices.
 fn put_lists(
-    out: &mut [u8],
-    at: usize,
+    out: &mut Out,
     family: Family,
     n: Lengths,
     headers: &[u32],
     variables: &[u32],
     terms: &[u32],
-) -> usize
+)
     requires { Fronts family n headers.now variables.now terms.now
-        × Room out.old at (front_lines family n headers.now variables.now terms.now) }
-    ensures { Puts out.old at (front_lines family n headers.now variables.now terms.now)
-        out.new result }
+        × Room out.old (front_lines family n headers.now variables.now terms.now) }
+    ensures { Writes out.old (front_lines family n headers.now variables.now terms.now)
+        out.new }
 {
     let h = n.headers;
     let v = n.variables;
     let t = n.terms;
-    headers::put_headers(out, at, family, &headers[..h], &variables[..v], &terms[..t])
+    headers::put_headers(out, family, &headers[..h], &variables[..v], &terms[..t])
 }
 
 // Numerators, denominators and the last line.
 fn put_both_lists(
-    out: &mut [u8],
-    at: usize,
+    out: &mut Out,
     n: InteractionLengths,
     headers: &[u32],
     variables: &[u32],
@@ -55,41 +53,39 @@ fn put_both_lists(
     denom_headers: &[u32],
     denom_variables: &[u32],
     denom_terms: &[u32],
-) -> usize
+)
     requires { BothFronts n headers.now variables.now terms.now
-        denom_headers.now denom_variables.now denom_terms.now out.old at }
-    ensures { Puts out.old at
+        denom_headers.now denom_variables.now denom_terms.now out.old }
+    ensures { Writes out.old
         (both_lines n headers.now variables.now terms.now
         denom_headers.now denom_variables.now denom_terms.now)
-        out.new result }
+        out.new }
 {
     let numerators = n.numerators;
     let denominators = n.denominators;
-    let next = put_lists(
+    put_lists(
         out,
-        at,
         Family::Numerators,
         numerators,
         headers,
         variables,
         terms,
     );
-    let end = put_lists(
+    put_lists(
         out,
-        next,
         Family::Denominators,
         denominators,
         denom_headers,
         denom_variables,
         denom_terms,
     );
-    lines::put_end(out, end)
+    lines::put_end(out)
 }
 
 // What the graph's interactions print.
-fn put_interactions(out: &mut [u8], at: usize, graph: &[u32]) -> usize
-    requires { Room out.old at (interaction_step (prime_of graph.now) graph.now) }
-    ensures { Puts out.old at (interaction_step (prime_of graph.now) graph.now) out.new result }
+fn put_interactions(out: &mut Out, graph: &[u32])
+    requires { Room out.old (interaction_step (prime_of graph.now) graph.now) }
+    ensures { Writes out.old (interaction_step (prime_of graph.now) graph.now) out.new }
 {
     let mut work = [0u32; 4096];
     let mut pool = [0u32; 4096];
@@ -112,11 +108,10 @@ fn put_interactions(out: &mut [u8], at: usize, graph: &[u32]) -> usize
     );
     let InteractionLists::Written(n) = lists else {
         let refusal = refusals::of_interactions(lists);
-        return lines::put_refused(out, at, b"inter", refusal.number, refusal.place);
+        return lines::put_refused(out, b"inter", refusal.number, refusal.place);
     };
     put_both_lists(
         out,
-        at,
         n,
         &headers,
         &variables,
@@ -128,9 +123,9 @@ fn put_interactions(out: &mut [u8], at: usize, graph: &[u32]) -> usize
 }
 
 // What the graph's constraints print, and what comes after them.
-fn put_constraints(out: &mut [u8], at: usize, graph: &[u32]) -> usize
-    requires { Room out.old at (constraint_step (prime_of graph.now) graph.now) }
-    ensures { Puts out.old at (constraint_step (prime_of graph.now) graph.now) out.new result }
+fn put_constraints(out: &mut Out, graph: &[u32])
+    requires { Room out.old (constraint_step (prime_of graph.now) graph.now) }
+    ensures { Writes out.old (constraint_step (prime_of graph.now) graph.now) out.new }
 {
     let mut work = [0u32; 4096];
     let mut pool = [0u32; 4096];
@@ -147,71 +142,65 @@ fn put_constraints(out: &mut [u8], at: usize, graph: &[u32]) -> usize
     );
     let ConstraintLists::Written(n) = lists else {
         let refusal = refusals::of_constraints(lists);
-        return lines::put_refused(out, at, b"cons", refusal.number, refusal.place);
+        return lines::put_refused(out, b"cons", refusal.number, refusal.place);
     };
-    let next = put_lists(
-        out,
-        at,
-        Family::Constraints,
-        n,
-        &headers,
-        &variables,
-        &terms,
-    );
-    put_interactions(out, next, graph)
+    put_lists(out, Family::Constraints, n, &headers, &variables, &terms);
+    put_interactions(out, graph)
 }
 
 // What a graph prints: its numbers, then its lists.
-fn put_graph(out: &mut [u8], at: usize, graph: &[u32]) -> usize
-    requires { (2 < length graph.now) × Room out.old at (graph_lines (prime_of graph.now) graph.now) }
-    ensures { Puts out.old at (graph_lines (prime_of graph.now) graph.now) out.new result }
+fn put_graph(out: &mut Out, graph: &[u32])
+    requires { (2 < length graph.now) × Room out.old (graph_lines (prime_of graph.now) graph.now) }
+    ensures { Writes out.old (graph_lines (prime_of graph.now) graph.now) out.new }
 {
     let rotated = sheet_calls::max_rotation(graph);
     let Counted::Number(rotation) = rotated else {
         let refusal = refusals::of_counted(rotated);
-        return lines::put_refused(out, at, b"dag", refusal.number, refusal.place);
+        return lines::put_refused(out, b"dag", refusal.number, refusal.place);
     };
-    let next = lines::put_dag_line(out, at, graph[1], graph[2], rotation);
-    put_constraints(out, next, graph)
+    lines::put_dag_line(out, graph[1], graph[2], rotation);
+    put_constraints(out, graph)
 }
 
 // What a sheet prints: its graph.
-fn put_sheet(out: &mut [u8], at: usize, sheet: &[u32]) -> usize
-    requires { Room out.old at (sheet_lines (prime_of sheet.now) sheet.now) }
-    ensures { Puts out.old at (sheet_lines (prime_of sheet.now) sheet.now) out.new result }
+fn put_sheet(out: &mut Out, sheet: &[u32])
+    requires { Room out.old (sheet_lines (prime_of sheet.now) sheet.now) }
+    ensures { Writes out.old (sheet_lines (prime_of sheet.now) sheet.now) out.new }
 {
     let mut scratch = [0u32; 1016];
     let mut graph = [0u32; 1016];
     let built = dag::build(sheet, &mut scratch, &mut graph);
     let Written::Words(n) = built else {
         let refusal = refusals::of_written(built);
-        return lines::put_refused(out, at, b"dag", refusal.number, refusal.place);
+        return lines::put_refused(out, b"dag", refusal.number, refusal.place);
     };
-    put_graph(out, at, &graph[..n])
+    put_graph(out, &graph[..n])
 }
 
 // What bytes print: the sheet that is read from them.
-fn put_bytes(out: &mut [u8], at: usize, bytes: &[u8]) -> usize
-    requires { Room out.old at (sheetlist prime bytes.now) }
-    ensures { Puts out.old at (sheetlist prime bytes.now) out.new result }
+fn put_bytes(out: &mut Out, bytes: &[u8])
+    requires { Room out.old (sheetlist prime bytes.now) }
+    ensures { Writes out.old (sheetlist prime bytes.now) out.new }
 {
     if 4096 < bytes.len() {
-        return lines::put_refused(out, at, b"read", 1, 0);
+        return lines::put_refused(out, b"read", 1, 0);
     }
     let mut sheet = [0u32; 1016];
     let read = block_reader::read_blocks(bytes, &mut sheet);
     let Written::Words(n) = read else {
         let refusal = refusals::of_written(read);
-        return lines::put_refused(out, at, b"read", refusal.number, refusal.place);
+        return lines::put_refused(out, b"read", refusal.number, refusal.place);
     };
-    put_sheet(out, at, &sheet[..n])
+    put_sheet(out, &sheet[..n])
 }
 
 // The bytes that `sheetlist` prints for an input go to the front of `out`, with zeros behind them; their number is handed back.
 pub fn list_sheet(bytes: &[u8], out: &mut [u8; 65536]) -> usize
     ensures { (out.new ≡ padded (sheetlist prime bytes.now) 65536) × (result ≡ length (sheetlist prime bytes.now)) }
 {
-    let printed = put_bytes(out, 0, bytes);
+    let mut text = Out::new(out);
+    put_bytes(&mut text, bytes);
+    let printed = text.count();
     slices::zero_bytes_from(out, printed);
     printed
 }

@@ -1,17 +1,19 @@
--- What the bytes print is put from the front on, and zeros behind it.
-use borrow.Author.Rules.{rules}
+-- What the bytes print is written from the front on, and zeros behind it.
+use mathlib.Core.Path.{◌≡◌, ap, ◌∙◌}
+use lib.ListN.{length}
 use Rattle.sheet_listing.proofs.Inputs.{whole_room, printed, whole}
 use Rattle.sheet_listing.proofs.list_sheet.Goals as goal
 
-pub put_bytes-printed-requires : goal.put_bytes-printed-requires
-put_bytes-printed-requires c =
-    let a = c.args in
-    whole_room a.bytes.now a.out.now (search rules)
+pub put_bytes-requires : goal.put_bytes-requires
+put_bytes-requires c =
+    let start = c.new-text in
+    whole_room c.args.bytes.now start.result (ap length start.ensures.bytes ∙ c.told-out) start.ensures.front
 
 pub returns : goal.returns
 returns c =
-    let a = c.args in
-    let put = c.put_bytes-printed in (
-      whole a.bytes.now a.out.now (search rules) put.new.out put.result put.ensures c.zero_bytes_from.ensures,
-      printed a.bytes.now a.out.now (search rules) put.new.out put.result put.ensures,
+    let start = c.new-text in
+    let long : length start.result.bytes.now ≡ 65536 = ap length start.ensures.bytes ∙ c.told-out in
+    let count = c.count-printed.ensures in (
+      whole c.args.bytes.now start.result long start.ensures.front c.put_bytes.ensures count c.zero_bytes_from.ensures,
+      count ∙ printed c.args.bytes.now start.result long start.ensures.front c.put_bytes.ensures,
     )

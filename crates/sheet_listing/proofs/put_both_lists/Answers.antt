@@ -5,5 +5,5 @@ use Rattle.sheet_listing.proofs.put_both_lists.Goals as goal
 
 pub returns : goal.returns
 returns c =
-    let numerators-put = done_more (done_none c.args.out.now c.args.at refl c.requires.2) _ _ refl c.put_lists-next.ensures in
-    done_last (done_more numerators-put _ _ refl c.put_lists-end.ensures) c.put_end.ensures
+    let numerators-put = done_more (done_none c.args.out.now refl c.requires.2) _ _ refl c.put_lists.ensures in
+    done_last (done_more numerators-put _ _ refl c.put_lists-2.ensures) c.put_end.ensures

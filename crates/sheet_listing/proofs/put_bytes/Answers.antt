@@ -9,14 +9,14 @@ use Rattle.sheet_listing.proofs.Printed.{read_refused, sheet_read}
 use Rattle.sheet_listing.proofs.put_bytes.Goals as goal
 
 pub put_refused-requires : goal.put_refused-requires
-put_refused-requires c = room_is c.args.out.now c.args.at (sym (too_many prime c.args.bytes.now c.if-bytes-gt4096.true)) c.requires
+put_refused-requires c = room_is c.args.out.now (sym (too_many prime c.args.bytes.now c.if-bytes-gt4096.true)) c.requires
 
 pub returns-then-bytes-gt4096 : goal.returns-then-bytes-gt4096
 returns-then-bytes-gt4096 c = puts_is c.put_refused.ensures (sym (too_many prime c.args.bytes.now c.if-bytes-gt4096.true))
 
 pub put_refused-requires-in_default : goal.put_refused-requires-in_default
 put_refused-requires-in_default c =
-    room_is c.args.out.now c.args.at
+    room_is c.args.out.now
     (read_refused c.args.bytes.now c.if-bytes-gt4096.false _ _ c.read_blocks-read.ensures _ _ c.in_default.is c.of_written-refusal.ensures) c.requires
 
 pub returns-in_default : goal.returns-in_default
@@ -34,7 +34,7 @@ slice_bounds-put_sheet-end c =
 
 pub put_sheet-requires : goal.put_sheet-requires
 put_sheet-requires c =
-    room_is c.args.out.now c.args.at (sheet_read c.args.bytes.now c.if-bytes-gt4096.false _ _ c.read_blocks-read.ensures _ c.in-Words.is).1 c.requires
+    room_is c.args.out.now (sheet_read c.args.bytes.now c.if-bytes-gt4096.false _ _ c.read_blocks-read.ensures _ c.in-Words.is).1 c.requires
 
 pub returns : goal.returns
 returns c = puts_is c.put_sheet.ensures (sheet_read c.args.bytes.now c.if-bytes-gt4096.false _ _ c.read_blocks-read.ensures _ c.in-Words.is).1

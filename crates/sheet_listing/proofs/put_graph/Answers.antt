@@ -15,7 +15,7 @@ put_refused-requires c =
     let v = c.max_rotation-rotated in
     let u = c.of_counted-refusal in
     rotation_refused c.args.graph.now v.result v.ensures c.in_default.field-0 u.result c.in_default.is u.ensures in
-    room_is c.args.out.now c.args.at refused c.requires.1
+    room_is c.args.out.now refused c.requires.1
 
 pub returns-in_default : goal.returns-in_default
 returns-in_default c =
@@ -26,23 +26,23 @@ returns-in_default c =
     rotation_refused c.args.graph.now v.result v.ensures c.in_default.field-0 u.result c.in_default.is u.ensures in
     puts_is c.put_refused.ensures refused
 
-pub put_dag_line-next-requires : goal.put_dag_line-next-requires
-put_dag_line-next-requires c =
+pub put_dag_line-requires : goal.put_dag_line-requires
+put_dag_line-requires c =
     let joined : dag_line c.args.graph.now c.in-Number.rotation ++ constraint_step prime c.args.graph.now ≡ graph_lines prime c.args.graph.now =
     let v = c.max_rotation-rotated in
     graph_joins c.args.graph.now v.result v.ensures c.in-Number.rotation c.in-Number.is in
-    room_front c.args.out.now c.args.at (dag_line c.args.graph.now c.in-Number.rotation) (constraint_step prime c.args.graph.now) joined c.requires.1
+    room_front c.args.out.now (dag_line c.args.graph.now c.in-Number.rotation) (constraint_step prime c.args.graph.now) joined c.requires.1
 
 pub put_constraints-requires : goal.put_constraints-requires
 put_constraints-requires c =
     let joined : dag_line c.args.graph.now c.in-Number.rotation ++ constraint_step prime c.args.graph.now ≡ graph_lines prime c.args.graph.now =
     let v = c.max_rotation-rotated in
     graph_joins c.args.graph.now v.result v.ensures c.in-Number.rotation c.in-Number.is in
-    room_next c.put_dag_line-next.ensures (constraint_step prime c.args.graph.now) joined c.requires.1
+    room_next c.put_dag_line.ensures (constraint_step prime c.args.graph.now) joined c.requires.1
 
 pub returns : goal.returns
 returns c =
     let joined : dag_line c.args.graph.now c.in-Number.rotation ++ constraint_step prime c.args.graph.now ≡ graph_lines prime c.args.graph.now =
     let v = c.max_rotation-rotated in
     graph_joins c.args.graph.now v.result v.ensures c.in-Number.rotation c.in-Number.is in
-    puts_next c.put_dag_line-next.ensures (constraint_step prime c.args.graph.now) joined c.requires.1 c.put_constraints.ensures
+    puts_next c.put_dag_line.ensures (constraint_step prime c.args.graph.now) joined c.requires.1 c.put_constraints.ensures

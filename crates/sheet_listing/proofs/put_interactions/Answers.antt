@@ -5,7 +5,7 @@ use Rattle.sheet_listing.proofs.put_interactions.Goals as goal
 
 pub put_refused-requires : goal.put_refused-requires
 put_refused-requires c =
-    room_is c.args.out.now c.args.at
+    room_is c.args.out.now
     (interactions_refused c.args.graph.now _ _ _ _ _ _ _ _ _ c.expand_interactions-lists.ensures _ _ c.in_default.is c.of_interactions-refusal.ensures) c.requires
 
 pub returns-in_default : goal.returns-in_default
@@ -16,7 +16,7 @@ returns-in_default c =
 pub put_both_lists-requires : goal.put_both_lists-requires
 put_both_lists-requires c =
     let written = interactions_written c.args.graph.now _ _ _ _ _ _ _ _ _ c.expand_interactions-lists.ensures _ c.in-Written.is in
-    (written.0, written.1, room_is c.args.out.now c.args.at written.2 c.requires)
+    (written.0, written.1, room_is c.args.out.now written.2 c.requires)
 
 pub returns : goal.returns
 returns c =

@@ -17,7 +17,7 @@ put_refused-requires c =
     let v = c.build-built in
     let u = c.of_written-refusal in
     built_refused c.args.sheet.now v.result c.build-built.new.scratch c.build-built.new.out v.ensures c.in_default.field-0 u.result c.in_default.is u.ensures in
-    room_is c.args.out.now c.args.at refused c.requires
+    room_is c.args.out.now refused c.requires
 
 pub returns-in_default : goal.returns-in_default
 returns-in_default c =
@@ -51,7 +51,7 @@ put_graph-requires c =
     let v = c.build-built in
     graph_written c.args.sheet.now v.result c.build-built.new.scratch c.build-built.new.out v.ensures c.in-Words.n c.in-Words.is in
     let h = written in
-    (h.1, room_is c.args.out.now c.args.at h.2 c.requires)
+    (h.1, room_is c.args.out.now h.2 c.requires)
 
 pub returns : goal.returns
 returns c =

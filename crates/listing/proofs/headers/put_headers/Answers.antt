@@ -1,25 +1,46 @@
-use mathlib.Core.Path.{refl}
+use mathlib.Core.Path.{◌≡◌}
 use native.Mathlib.Omega.{arith}
+use lib.ListN.{length}
+use Rattle.std.specs.Slice.Iter.{chunks_exact_rest, chunks_exact_size}
+use Rattle.listing.specs.Families.{header_of}
 use Rattle.listing.proofs.Writing.{room_is, puts_is}
 use Rattle.listing.proofs.Rows.{rows_none, rows_all, row_room, row_more}
-use Rattle.listing.proofs.Heads.{headers_rows}
+use Rattle.listing.proofs.Heads.{first_inside, others_inside, headers_rows}
 use Rattle.listing.proofs.headers.put_headers.Goals as goal
 
-pub loop-i-init : goal.loop-i-init
-loop-i-init c =
+pub loop-header-init : goal.loop-header-init
+loop-header-init c =
     let a = c.args in
-    rows_none refl (room_is a.out.now a.at (headers_rows a.family a.headers.now a.variables.now a.terms.now) c.requires.1)
+    let all : chunks_exact_rest c.into_iter-header-iterator.result ≡ a.headers.now = cc in
+    let four : chunks_exact_size c.into_iter-header-iterator.result ≡ 4 = cc in
+    record {
+      inside = rw all c.requires.0;
+      written =
+          rows_none 4 (header_of a.family a.variables.now a.terms.now) a.headers.now a.out.now four all
+          (room_is a.out.now (headers_rows a.family a.headers.now a.variables.now a.terms.now) c.requires.1);
+    }
 
-pub put_header-after-requires : goal.put_header-after-requires
-put_header-after-requires c =
-    let taken = c.loop-i-test.true in
-    (omega (arith, taken), c.requires.0.each c.loop-i.i taken, row_room c.loop-i.invariant taken)
+pub put_header-requires : goal.put_header-requires
+put_header-requires c =
+    let a = c.args in
+    let h = c.loop-header.invariant in
+    let came = c.in-Some.ensures.steps.1 in
+    let four : length c.in-Some.header.now ≡ 4 = omega (arith, h.written.size_is, came.1) in
+    (four, first_inside _ _ four (rw came.0 at h.inside), row_room (omega arith) (header_of a.family a.variables.now a.terms.now) h.written _ _ came.0 came.1)
 
-pub loop-i-preserved : goal.loop-i-preserved
-loop-i-preserved c =
-    row_more c.loop-i.invariant c.loop-i-test.true (omega arith) c.put_header-after.ensures
+pub loop-header-preserved : goal.loop-header-preserved
+loop-header-preserved c =
+    let a = c.args in
+    let h = c.loop-header.invariant in
+    let came = c.in-Some.ensures.steps in
+    let four : length c.in-Some.header.now ≡ 4 = omega (arith, h.written.size_is, came.1.1) in
+    record {
+      inside = others_inside _ _ four (rw came.1.0 at h.inside);
+      written = row_more (omega arith) (header_of a.family a.variables.now a.terms.now) h.written _ _ came.1.0 came.1.1 came.0 c.put_header.ensures;
+    }
 
 pub returns : goal.returns
 returns c =
     let a = c.args in
-    puts_is (rows_all c.loop-i.invariant c.loop-i-test.false) (headers_rows a.family a.headers.now a.variables.now a.terms.now)
+    puts_is (rows_all (omega arith) (header_of a.family a.variables.now a.terms.now) c.loop-header.invariant.written c.in-None.ensures.steps.1.0)
+    (headers_rows a.family a.headers.now a.variables.now a.terms.now)

@@ -1,12 +1,12 @@
--- After i headers those are put with their terms and the others are left; a turn puts one header.
-use Prim.Native.Nat.{◌*◌, ◌-◌}
+-- The headers that came are written with their terms, and the words behind them are left, whose headers stand inside the lists; a turn writes one header.
+use Rattle.std.specs.Slice.Iter.{chunks_exact_rest, chunks_exact_size}
+use Rattle.listing.specs.Families.{width_of, header_of, HeadersInside}
 use Rattle.listing.proofs.Rows.{RowsDone}
-use Rattle.listing.proofs.Heads.{header_of}
 use Rattle.listing.proofs.headers.put_headers.Given as goal
 
-abbrev pub invariant-loop-i : goal.invariant-loop-i
-invariant-loop-i l =
-    RowsDone 4 (header_of l.family l.variables l.terms) l.headers 0 l.count l.initial.out l.at l.out l.next (4 * l.i) l.i
-
-abbrev pub decreases-loop-i : goal.decreases-loop-i
-decreases-loop-i l = l.count - l.i
+abbrev pub invariant-loop-header : goal.invariant-loop-header
+invariant-loop-header l = record {
+  inside : HeadersInside (width_of l.family) (chunks_exact_rest l.header-iterator) l.variables l.terms;
+  written : RowsDone 4 (header_of l.family l.variables l.terms) l.headers l.initial.out
+      (chunks_exact_size l.header-iterator) (chunks_exact_rest l.header-iterator) l.out;
+}
