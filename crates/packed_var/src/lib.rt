@@ -1,15 +1,15 @@
 // Packed variables, as PackedVar in monomial.rs.
 #![tactic(auto)]
 
-ghost use Rattle.std.specs.Prelude.{◌≡◌, ◌+◌, ◌*◌, ◌<◌, eqb, ltb};
+ghost use Rattle.std.specs.Prelude.{◌≡◌, ◌+◌, ◌*◌, ◌<◌};
 ghost use Rattle.semantics.specs.Call.{variable_call};
 ghost use Rattle.packed_var.specs.Packed.{variable_record, refused_for, packed_outcome};
 
 use answers::Refusal;
 use symbolic_variable::{Entry, SymbolicVariable};
 
-// A number with its own type: bits 0 to 3 type, 4 to 11 part, 12 to 15 offset, 16 to 31 column.
-#[derive(Clone, Copy)]
+// A number with its own type: bits 0 to 3 type, 4 to 11 part, 12 to 15 offset, 16 to 31 column. The order is the number's.
+#[derive(Clone, Copy, PartialEq, Eq, PartialOrd, Ord, Debug)]
 pub struct PackedVar(pub u32);
 
 #[derive(Clone, Copy)]
@@ -65,19 +65,6 @@ impl PackedVar {
             Entry::Public => Packed::Var(PackedVar::new(3, 0, 0, column)),
             Entry::Challenge => refused(9),
         }
-    }
-
-    // Two packed variables are compared by number.
-    pub fn below(self, other: PackedVar) -> bool
-        ensures { result ≡ ltb self.0 other.0 }
-    {
-        self.0 < other.0
-    }
-
-    pub fn same(self, other: PackedVar) -> bool
-        ensures { result ≡ eqb self.0 other.0 }
-    {
-        self.0 == other.0
     }
 
     pub fn is_first() -> Self

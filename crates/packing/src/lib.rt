@@ -80,7 +80,7 @@ pub fn unpack(v: PackedVar) -> Unpacked
             place: 0,
         });
     };
-    if again.same(v) {
+    if again == v {
         return Unpacked::Words(words);
     }
     Unpacked::Refused(Refusal {
