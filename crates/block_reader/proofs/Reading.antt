@@ -12,7 +12,7 @@ use lib.Seq.{drop-drop, length-take-le}
 use borrow.Author.Tests.{ltb-false}
 use Rattle.semantics.specs.Answer.{Answer, good, refused, and_then}
 use Rattle.semantics.specs.Block.{word_at, words_of, block_good, bad_length, read_blocks}
-use Rattle.semantics.specs.Call.{Result as Made, Outcome, outcome, result, reader_call}
+use Rattle.semantics.specs.Call.{Result as Made, Outcome, outcome, needs, result, reader_call}
 use Rattle.semantics.proofs.Blocks.{reader_is}
 use Rattle.semantics.proofs.Basics.{cond_true, cond_false}
 use Rattle.semantics.proofs.Calls.{needs_short}
@@ -141,14 +141,16 @@ module _ (bs o : List ℕ) {lent : ℕ} (l : length o ≡ lent) where
 
   pub length_bad : true ≡ bad_length (length bs) → rest_zeroed (Err (record { reason = WrongLength; place = 0 })) o ≡ reader_call bs (lent ∷ [])
   unfolding reader_call
-  length_bad b = refused_outcome o l _ ∙ ap (outcome [] (lent ∷ [])) (sym (cond_true (bad_length (length bs)) _ _ (sym b)))
+  length_bad b =
+      refused_outcome o l (record { reason = WrongLength; place = 0 })
+      ∙ ap (outcome [] (lent ∷ [])) (sym (cond_true (bad_length (length bs)) (refused 1 0) (needs 15 (127 * (length bs / 512)) lent reads) (sym b)))
 
   module _ (b : false ≡ bad_length (length bs)) where
     pub output_short : lent < 127 * (length bs / 512)
         → rest_zeroed (Err (record { reason = OutputTooShort; place = 127 * (length bs / 512) })) o ≡ reader_call bs (lent ∷ [])
     unfolding reader_call
     output_short h =
-        refused_outcome o l _
+        refused_outcome o l (record { reason = OutputTooShort; place = 127 * (length bs / 512) })
         ∙ ap (outcome [] (lent ∷ [])) (needs_short 15 _ lent reads h ∙ sym (cond_false (bad_length (length bs)) _ _ (sym b)))
 
     pub blocks_read : (r : Result ℕ Refusal) → 127 * (length bs / 512) ≤ lent → rest_zeroed r o ≡ words_outcome lent (read_blocks (length bs / 512) 0 bs)

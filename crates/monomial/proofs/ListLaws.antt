@@ -2,7 +2,7 @@
 use mathlib.Core.Path.{◌≡◌, refl, sym, ◌∙◌, ap, subst}
 use mathlib.Core.Bool.{Bool, true, false}
 use mathlib.Core.List.{List, [], ◌∷◌, ◌++◌, flat_map, append_assoc}
-use Prim.Native.Nat.{ℕ, suc, ◌+◌, ◌*◌, ◌-◌, ◌≤◌, ◌<◌, min}
+use Prim.Native.Nat.{ℕ, zero, suc, ◌+◌, ◌*◌, ◌-◌, ◌≤◌, min}
 use lib.Dec.{leb}
 use borrow.Author.Tests.{leb-true, leb-false}
 use native.Mathlib.Omega.{arith}
@@ -157,25 +157,27 @@ front_of words at n h = record {
     inside : at + (2 + vars_in words at + list_size ms) ≤ length words
     inside = omega (arith, h.inside, ap list_size (list_in_next words at n) ∙ size_cons (read_monomial (drop at words)) ms)
 
--- What is left of n monomials after i, at `from`; s is the number of variables of the next.
-module _ (words : List ℕ) (from n i : ℕ) (h : i < n) where
-  more : n - i ≡ suc (n - (i + 1))
-  more = omega arith
+-- The first of n monomials is read; s is the number of its variables.
+module _ (words : List ℕ) (at n s : ℕ) (h : n ≡ 0 → ⊥) where
+  one_more : n ≡ suc (n - 1)
+  one_more = omega arith
 
-  pub left_front : ListFits words from (n - i) → Front words from (n - (i + 1))
-  left_front l = front_of words from (n - (i + 1)) (subst (ListFits words from) more l)
+  pub first_front : ListFits words at n → Front words at (n - 1)
+  first_front l = front_of words at (n - 1) (subst (ListFits words at) one_more l)
 
-  pub left_cons : (s : ℕ) → s ≡ vars_in words from → list_in words from (n - i) ≡ read_monomial (drop from words) ∷ list_in words (from + 2 + s) (n - (i + 1))
-  left_cons s e =
-      ap (list_in words from) more ∙ list_in_next words from (n - (i + 1))
-      ∙ ap (λ (k : ℕ). read_monomial (drop from words) ∷ list_in words (from + 2 + k) (n - (i + 1))) (sym e)
+  module _ (e : s ≡ vars_in words at) where
+    behind : at + 2 + vars_in words at ≡ at + (2 + s)
+    behind = omega (arith, e)
 
-  pub left_rest : (s : ℕ) → s ≡ vars_in words from → ListFits words from (n - i) → ListFits words (from + 2 + s) (n - (i + 1))
-  left_rest s e l = subst (λ (k : ℕ). ListFits words (from + 2 + k) (n - (i + 1))) (sym e) (left_front l).rest
+    pub first_rest : ListFits words at n → ListFits words (at + (2 + s)) (n - 1)
+    first_rest l = subst (λ (k : ℕ). ListFits words k (n - 1)) behind (first_front l).rest
 
--- All or none is left.
-pub left_all : (words : List ℕ) (at n : ℕ) → ListFits words at n → ListFits words at (n - 0)
-left_all words at n l = let z : n ≡ n - 0 = omega arith in subst (ListFits words at) z l
+    pub first_cons : list_in words at n ≡ read_monomial (drop at words) ∷ list_in words (at + (2 + s)) (n - 1)
+    first_cons =
+        ap (list_in words at) one_more ∙ list_in_next words at (n - 1)
+        ∙ ap (λ (k : ℕ). read_monomial (drop at words) ∷ list_in words k (n - 1)) behind
 
-pub none_left : (words : List ℕ) (from n i : ℕ) → n ≤ i → list_in words from (n - i) ≡ []
-none_left words from n i h = let z : n - i ≡ 0 = omega arith in ap (list_in words from) z ∙ list_zero (drop from words)
+pub list_length : (n : ℕ) (ws : List ℕ) → length (read_list n ws) ≡ n
+unfolding read_list
+list_length zero ws = refl
+list_length (suc n) ws = ap suc (list_length n (drop (2 + get_or ws 0 0) ws))

@@ -5,9 +5,12 @@ use mathlib.Core.List.{List, [], ◌∷◌, ◌++◌, append_assoc, append-nil}
 use Prim.Native.Nat.{ℕ, suc, ◌+◌, ◌-◌, ◌≤◌, ◌<◌}
 use native.Mathlib.Omega.{arith}
 use lib.Dec.{ltb}
-use lib.ListN.{length, get_or, take, drop, set, length-map, get_or-map}
+use lib.ListN.{length, get_or, take, drop, set, length-map, length-set, get_or-map}
 use lib.Seq.{drop-cons, take-suc-set}
 use borrow.Author.Tests.{ltb-true, ltb-false, lt-ltb, le-ltb}
+use Rattle.slices.proofs.Lists.{map_set}
+use Rattle.std.proofs.lemmas.Bool.Decides.{nat_tests}
+use Rattle.std.specs.Ordering.{nat_cmp, is_lt}
 use Rattle.semantics.specs.Monomial.{above, insert_sorted, sort}
 use Rattle.semantics.specs.Lists.{All, Ahead, Sorted}
 use Rattle.semantics.proofs.Basics.{by_test, cond_true, cond_false}
@@ -153,23 +156,66 @@ module _ (vs us : List PackedVar) (i n j m : ℕ) (es : length vs ≡ 14) (ed : 
       let e = takes_right vs us i n j m (omega (arith, length-map vs num)) (omega (arith, length-map us num)) l (λ q. omega (arith, h q)) in
       (omega arith, omega arith, omega arith, subst (λ (v : ℕ). Takes vs us i n j m v 0) y e)
 
--- What is written so far, and what remains, are the two lists merged.
-abbrev pub Merging : (r : List ℕ) (vs us : List PackedVar) (i n j m : ℕ) → Type 0
-Merging r vs us i n j m = take (i + j) r ++ merged_rest vs i n us j m ≡ merged (take n (nums vs)) (take m (nums us))
+-- The first k are written, i of them from the left list: they and what remains are the two lists merged.
+abbrev pub Merging : (r : List ℕ) (vs us : List PackedVar) (i n k m : ℕ) → Type 0
+Merging r vs us i n k m = take k r ++ merged_rest vs i n us (k - i) m ≡ merged (take n (nums vs)) (take m (nums us))
 
-pub merging_more : (r : List ℕ) (vs us : List PackedVar) (i n j m v l : ℕ) → i + j < length r → l ≤ 1 → Merging r vs us i n j m → Takes vs us i n j m v l
-    → Merging (set r (i + j) v) vs us (i + l) n (j + (1 - l)) m
-merging_more r vs us i n j m v l h k e q =
-    let c : i + l + (j + (1 - l)) ≡ suc (i + j) = omega arith in
-    let rest : List ℕ = merged_rest vs (i + l) n us (j + (1 - l)) m in
-    ap (λ (x : ℕ). take x (set r (i + j) v) ++ rest) c ∙ ap (λ (t : List ℕ). t ++ rest) (take-suc-set r (i + j) v h)
-    ∙ append_assoc (take (i + j) r) (v ∷ []) rest ∙ ap (λ (t : List ℕ). take (i + j) r ++ t) (sym q) ∙ e
+pub merging_more : (r : List ℕ) (vs us : List PackedVar) (i n k m v l : ℕ) → k < length r → i ≤ k → l ≤ 1 → Merging r vs us i n k m → Takes vs us i n (k - i) m v l
+    → Merging (set r k v) vs us (i + l) n (k + 1) m
+merging_more r vs us i n k m v l h o b e q =
+    let c : k + 1 ≡ suc k = omega arith in
+    let d : k + 1 - (i + l) ≡ k - i + (1 - l) = omega arith in
+    let rest : List ℕ = merged_rest vs (i + l) n us (k - i + (1 - l)) m in
+    (λ t. take (c t) (set r k v) ++ merged_rest vs (i + l) n us (d t) m) ∙ ap (λ (t : List ℕ). t ++ rest) (take-suc-set r k v h)
+    ∙ append_assoc (take k r) (v ∷ []) rest ∙ ap (λ (t : List ℕ). take k r ++ t) (sym q) ∙ e
 
-pub merging_all : (r : List ℕ) (vs us : List PackedVar) (i n j m : ℕ) → i ≤ n → j ≤ m → n + m ≤ i + j → Merging r vs us i n j m
+pub merging_all : (r : List ℕ) (vs us : List PackedVar) (i n k m : ℕ) → n ≤ i → m ≤ k - i → k ≡ n + m → Merging r vs us i n k m
     → Sorted above (take n (nums vs)) → Sorted above (take m (nums us)) → take (n + m) r ≡ sort above (take n (nums vs) ++ take m (nums us))
 unfolding merged
-merging_all r vs us i n j m h k l e a b =
-    let c : n + m ≡ i + j = omega arith in
-    let z : merged_rest vs i n us j m ≡ [] = λ t. merged (remaining_nil n i vs (omega arith) t) (remaining_nil m j us (omega arith) t) in
-    ap (λ (x : ℕ). take x r) c ∙ sym (append-nil (take (i + j) r)) ∙ ap (λ (t : List ℕ). take (i + j) r ++ t) (sym z) ∙ e
+merging_all r vs us i n k m h l c e a b =
+    let z : merged_rest vs i n us (k - i) m ≡ [] = λ t. merged (remaining_nil n i vs h t) (remaining_nil m (k - i) us l t) in
+    ap (λ (x : ℕ). take x r) (sym c) ∙ sym (append-nil (take k r)) ∙ ap (λ (t : List ℕ). take k r ++ t) (sym z) ∙ e
     ∙ merged_is (take n (nums vs)) (take m (nums us)) a b
+
+-- Fourteen places written so far: k of them, i from the left list.
+pub record MergedTo (vs us rs : List PackedVar) (i n k m : ℕ) : Type 0 where
+  pub i_le : i ≤ n
+  pub i_k : i ≤ k
+  pub k_le : k ≤ i + m
+  pub places : length rs ≡ 14
+  pub merging : Merging (nums rs) vs us i n k m
+
+module _ (vs us rs : List PackedVar) (i n k m : ℕ) (es : length vs ≡ 14) (ed : length us ≡ 14) (room : n + m ≤ 14) (g : MergedTo vs us rs i n k m) where
+  -- One more is taken from the list that l says.
+  taken_more : (v : PackedVar) (l : ℕ) → k < 14 → TakesVar vs us i n (k - i) m v l → (rs₁ : List PackedVar) → rs₁ ≡ set rs k v → (i₁ : ℕ) → i₁ ≡ i + l
+      → MergedTo vs us rs₁ i₁ n (k + 1) m
+  taken_more v l h t rs₁ e i₁ q = record {
+    i_le = omega (arith, t.1);
+    i_k = omega (arith, g.i_k, t.0);
+    k_le = omega (arith, t.0, t.2, g.i_k, g.k_le);
+    places = ap length e ∙ length-set rs k v ∙ g.places;
+    merging = rw (e, q, map_set num rs k v) (merging_more (nums rs) vs us i n k m (num v) l (omega (arith, length-map rs num, g.places)) g.i_k t.0 g.merging t.3);
+  }
+
+  pub right_taken : k < n + m → k - i < m → (i < n → num (get_or us (k - i) no_var) < num (get_or vs i no_var)) → (rs₁ : List PackedVar)
+      → rs₁ ≡ set rs k (get_or us (k - i) no_var) → (i₁ : ℕ) → i₁ ≡ i → MergedTo vs us rs₁ i₁ n (k + 1) m
+  right_taken h d c rs₁ e i₁ q =
+      taken_more (get_or us (k - i) no_var) 0 (omega arith) (var_right vs us i n (k - i) m es ed (omega arith) (omega arith) g.i_le d c) rs₁ e i₁ (omega (arith, q))
+
+  pub left_taken : k < n + m → i < n → (k - i < m → num (get_or vs i no_var) ≤ num (get_or us (k - i) no_var)) → (rs₁ : List PackedVar)
+      → rs₁ ≡ set rs k (get_or vs i no_var) → (i₁ : ℕ) → i₁ ≡ i + 1 → MergedTo vs us rs₁ i₁ n (k + 1) m
+  left_taken h d c rs₁ e i₁ q =
+      taken_more (get_or vs i no_var) 1 (omega arith) (var_left vs us i n (k - i) m es ed (omega arith) (omega arith) d (omega (arith, g.k_le)) c) rs₁ e i₁ q
+
+-- What the comparison of two variables says.
+pub lower_told : (x y : ℕ) (b c : Bool) → c ≡ is_lt (nat_cmp x y) → b ≡ c → b ≡ true → x < y
+lower_told x y b c e p q = is_lower x y (sym e ∙ sym p ∙ q)
+  where
+    is_lower : (x y : ℕ) → is_lt (nat_cmp x y) ≡ true → x < y
+    is_lower x y h = grind (arith, nat_tests)
+
+pub lower_denied : (x y : ℕ) (b c : Bool) → c ≡ is_lt (nat_cmp x y) → b ≡ c → b ≡ false → y ≤ x
+lower_denied x y b c e p q = is_not x y (sym e ∙ sym p ∙ q)
+  where
+    is_not : (x y : ℕ) → is_lt (nat_cmp x y) ≡ false → y ≤ x
+    is_not x y h = grind (arith, nat_tests)

@@ -1,102 +1,65 @@
 -- The order of two variable lists, found number by number.
-use mathlib.Core.Path.{◌≡◌, refl, sym, ap, subst, ◌∙◌}
+use mathlib.Core.Path.{◌≡◌, refl, ◌∙◌}
 use mathlib.Core.Bool.{Bool, true, false}
-use mathlib.Core.List.{List, [], ◌∷◌}
-use Prim.Native.Nat.{ℕ, zero, suc, ◌≤◌, ◌<◌}
+use mathlib.Core.List.{List, ◌∷◌}
+use Prim.Native.Nat.{ℕ}
 use native.Mathlib.Omega.{arith}
-use lib.ListN.{length, get_or, take}
-use lib.Seq.{take-take, get_or-take, length-take-le}
+use lib.ListN.{length}
+use Rattle.std.proofs.lemmas.Bool.Decides.{nat_tests}
+use Rattle.std.proofs.lemmas.Cmp.{same_from_slice_cmp}
+use Rattle.std.specs.Cmp.Lexicographic.{slice_cmp}
+use Rattle.std.specs.Ordering.{nat_cmp, is_lt, is_gt}
+use Rattle.std.specs.declared.cmp.Ordering.{Ordering}
+use Rattle.std.specs.declared.cmp.Ordering.TheVariants.{Less, Equal, Greater}
 use Rattle.semantics.specs.Monomial.{before, before_vars}
-use Rattle.semantics.proofs.Order.{lex_head, lex_tail, before_vars_irrefl, before_vars_asym, before_vars_total}
-use Rattle.monomial.specs.declared.vars.Order.TheVariants.{Before, Same, After}
+use Rattle.semantics.proofs.Order.{before_vars_total}
 use Rattle.monomial.specs.Orders.{chosen, order_of}
 
--- The answer, by what is known of the lists.
+-- What std's order of lists of numbers says of "number by number".
+before_is : (xs ys : List ℕ) (o : Ordering) → o ≡ slice_cmp nat_cmp xs ys → is_lt o ≡ before xs ys
+unfolding before
+before_is = same_from_slice_cmp nat_cmp is_lt before refl (λ _ _. refl) (λ _ _. refl) (λ x y xs ys o h. grind (arith, nat_tests))
+
+after_is : (xs ys : List ℕ) (o : Ordering) → o ≡ slice_cmp nat_cmp xs ys → is_gt o ≡ before ys xs
+unfolding before
+after_is = same_from_slice_cmp nat_cmp is_gt (λ xs ys. before ys xs) refl (λ _ _. refl) (λ _ _. refl) (λ x y xs ys o h. grind (arith, nat_tests))
+
+told : (o : Ordering) → o ≡ chosen (is_lt o) Less (chosen (is_gt o) Greater Equal)
+told Less = refl
+told Equal = refl
+told Greater = refl
+
+-- std's order of the lists with their lengths in front.
+pub order_is : (xs ys : List ℕ) (o : Ordering) → o ≡ slice_cmp nat_cmp (length xs ∷ xs) (length ys ∷ ys) → o ≡ order_of xs ys
+unfolding order_of before_vars
+order_is xs ys o e =
+    told o ∙ λ i. chosen (before_is (length xs ∷ xs) (length ys ∷ ys) o e i) Less (chosen (after_is (length xs ∷ xs) (length ys ∷ ys) o e i) Greater Equal)
+
+-- What is known of the lists, by the answer.
 module _ (xs ys : List ℕ) where
-  pub is_before : before_vars xs ys ≡ true → Before ≡ order_of xs ys
+  pub from_less : order_of xs ys ≡ Less → before_vars xs ys ≡ true
   unfolding order_of
-  is_before h = rw h
-
-  pub is_after : before_vars ys xs ≡ true → After ≡ order_of xs ys
-  unfolding order_of
-  is_after h = rw (before_vars_asym ys xs h, h)
-
-  pub is_same : xs ≡ ys → Same ≡ order_of xs ys
-  unfolding order_of
-  is_same e = subst (λ (zs : List ℕ). Same ≡ chosen (before_vars xs zs) Before (chosen (before_vars zs xs) After Same)) e (rw (before_vars_irrefl xs))
-
-  -- What is known of the lists, by the answer.
-  pub from_before : order_of xs ys ≡ Before → before_vars xs ys ≡ true
-  unfolding order_of
-  from_before = go (before_vars xs ys) (before_vars ys xs)
+  from_less = go (before_vars xs ys) (before_vars ys xs)
     where
-      go : (s t : Bool) → chosen s Before (chosen t After Same) ≡ Before → s ≡ true
+      go : (s t : Bool) → chosen s Less (chosen t Greater Equal) ≡ Less → s ≡ true
       go true t e = refl
       go false true e = let z : ◌≡◌ {A = ℕ} 0 1 = cc in absurd (omega arith)
       go false false e = let z : ◌≡◌ {A = ℕ} 0 1 = cc in absurd (omega arith)
 
-  pub from_after : order_of xs ys ≡ After → before_vars ys xs ≡ true
+  pub from_greater : order_of xs ys ≡ Greater → before_vars ys xs ≡ true
   unfolding order_of
-  from_after = go (before_vars xs ys) (before_vars ys xs)
+  from_greater = go (before_vars xs ys) (before_vars ys xs)
     where
-      go : (s t : Bool) → chosen s Before (chosen t After Same) ≡ After → t ≡ true
+      go : (s t : Bool) → chosen s Less (chosen t Greater Equal) ≡ Greater → t ≡ true
       go true t e = let z : ◌≡◌ {A = ℕ} 0 1 = cc in absurd (omega arith)
       go false true e = refl
       go false false e = let z : ◌≡◌ {A = ℕ} 0 1 = cc in absurd (omega arith)
 
-  pub from_same : order_of xs ys ≡ Same → xs ≡ ys
+  pub from_equal : order_of xs ys ≡ Equal → xs ≡ ys
   unfolding order_of
-  from_same e = before_vars_total xs ys (go (before_vars xs ys) (before_vars ys xs) e).0 (go (before_vars xs ys) (before_vars ys xs) e).1
+  from_equal e = before_vars_total xs ys (go (before_vars xs ys) (before_vars ys xs) e).0 (go (before_vars xs ys) (before_vars ys xs) e).1
     where
-      go : (s t : Bool) → chosen s Before (chosen t After Same) ≡ Same → (s ≡ false) × (t ≡ false)
+      go : (s t : Bool) → chosen s Less (chosen t Greater Equal) ≡ Equal → (s ≡ false) × (t ≡ false)
       go true t e = let z : ◌≡◌ {A = ℕ} 0 1 = cc in absurd (omega arith)
       go false true e = let z : ◌≡◌ {A = ℕ} 0 1 = cc in absurd (omega arith)
       go false false e = (refl, refl)
-
--- The first number that differs decides.
-lex_at : (xs ys : List ℕ) (i : ℕ) → i < length xs → i < length ys → take i xs ≡ take i ys → get_or xs i 0 < get_or ys i 0 → before xs ys ≡ true
-lex_at [] ys i h k e l = absurd (omega arith)
-lex_at (x ∷ xs) [] i h k e l = absurd (omega arith)
-lex_at (x ∷ xs) (y ∷ ys) zero h k e l = lex_head x y xs ys l
-lex_at (x ∷ xs) (y ∷ ys) (suc i) h k e l = lex_tail x y xs ys (cc) (lex_at xs ys i (omega arith) (omega arith) (cc) l)
-
-differs : (xs ys : List ℕ) (i : ℕ) → length xs ≡ length ys → i < length xs → take i xs ≡ take i ys → get_or xs i 0 < get_or ys i 0 → before_vars xs ys ≡ true
-unfolding before_vars
-differs xs ys i q h e l = lex_tail (length xs) (length ys) xs ys q (lex_at xs ys i h (omega arith) e l)
-
--- The first n of one list, and the first m of another.
-module _ (s d : List ℕ) (n m : ℕ) (hs : n ≤ length s) (hd : m ≤ length d) where
-  pub at_shorter : n < m → Before ≡ order_of (take n s) (take m d)
-  unfolding before_vars
-  at_shorter h =
-      is_before (take n s) (take m d)
-      (lex_head (length (take n s)) (length (take m d)) (take n s) (take m d) (omega (arith, length-take-le n s hs, length-take-le m d hd)))
-
-  pub at_longer : m < n → After ≡ order_of (take n s) (take m d)
-  unfolding before_vars
-  at_longer h =
-      is_after (take n s) (take m d)
-      (lex_head (length (take m d)) (length (take n s)) (take m d) (take n s) (omega (arith, length-take-le n s hs, length-take-le m d hd)))
-
-  pub at_same : n ≡ m → (i : ℕ) → i ≡ n → take i s ≡ take i d → Same ≡ order_of (take n s) (take m d)
-  at_same q i k e = is_same (take n s) (take m d) (ap (λ (j : ℕ). take j s) (sym k) ∙ e ∙ ap (λ (j : ℕ). take j d) (k ∙ q))
-
-  module _ (q : n ≡ m) (i : ℕ) (h : i < n) (e : take i s ≡ take i d) where
-    parts_alike : take i (take n s) ≡ take i (take m d)
-    parts_alike = take-take i n s (omega arith) ∙ e ∙ sym (take-take i m d (omega arith))
-
-    pub at_less : get_or s i 0 < get_or d i 0 → Before ≡ order_of (take n s) (take m d)
-    at_less l =
-        let a = length-take-le n s hs in
-        let b = length-take-le m d hd in
-        let u = get_or-take n s i 0 h in
-        let v = get_or-take m d i 0 (omega arith) in
-        is_before (take n s) (take m d) (differs (take n s) (take m d) i (omega arith) (omega arith) parts_alike (omega arith))
-
-    pub at_more : get_or d i 0 < get_or s i 0 → After ≡ order_of (take n s) (take m d)
-    at_more l =
-        let a = length-take-le n s hs in
-        let b = length-take-le m d hd in
-        let u = get_or-take n s i 0 h in
-        let v = get_or-take m d i 0 (omega arith) in
-        is_after (take n s) (take m d) (differs (take m d) (take n s) i (omega arith) (omega arith) (sym parts_alike) (omega arith))

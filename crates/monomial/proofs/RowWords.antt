@@ -2,36 +2,15 @@
 use mathlib.Core.Path.{◌≡◌, refl, sym, ◌∙◌, ap}
 use mathlib.Core.List.{List, [], ◌∷◌, ◌++◌, append_assoc, append-nil}
 use Prim.Native.Nat.{ℕ, ◌+◌, ◌*◌, ◌-◌, ◌≤◌, ◌<◌, min}
-use native.Mathlib.Numerals.{add-one}
 use native.Mathlib.Omega.{arith}
-use lib.ListN.{length, get_or, take, drop, set, length-set, length-take, length-drop}
-use lib.Seq.{take_at, drop_at, drop-drop, take-add, get_or-drop, get_or-take, drop-append-add, paste, paste-suc}
+use lib.ListN.{length, get_or, take, drop, length-take, length-drop}
+use lib.Seq.{take_at, drop_at, drop-drop, take-add, get_or-drop, get_or-take, drop-append-add}
 use Rattle.slices.proofs.Lists.{take_min, get_or_front}
 use Rattle.semantics.specs.Monomial.{Monomial}
 use Rattle.semantics.specs.Expand.{list_size}
 use Rattle.monomial.specs.Words.{monomial_words, list_words, read_monomial, held}
 use Rattle.monomial.proofs.ListLaws.{words_nil, words_cons, words_append, words_length, size_append, size_nil}
 use Rattle.monomial.proofs.Sizes.{row_of, held_zero, held_more, held_parts, row_count, size_more}
-
--- The first i words copied.
-pub record Copying (list : List ℕ) (from n : ℕ) (out₀ : List ℕ) (at : ℕ) (out : List ℕ) (i : ℕ) : Type 0 where
-  pub i_le : i ≤ n
-  pub length_is : length out ≡ length out₀
-  pub out_is : out ≡ paste out₀ at (drop from list) i
-
-module _ (list : List ℕ) (from n : ℕ) (out₀ : List ℕ) (at : ℕ) where
-  pub copying_more : (out : List ℕ) (i : ℕ) → from + n ≤ length list → at + n ≤ length out₀ → Copying list from n out₀ at out i → i < n
-      → Copying list from n out₀ at (set out (at + i) (get_or list (from + i) 0)) (i + 1)
-  copying_more out i l r g h =
-      let d : i < length (drop from list) = omega (arith, length-drop from list) in
-      record {
-        i_le = omega arith;
-        length_is = length-set out (at + i) (get_or list (from + i) 0) ∙ g.length_is;
-        out_is =
-            ap (λ (x : ℕ). set out (at + i) x) (sym (get_or-drop from list i 0))
-            ∙ ap (λ (x : List ℕ). set x (at + i) (get_or (drop from list) i 0)) g.out_is
-            ∙ paste-suc out₀ at (drop from list) i 0 (omega arith) d ∙ ap (paste out₀ at (drop from list)) (sym (add-one i));
-      }
 
 -- The words of a row's monomial.
 row_vars_lem : (work : List ℕ) (k s : ℕ) → 16 * k + 16 ≤ length work → s ≡ min (get_or work (16 * k) 0) 14 → (row_of work k).vars ≡ take s (drop (16 * k + 2) work)
@@ -83,9 +62,12 @@ module _ (work : List ℕ) (count : ℕ) (out₀ : List ℕ) (inside : 16 * coun
 
     pub written_more : (out₁ : List ℕ) → length out₁ ≡ length out
         → out₁ ≡ take at out ++ ((s ∷ get_or work (16 * k + 1) 0 ∷ take s (drop (16 * k + 2) work)) ++ drop (at + 2 + s) out)
-        → Written work count out₀ out₁ (at + 2 + s) (k + 1)
-    written_more out₁ l q = record { k_le = omega arith; length_is = l ∙ g.length_is; at_is = next_at; out_is = all }
+        → Written work count out₀ out₁ (at + (2 + s)) (k + 1)
+    written_more out₁ l q = record { k_le = omega arith; length_is = l ∙ g.length_is; at_is = omega (arith, next_at); out_is = all ∙ ap (λ (n : ℕ). list_words (held (k + 1) work) ++ drop n out₀) near }
       where
+        near : at + 2 + s ≡ at + (2 + s)
+        near = omega arith
+
         W : List ℕ
         W = list_words (held k work)
 

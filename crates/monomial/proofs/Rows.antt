@@ -1,22 +1,14 @@
 -- The rows of the work list, and a monomial's words.
 use mathlib.Core.Path.{◌≡◌, ap, ◌∙◌}
 use mathlib.Core.List.{List, [], ◌∷◌, ◌++◌, map, map-append}
-use Prim.Native.Nat.{ℕ, suc, ◌+◌, ◌*◌, ◌≤◌, ◌<◌}
+use Prim.Native.Nat.{ℕ, ◌+◌, ◌*◌, ◌≤◌, ◌<◌}
 use native.Mathlib.Omega.{arith}
-use lib.ListN.{length, get_or, take, drop, set, length-map}
-use lib.Seq.{paste, paste-suc}
+use lib.ListN.{length, get_or, take, drop, length-map}
 use Rattle.slices.specs.Rows.{rows}
 use Rattle.slices.proofs.Rows.{rows_length, rows_at, rows_split, rows_after, rows_cons}
 use Rattle.semantics.specs.Monomial as semantics
 use Rattle.semantics.proofs.Lists.{get_or_map}
 use Rattle.monomial.specs.Words.{read_monomial, held}
-
--- A list stored in place: one more element.
-pub stored : (ws vs us : List ℕ) (at i v : ℕ) → us ≡ paste ws at vs i → v ≡ get_or vs i 0 → at + i < length ws → i < length vs
-    → set us (at + i) v ≡ paste ws at vs (i + 1)
-stored ws vs us at i v e q h k =
-    let n : suc i ≡ i + 1 = omega arith in
-    (λ t. set (e t) (at + i) (q t)) ∙ paste-suc ws at vs i 0 h k ∙ ap (paste ws at vs) n
 
 -- The work list, row by row.
 pub held_length : (n : ℕ) (ws : List ℕ) → length (held n ws) ≡ n

@@ -3,22 +3,22 @@ use mathlib.Core.Path.{◌≡◌, refl, sym, ap, subst, ◌∙◌}
 use mathlib.Core.Logic.{⊎_elim}
 use mathlib.Core.Bool.{true}
 use mathlib.Core.List.{List, [], ◌∷◌}
-use Prim.Native.Nat.{ℕ, zero, suc, ◌+◌, ◌*◌, ◌≤◌, ◌<◌, min}
+use Prim.Native.Nat.{ℕ, zero, suc, ◌+◌, ◌*◌, ◌-◌, ◌≤◌, ◌<◌, min}
 use native.Mathlib.Nat.{eq-or-lt_of_le}
 use native.Mathlib.Omega.{arith}
 use lib.ListN.{length, get_or, take, drop}
 use lib.Seq.{take_all, get_or-take, get_or-drop, drop-drop}
+use Rattle.std.specs.declared.cmp.Ordering.{Ordering}
+use Rattle.std.specs.declared.cmp.Ordering.TheVariants.{Less, Equal, Greater}
 use Rattle.slices.proofs.Lists.{take_min}
 use Rattle.semantics.specs.Monomial.{Asc, Monomial, before_vars}
 use Rattle.semantics.proofs.Combining.{Above}
 use Rattle.semantics.proofs.Order.{before_vars_trans}
 use Rattle.monomial.specs.Words.{read_monomial, held}
-use Rattle.monomial.specs.declared.vars.Order.{Order}
-use Rattle.monomial.specs.declared.vars.Order.TheVariants.{Before, Same, After}
 use Rattle.monomial.specs.Orders.{order_of}
 use Rattle.monomial.specs.Places.{one, vars_at, FirstBefore, RestAfter}
 use Rattle.monomial.proofs.Rows.{held_at, held_length}
-use Rattle.monomial.proofs.Orderings.{from_before, from_after, from_same}
+use Rattle.monomial.proofs.Orderings.{from_less, from_greater, from_equal}
 
 above_at : (v : List ℕ) (ms : List Monomial) → Above v ms → (j : ℕ) → j < length ms → before_vars v (vars_at ms j) ≡ true
 above_at v [] a j h = absurd (omega arith)
@@ -64,24 +64,26 @@ slot_vars ws k n h =
     ap (λ (m : Monomial). m.vars) (held_at n k ws one h) ∙ (λ t. take (c t) (d t)) ∙ take_min (get_or ws (16 * k) 0) 14 (drop (16 * k + 2) ws)
 
 -- A monomial with the variables that are looked for.
-abbrev pub sought : (numbers : List ℕ) (n : ℕ) → Monomial
-sought numbers n = record { vars = take n numbers; coef = 0 }
+abbrev pub sought : (numbers : List ℕ) → Monomial
+sought numbers = record { vars = numbers; coef = 0 }
 
--- What a comparison with slot k says.
-module _ (x : Monomial) (ws : List ℕ) (k n : ℕ) (h : k < n) (c : ℕ) (e : c ≡ min (get_or ws (16 * k) 0) 14) (o : Order)
-    (q : o ≡ order_of x.vars (take c (drop (16 * k + 2) ws))) where
-  slot_is : vars_at (held n ws) k ≡ take c (drop (16 * k + 2) ws)
-  slot_is = slot_vars ws k n h ∙ ap (λ (j : ℕ). take j (drop (16 * k + 2) ws)) (sym e)
+-- What a comparison with slot k says, whose variables stand from 16 * k + 2 on.
+module _ (x : Monomial) (ws : List ℕ) (k n : ℕ) (h : k < n) (c : ℕ) (e : c ≡ min (get_or ws (16 * k) 0) 14) (o : Ordering)
+    (q : o ≡ order_of x.vars (take (16 * k + 2 + c - (16 * k + 2)) (drop (16 * k + 2) ws))) where
+  slot_is : vars_at (held n ws) k ≡ take (16 * k + 2 + c - (16 * k + 2)) (drop (16 * k + 2) ws)
+  slot_is =
+      let f : min (get_or ws (16 * k) 0) 14 ≡ 16 * k + 2 + c - (16 * k + 2) = omega (arith, e) in
+      slot_vars ws k n h ∙ ap (λ (j : ℕ). take j (drop (16 * k + 2) ws)) f
 
-  pub found_same : o ≡ Same → vars_at (held n ws) k ≡ x.vars
-  found_same s = slot_is ∙ sym (from_same x.vars (take c (drop (16 * k + 2) ws)) (sym q ∙ s))
+  pub found_equal : o ≡ Equal → vars_at (held n ws) k ≡ x.vars
+  found_equal s = slot_is ∙ sym (from_equal x.vars _ (sym q ∙ s))
 
-  pub found_after : Asc (held n ws) → o ≡ After → FirstBefore x (held n ws) (k + 1)
-  found_after a s =
+  pub found_greater : Asc (held n ws) → o ≡ Greater → FirstBefore x (held n ws) (k + 1)
+  found_greater a s =
       lower_half x (held n ws) a k (omega (arith, held_length n ws))
-      (ap (λ (v : List ℕ). before_vars v x.vars) slot_is ∙ from_after x.vars (take c (drop (16 * k + 2) ws)) (sym q ∙ s))
+      (ap (λ (v : List ℕ). before_vars v x.vars) slot_is ∙ from_greater x.vars _ (sym q ∙ s))
 
-  pub found_before : Asc (held n ws) → o ≡ Before → RestAfter x (held n ws) k
-  found_before a s =
+  pub found_less : Asc (held n ws) → o ≡ Less → RestAfter x (held n ws) k
+  found_less a s =
       upper_half x (held n ws) a k (omega (arith, held_length n ws))
-      (ap (before_vars x.vars) slot_is ∙ from_before x.vars (take c (drop (16 * k + 2) ws)) (sym q ∙ s))
+      (ap (before_vars x.vars) slot_is ∙ from_less x.vars _ (sym q ∙ s))

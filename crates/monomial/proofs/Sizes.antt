@@ -9,9 +9,9 @@ use Rattle.slices.specs.Rows.{rows}
 use Rattle.slices.proofs.Lists.{get_or_front}
 use Rattle.semantics.specs.Monomial.{Monomial}
 use Rattle.semantics.specs.Expand.{list_size}
-use Rattle.monomial.specs.Words.{read_monomial, list_in, longest_of, longest_in, held, ListFits}
+use Rattle.monomial.specs.Words.{read_monomial, longest_of, held}
 use Rattle.monomial.proofs.Rows.{held_split}
-use Rattle.monomial.proofs.ListLaws.{size_nil, size_cons, size_append, vars_in, left_cons, left_rest, none_left}
+use Rattle.monomial.proofs.ListLaws.{size_nil, size_cons, size_append}
 
 pub longest_cons : (m : Monomial) (ms : List Monomial) → longest_of (m ∷ ms) ≡ max (length m.vars) (longest_of ms)
 unfolding longest_of
@@ -20,31 +20,6 @@ longest_cons m ms = refl
 pub longest_nil : longest_of [] ≡ 0
 unfolding longest_of
 longest_nil = refl
-
--- The longest of what is left is the next or one behind it; s is the number of variables of the next.
-pub longest_left : (pool : List ℕ) (from n i s : ℕ) → i < n → s ≡ vars_in pool from
-    → longest_in pool from (n - i) ≡ max s (longest_in pool (from + 2 + s) (n - (i + 1)))
-longest_left pool from n i s h e =
-    ap longest_of (left_cons pool from n i h s e) ∙ longest_cons (read_monomial (drop from pool)) (list_in pool (from + 2 + s) (n - (i + 1)))
-    ∙ ap (λ (k : ℕ). max k (longest_in pool (from + 2 + s) (n - (i + 1)))) (sym e)
-
--- The longest so far and the longest of what is left.
-pub record Longest (pool : List ℕ) (at n most from i : ℕ) : Type 0 where
-  pub i_le : i ≤ n
-  pub left : ListFits pool from (n - i)
-  pub most_is : max most (longest_in pool from (n - i)) ≡ longest_in pool at n
-
-module _ (pool : List ℕ) (at n : ℕ) where
-  pub longest_more : (most from i s next : ℕ) → Longest pool at n most from i → i < n → s ≡ vars_in pool from → next ≡ max most s
-      → Longest pool at n next (from + 2 + s) (i + 1)
-  longest_more most from i s next l h e f = record {
-    i_le = omega arith;
-    left = left_rest pool from n i h s e l.left;
-    most_is = omega (arith, longest_left pool from n i s h e, f, l.most_is);
-  }
-
-  pub longest_done : (most from i : ℕ) → Longest pool at n most from i → n ≤ i → most ≡ longest_in pool at n
-  longest_done most from i l h = omega (arith, l.most_is, ap longest_of (none_left pool from n i h) ∙ longest_nil)
 
 -- The work list row by row.
 unfoldable pub row_of : (work : List ℕ) (k : ℕ) → Monomial
@@ -94,7 +69,7 @@ size_more work k s h e =
     omega (arith, ap list_size (held_more k work) ∙ size_append (held k work) (row_of work k ∷ []), size_cons (row_of work k) [], size_nil, row_count work k h, e)
 
 pub sized_more : (work : List ℕ) (count total k s : ℕ) → Sized work count total k → k < count → 16 * count ≤ length work → s ≡ min (get_or work (16 * k) 0) 14
-    → Sized work count (total + 2 + s) (k + 1)
+    → Sized work count (total + (2 + s)) (k + 1)
 sized_more work count total k s z h l e = record {
   k_le = omega arith;
   total_is = omega (arith, z.total_is, size_more work k s (omega arith) e);

@@ -1,57 +1,47 @@
 -- Loops over a list in the words: its monomials negated one by one, and summed one by one.
-use mathlib.Core.Path.{◌≡◌, refl, sym, ◌∙◌, ap}
+use mathlib.Core.Path.{◌≡◌, refl, sym, ◌∙◌, ap, subst}
 use mathlib.Core.Bool.{Bool, true, false}
 use mathlib.Core.List.{List, [], ◌∷◌, ◌++◌, map, append-nil, append_assoc}
-use Prim.Native.Nat.{ℕ, ◌+◌, ◌-◌, ◌≤◌, ◌<◌}
+use Prim.Native.Nat.{ℕ, ◌+◌, ◌≤◌}
 use native.Mathlib.Omega.{arith}
-use lib.ListN.{length, get_or, drop}
+use lib.ListN.{length, get_or}
 use Rattle.semantics.specs.Arithmetic.{prime}
 use Rattle.semantics.specs.Monomial.{Monomial, neg_monomial, insert_monomial}
 use Rattle.semantics.proofs.Combining.{asc_insert}
-use Rattle.monomial.specs.Words.{read_monomial, list_in, held, insert_all, negated_if, Fits, ListFits, Summed}
+use Rattle.semantics.specs.Lists.{All}
+use Rattle.monomial.specs.Words.{held, insert_all, negated_if, Fits, Summed}
 use Rattle.monomial.proofs.Canons.{sum_nil, sum_cons, fits_insert, fits_negative}
-use Rattle.monomial.proofs.ListLaws.{vars_in, left_cons, left_rest, left_all, none_left}
 use Rattle.monomial.proofs.Sizes.{held_zero}
 
--- The negatives so far and those of what is left.
-pub record Negating (pool : List ℕ) (at n : ℕ) (work₀ work : List ℕ) (from k : ℕ) : Type 0 where
-  pub k_le : k ≤ n
+-- The first k negatives stand in the work list, and what is left of the list is negated.
+pub record Negating (all rest : List Monomial) (work₀ work : List ℕ) (k : ℕ) : Type 0 where
   pub length_is : length work ≡ length work₀
-  pub left : ListFits pool from (n - k)
-  pub all_is : held k work ++ map (neg_monomial prime) (list_in pool from (n - k)) ≡ map (neg_monomial prime) (list_in pool at n)
+  pub left : k + length rest ≡ length all
+  pub fits : All Fits rest
+  pub all_is : held k work ++ map (neg_monomial prime) rest ≡ map (neg_monomial prime) all
 
-module _ (pool : List ℕ) (at n : ℕ) (work₀ : List ℕ) where
-  pub negating_none : ListFits pool at n → Negating pool at n work₀ work₀ at 0
-  negating_none l =
-      let z : n - 0 ≡ n = omega arith in
-      record {
-        k_le = omega arith;
-        length_is = refl;
-        left = left_all pool at n l;
-        all_is = rw (held_zero work₀) (ap (λ (k : ℕ). map (neg_monomial prime) (list_in pool at k)) z);
-      }
+module _ (all : List Monomial) (work₀ : List ℕ) where
+  pub negating_none : (rest : List Monomial) (k : ℕ) → rest ≡ all → k ≡ 0 → All Fits all → Negating all rest work₀ work₀ k
+  negating_none rest k e z h = record { length_is = refl; left = omega (arith, ap length e); fits = rw e h; all_is = rw (z, held_zero work₀, e) }
 
-  pub negating_more : (work work₁ : List ℕ) (from k s : ℕ) (y : Monomial) → Negating pool at n work₀ work from k → k < n → s ≡ vars_in pool from
-      → length work₁ ≡ length work → y ≡ neg_monomial prime (read_monomial (drop from pool)) → held (k + 1) work₁ ≡ held k work ++ (y ∷ [])
-      → Negating pool at n work₀ work₁ (from + 2 + s) (k + 1)
-  negating_more work work₁ from k s y g h e l f q = record {
-    k_le = omega arith;
+  pub negating_more : (rest₀ rest : List Monomial) (work work₁ : List ℕ) (k : ℕ) (x y : Monomial) → Negating all rest₀ work₀ work k → rest₀ ≡ x ∷ rest
+      → length work₁ ≡ length work → y ≡ neg_monomial prime x → held (k + 1) work₁ ≡ held k work ++ (y ∷ [])
+      → Negating all rest work₀ work₁ (k + 1)
+  negating_more rest₀ rest work work₁ k x y g e l f q = record {
     length_is = l ∙ g.length_is;
-    left = left_rest pool from n k h s e g.left;
+    left = omega (arith, g.left, ap length e);
+    fits = (subst (All Fits) e g.fits).1;
     all_is =
-        ap (λ (x : List Monomial). x ++ rest) q ∙ append_assoc (held k work) (y ∷ []) rest
-        ∙ ap (λ (x : Monomial). held k work ++ (x ∷ rest)) f
-        ∙ ap (λ (x : List Monomial). held k work ++ map (neg_monomial prime) x) (sym (left_cons pool from n k h s e)) ∙ g.all_is;
+        ap (λ (z : List Monomial). z ++ map (neg_monomial prime) rest) q ∙ append_assoc (held k work) (y ∷ []) (map (neg_monomial prime) rest)
+        ∙ ap (λ (z : Monomial). held k work ++ (z ∷ map (neg_monomial prime) rest)) f
+        ∙ ap (λ (z : List Monomial). held k work ++ map (neg_monomial prime) z) (sym e) ∙ g.all_is;
   }
-    where
-      rest : List Monomial
-      rest = map (neg_monomial prime) (list_in pool (from + 2 + s) (n - (k + 1)))
 
-  pub negating_done : (work : List ℕ) (from k : ℕ) → Negating pool at n work₀ work from k → n ≤ k → held n work ≡ map (neg_monomial prime) (list_in pool at n)
-  negating_done work from k g h =
-      let e : n ≡ k = omega (arith, g.k_le) in
-      ap (λ (j : ℕ). held j work) e ∙ sym (append-nil (held k work))
-      ∙ ap (λ (x : List Monomial). held k work ++ map (neg_monomial prime) x) (sym (none_left pool from n k h)) ∙ g.all_is
+  pub negating_done : (rest : List Monomial) (work : List ℕ) (k : ℕ) → Negating all rest work₀ work k → rest ≡ []
+      → held (length all) work ≡ map (neg_monomial prime) all
+  negating_done rest work k g e =
+      let c : length all ≡ k = omega (arith, g.left, ap length e) in
+      ap (λ (j : ℕ). held j work) c ∙ sym (append-nil (held k work)) ∙ ap (λ (z : List Monomial). held k work ++ map (neg_monomial prime) z) (sym e) ∙ g.all_is
 
 -- A monomial of the right list of a difference.
 abbrev pub sign_of : Bool → Monomial → Monomial
@@ -71,13 +61,12 @@ fits_sign true m h = fits_negative m h
 fits_sign false m h = h
 
 -- Summed so far, and what is left: each monomial of the list gives one that is summed.
-pub record Adding (f : Monomial → Monomial) (pool : List ℕ) (at n count : ℕ) (work₀ work : List ℕ) (total from i : ℕ) : Type 0 where
-  pub i_le : i ≤ n
+pub record Adding (f : Monomial → Monomial) (all rest : List Monomial) (count : ℕ) (work₀ work : List ℕ) (total : ℕ) : Type 0 where
   pub length_is : length work ≡ length work₀
   pub summed : Summed total work
-  pub few : total ≤ count + i
-  pub left : ListFits pool from (n - i)
-  pub all_is : insert_all (map f (list_in pool from (n - i))) (held total work) ≡ insert_all (map f (list_in pool at n)) (held count work₀)
+  pub few : total + length rest ≤ count + length all
+  pub fits : All Fits rest
+  pub all_is : insert_all (map f rest) (held total work) ≡ insert_all (map f all) (held count work₀)
 
 -- One more is summed.
 pub summed_more : (work work₁ : List ℕ) (total next : ℕ) (y : Monomial) → Summed total work → length work₁ ≡ length work → Fits y
@@ -88,29 +77,28 @@ summed_more work work₁ total next y s l h q = record {
   fit = rw q (fits_insert y (held total work) h s.fit);
 }
 
-module _ (f : Monomial → Monomial) (pool : List ℕ) (at n count : ℕ) (work₀ : List ℕ) where
-  pub adding_more : (work work₁ : List ℕ) (total next from i s : ℕ) (y : Monomial) → Adding f pool at n count work₀ work total from i → i < n
-      → s ≡ vars_in pool from → length work₁ ≡ length work → y ≡ f (read_monomial (drop from pool)) → Fits y
+module _ (f : Monomial → Monomial) (all : List Monomial) (count : ℕ) (work₀ : List ℕ) where
+  pub adding_none : (rest : List Monomial) → rest ≡ all → All Fits all → Summed count work₀ → Adding f all rest count work₀ work₀ count
+  adding_none rest e h s = record { length_is = refl; summed = s; few = omega (arith, ap length e); fits = rw e h; all_is = rw e }
+
+  pub adding_more : (rest₀ rest : List Monomial) (work work₁ : List ℕ) (total next : ℕ) (x y : Monomial) → Adding f all rest₀ count work₀ work total
+      → rest₀ ≡ x ∷ rest → length work₁ ≡ length work → y ≡ f x → Fits y
       → held next work₁ ≡ insert_monomial prime y (held total work) → next ≤ total + 1
-      → Adding f pool at n count work₀ work₁ next (from + 2 + s) (i + 1)
-  adding_more work work₁ total next from i s y g h e l p fit q b = record {
-    i_le = omega arith;
+      → Adding f all rest count work₀ work₁ next
+  adding_more rest₀ rest work work₁ total next x y g e l p fit q b = record {
     length_is = l ∙ g.length_is;
     summed = summed_more work work₁ total next y g.summed l fit q;
-    few = omega (arith, g.few);
-    left = left_rest pool from n i h s e g.left;
+    few = omega (arith, g.few, ap length e);
+    fits = (subst (All Fits) e g.fits).1;
     all_is =
-        ap (insert_all rest) (q ∙ ap (λ (x : Monomial). insert_monomial prime x (held total work)) p)
-        ∙ sym (sum_cons (f (read_monomial (drop from pool))) rest (held total work))
-        ∙ ap (λ (x : List Monomial). insert_all (map f x) (held total work)) (sym (left_cons pool from n i h s e)) ∙ g.all_is;
+        ap (insert_all (map f rest)) (q ∙ ap (λ (z : Monomial). insert_monomial prime z (held total work)) p)
+        ∙ sym (sum_cons (f x) (map f rest) (held total work))
+        ∙ ap (λ (z : List Monomial). insert_all (map f z) (held total work)) (sym e) ∙ g.all_is;
   }
-    where
-      rest : List Monomial
-      rest = map f (list_in pool (from + 2 + s) (n - (i + 1)))
 
-  pub adding_done : (work : List ℕ) (total from i : ℕ) → Adding f pool at n count work₀ work total from i → n ≤ i
-      → (held total work ≡ insert_all (map f (list_in pool at n)) (held count work₀)) × (total ≤ count + n)
-  adding_done work total from i g h = (
-    sym (sum_nil (held total work)) ∙ ap (λ (x : List Monomial). insert_all (map f x) (held total work)) (sym (none_left pool from n i h)) ∙ g.all_is,
-    omega (arith, g.few, g.i_le),
+  pub adding_done : (rest : List Monomial) (work : List ℕ) (total : ℕ) → Adding f all rest count work₀ work total → rest ≡ []
+      → (held total work ≡ insert_all (map f all) (held count work₀)) × (total ≤ count + length all)
+  adding_done rest work total g e = (
+    sym (sum_nil (held total work)) ∙ ap (λ (z : List Monomial). insert_all (map f z) (held total work)) (sym e) ∙ g.all_is,
+    omega (arith, g.few),
   )

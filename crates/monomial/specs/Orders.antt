@@ -1,13 +1,13 @@
 -- The order of variable lists as an answer.
 use Rattle.std.specs.Prelude.{Bool, true, false, List, ℕ}
+use Rattle.std.specs.declared.cmp.Ordering.{Ordering}
+use Rattle.std.specs.declared.cmp.Ordering.TheVariants.{Less, Equal, Greater}
 use Rattle.semantics.specs.Monomial.{before_vars}
-use Rattle.monomial.specs.declared.vars.Order.{Order}
-use Rattle.monomial.specs.declared.vars.Order.TheVariants.{Before, Same, After}
 
-abbrev pub chosen : Bool → Order → Order → Order
+abbrev pub chosen : Bool → Ordering → Ordering → Ordering
 chosen true x y = x
 chosen false x y = y
 
 -- Where the first list stands, seen from the second.
-unfoldable pub order_of : List ℕ → List ℕ → Order
-order_of xs ys = chosen (before_vars xs ys) Before (chosen (before_vars ys xs) After Same)
+unfoldable pub order_of : List ℕ → List ℕ → Ordering
+order_of xs ys = chosen (before_vars xs ys) Less (chosen (before_vars ys xs) Greater Equal)

@@ -1,8 +1,6 @@
 -- Where a monomial stands in a list, or where it is to be put.
-use Rattle.std.specs.Prelude.{◌≡◌, true, List, [], ℕ, ◌≤◌, ◌<◌, length, get_or}
+use Rattle.std.specs.Prelude.{◌≡◌, true, List, [], ℕ, ◌≤◌, ◌<◌, length, get_or, Result, MatchResult}
 use Rattle.semantics.specs.Monomial.{Monomial, before_vars}
-use Rattle.monomial.specs.declared.slots.Found.{Found}
-use Rattle.monomial.specs.declared.slots.Found.TheVariants.{At, Gap}
 
 -- The monomial 1, where a place beyond the list is asked for.
 abbrev pub one : Monomial
@@ -18,6 +16,6 @@ FirstBefore x ms k = (i : ℕ) → i < k → before_vars (vars_at ms i) x.vars �
 abbrev pub RestAfter : Monomial → List Monomial → ℕ → Type 0
 RestAfter x ms k = (i : ℕ) → k ≤ i → i < length ms → before_vars x.vars (vars_at ms i) ≡ true
 
-abbrev pub Stands : Monomial → List Monomial → Found → Type 0
-Stands x ms (At k) = (k < length ms) × (vars_at ms k ≡ x.vars)
-Stands x ms (Gap k) = (k ≤ length ms) × FirstBefore x ms k × RestAfter x ms k
+-- A search's answer: `Ok` where the variables stand, `Err` where they are to be put.
+abbrev pub Stands : Monomial → List Monomial → Result ℕ ℕ → Type 0
+Stands x ms r = MatchResult r (λ k. (k < length ms) × (vars_at ms k ≡ x.vars)) (λ k. (k ≤ length ms) × FirstBefore x ms k × RestAfter x ms k)

@@ -11,6 +11,7 @@ use packed_var::PackedVar;
 
 mod list_steps;
 pub mod lists;
+mod reading;
 mod slots;
 pub mod vars;
 
@@ -27,11 +28,8 @@ pub fn multiply(l: Monomial, r: Monomial) -> Monomial
     requires { (l.count + r.count ≤ 14) × Sorted above (monomial_of l).vars × Sorted above (monomial_of r).vars }
     ensures { (monomial_of result ≡ mul_monomial prime (monomial_of l) (monomial_of r)) × (result.count ≡ l.count + r.count) }
 {
-    let left = l.vars;
-    let right = r.vars;
-    let vars = vars::merge_vars(left, l.count, right, r.count);
     Monomial {
-        vars: vars,
+        vars: vars::merge_vars(l.vars, l.count, r.vars, r.count),
         count: l.count + r.count,
         coef: field::mul(l.coef, r.coef),
     }
@@ -40,10 +38,8 @@ pub fn multiply(l: Monomial, r: Monomial) -> Monomial
 pub fn negative(m: Monomial) -> Monomial
     ensures { (monomial_of result ≡ neg_monomial prime (monomial_of m)) × (result.count ≡ m.count) }
 {
-    let vars = m.vars;
     Monomial {
-        vars: vars,
-        count: m.count,
         coef: field::neg(m.coef),
+        ..m
     }
 }

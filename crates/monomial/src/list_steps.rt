@@ -1,59 +1,19 @@
 // Single steps on lists of monomials.
-ghost use Rattle.std.specs.Prelude.{◌≡◌, [], ◌∷◌, ◌++◌, map, ◌+◌, ◌*◌, ◌-◌, ◌≤◌, min, length, get_or, take, drop};
+ghost use Rattle.std.specs.Prelude.{◌≡◌, [], ◌∷◌, ◌++◌, map, ◌+◌, ◌*◌, ◌≤◌, min, length, get_or, take, drop};
 ghost use Rattle.semantics.specs.Arithmetic.{prime};
 ghost use Rattle.semantics.specs.Monomial.{mul_monomial};
-ghost use Rattle.monomial.specs.Words.{monomial_of, read_monomial, held, list_in, longest_in, insert_all, negated_if, Fits, ListFits, Summed};
+ghost use Rattle.monomial.specs.Words.{monomial_of, held, list_in, longest_in, insert_all, negated_if, Fits, ListFits, Summed};
 
 use crate::lists::combine_like_terms;
+use crate::reading::Monomials;
 use crate::{Monomial, multiply, negative};
-use packed_var::PackedVar;
 
 // How many variables slot k of the work list has: no more than its fourteen places.
 pub fn slot_count(work: &[u32], k: usize) -> usize
     requires { 16 * k + 16 ≤ length work.now }
     ensures { result ≡ min (get_or work.now (16 * k) 0) 14 }
 {
-    answers::smaller(answers::wide(work[16 * k]), 14)
-}
-
-// How many variables of the monomial that stands at `at` are inside the words.
-pub fn vars_in(words: &[u32], at: usize) -> usize
-    requires { at + 2 ≤ length words.now }
-    ensures { result ≡ length (read_monomial (drop at words.now)).vars }
-{
-    answers::smaller(answers::wide(words[at]), words.len() - (at + 2))
-}
-
-// The monomial that stands at `at`; the words may end within its variables.
-pub fn monomial_in(words: &[u32], at: usize) -> Monomial
-    requires { (at + 2 ≤ length words.now) × (length (read_monomial (drop at words.now)).vars ≤ 14) }
-    ensures { (monomial_of result ≡ read_monomial (drop at words.now))
-        × (result.count ≡ length (read_monomial (drop at words.now)).vars) }
-{
-    let mut vars = [PackedVar(0); 14];
-    let count = vars_in(words, at);
-    let mut i: usize = 0;
-    while i < count {
-        vars[i] = PackedVar(words[at + 2 + i]);
-        i += 1;
-    }
-    Monomial {
-        vars: vars,
-        count: count,
-        coef: words[at + 1],
-    }
-}
-
-// Copies n words from `from` on to `at`.
-pub fn copy_part(list: &[u32], from: usize, n: usize, out: &mut [u32], at: usize)
-    requires { (from + n ≤ length list.now) × (at + n ≤ length out.old) }
-    ensures { out.new ≡ take at out.old ++ (take n (drop from list.now) ++ drop (at + n) out.old) }
-{
-    let mut i: usize = 0;
-    while i < n {
-        out[at + i] = list[from + i];
-        i += 1;
-    }
+    (work[16 * k] as usize).min(14)
 }
 
 // Writes the words of the monomial with n variables whose row is at `from`.
@@ -65,17 +25,14 @@ pub fn write_row(work: &[u32], from: usize, n: usize, out: &mut [u32], at: usize
 {
     out[at] = n as u32;
     out[at + 1] = work[from + 1];
-    copy_part(work, from + 2, n, out, at + 2);
+    out[at + 2..at + 2 + n].copy_from_slice(&work[from + 2..from + 2 + n]);
 }
 
 // A monomial of the right list of a difference is negated.
 pub fn with_sign(m: Monomial, negated: bool) -> Monomial
     ensures { ((monomial_of result ∷ []) ≡ negated_if negated (monomial_of m ∷ [])) × (result.count ≡ m.count) }
 {
-    if negated {
-        return negative(m);
-    }
-    m
+    if negated { negative(m) } else { m }
 }
 
 // Sums the products of a monomial and the m monomials that stand at `at`.
@@ -94,14 +51,8 @@ pub fn combine_row(
         × (result ≤ count + m) }
 {
     let mut total = count;
-    let mut from = at;
-    let mut i: usize = 0;
-    while i < m {
-        let right = monomial_in(pool, from);
-        let size = right.count;
+    for right in Monomials::new(pool, at, m) {
         total = combine_like_terms(work, total, multiply(left, right));
-        from = from + 2 + size;
-        i += 1;
     }
     total
 }

@@ -6,8 +6,8 @@ ghost use Rattle.semantics.specs.Expand.{list_size};
 ghost use Rattle.semantics.specs.Lists.{All};
 ghost use Rattle.monomial.specs.Words.{monomial_of, held, list_in, list_words, longest_in, insert_all, negated_if, Fits, ListFits, Summed};
 
-use crate::list_steps::{combine_row, monomial_in, slot_count, vars_in, with_sign, write_row};
-use crate::slots::Found;
+use crate::list_steps::{combine_row, slot_count, with_sign, write_row};
+use crate::reading::Monomials;
 use crate::{Monomial, negative, slots};
 
 // A monomial goes behind the first k of the work list.
@@ -23,10 +23,9 @@ pub fn combine_like_terms(work: &mut [u32], count: usize, m: Monomial) -> usize
     requires { (count + 1 ≤ 256) × Summed count work.old × (m.count ≤ 14) × Fits (monomial_of m) }
     ensures { (held result work.new ≡ insert_monomial prime (monomial_of m) (held count work.old)) × (result ≤ count + 1) }
 {
-    let found = slots::find_monomial(work, count, m);
-    match found {
-        Found::At(k) => slots::sum_at(work, count, k, m),
-        Found::Gap(k) => slots::insert_at(work, count, k, m),
+    match slots::find_monomial(work, count, m) {
+        Ok(k) => slots::sum_at(work, count, k, m),
+        Err(k) => slots::insert_at(work, count, k, m),
     }
 }
 
@@ -44,14 +43,8 @@ pub fn combine_list(
         × (result ≤ count + n) }
 {
     let mut total = count;
-    let mut from = at;
-    let mut i: usize = 0;
-    while i < n {
-        let m = monomial_in(pool, from);
-        let size = m.count;
+    for m in Monomials::new(pool, at, n) {
         total = combine_like_terms(work, total, with_sign(m, negated));
-        from = from + 2 + size;
-        i += 1;
     }
     total
 }
@@ -61,14 +54,8 @@ pub fn negate_list(work: &mut [u32], pool: &[u32], at: usize, n: usize)
     requires { (n ≤ 256) × (4096 ≤ length work.old) × ListFits pool.now at n }
     ensures { held n work.new ≡ map (neg_monomial prime) (list_in pool.now at n) }
 {
-    let mut from = at;
-    let mut k: usize = 0;
-    while k < n {
-        let m = monomial_in(pool, from);
-        let size = m.count;
+    for (k, m) in Monomials::new(pool, at, n).enumerate() {
         put_monomial(work, k, negative(m));
-        from = from + 2 + size;
-        k += 1;
     }
 }
 
@@ -87,15 +74,9 @@ pub fn multiply_lists(
         ≡ insert_all (products prime (list_in pool.now left n) (list_in pool.now right m)) [])
         × (result ≤ n * m) }
 {
-    let mut total: usize = 0;
-    let mut from = left;
-    let mut i: usize = 0;
-    while i < n {
-        let l = monomial_in(pool, from);
-        let size = l.count;
+    let mut total = 0;
+    for l in Monomials::new(pool, left, n) {
         total = combine_row(work, total, pool, l, right, m);
-        from = from + 2 + size;
-        i += 1;
     }
     total
 }
@@ -106,13 +87,8 @@ pub fn longest(pool: &[u32], at: usize, n: usize) -> usize
     ensures { result ≡ longest_in pool.now at n }
 {
     let mut most: usize = 0;
-    let mut from = at;
-    let mut i: usize = 0;
-    while i < n {
-        let size = vars_in(pool, from);
-        most = answers::larger(most, size);
-        from = from + 2 + size;
-        i += 1;
+    for m in Monomials::new(pool, at, n) {
+        most = most.max(m.count);
     }
     most
 }
@@ -122,12 +98,9 @@ pub fn list_size(work: &[u32], count: usize) -> usize
     requires { (count ≤ 256) × (16 * count ≤ length work.now) × All Fits (held count work.now) }
     ensures { result ≡ list_size (held count work.now) }
 {
-    let mut total: usize = 0;
-    let mut k: usize = 0;
-    while k < count {
-        let size = slot_count(work, k);
-        total = total + 2 + size;
-        k += 1;
+    let mut total = 0;
+    for k in 0..count {
+        total += 2 + slot_count(work, k);
     }
     total
 }
@@ -139,12 +112,10 @@ pub fn write_list(work: &[u32], count: usize, out: &mut [u32])
     ensures { out.new
         ≡ list_words (held count work.now) ++ drop (list_size (held count work.now)) out.old }
 {
-    let mut at: usize = 0;
-    let mut k: usize = 0;
-    while k < count {
+    let mut at = 0;
+    for k in 0..count {
         let size = slot_count(work, k);
         write_row(work, 16 * k, size, out, at);
-        at = at + 2 + size;
-        k += 1;
+        at += 2 + size;
     }
 }

@@ -5,16 +5,9 @@ ghost use Rattle.semantics.specs.Monomial.{Asc, keep, plus};
 ghost use Rattle.monomial.specs.Words.{nums, monomial_of, held};
 ghost use Rattle.monomial.specs.Places.{one, Stands};
 
-use crate::vars::Order;
 use crate::{Monomial, list_steps, vars};
 use slices::shift;
-
-// The place of a monomial with the same variables, or the place where one is to be put.
-#[derive(Clone, Copy)]
-pub enum Found {
-    At(usize),
-    Gap(usize),
-}
+use std::cmp::Ordering;
 
 // Writes the sixteen words of slot k.
 pub fn put_slot(work: &mut [u32], k: usize, m: Monomial)
@@ -23,51 +16,31 @@ pub fn put_slot(work: &mut [u32], k: usize, m: Monomial)
         ≡ take (16 * k) work.old ++ ((m.count ∷ m.coef ∷ nums m.vars) ++ drop (16 * k + 16) work.old) }
 {
     let at = 16 * k;
-    let vars = m.vars;
     work[at] = m.count as u32;
     work[at + 1] = m.coef;
-    let mut i: usize = 0;
-    while i < 14 {
-        let v = vars[i];
-        work[at + 2 + i] = v.0;
-        i += 1;
-    }
+    work[at + 2..at + 16].copy_from_slice(&vars::numbers(m.vars));
 }
 
-// Searches the work list for the variables of m.
-pub fn find_monomial(work: &[u32], count: usize, m: Monomial) -> Found
+// Searches the work list for the variables of m: where they stand, or where they are to be put.
+pub fn find_monomial(work: &[u32], count: usize, m: Monomial) -> Result<usize, usize>
     requires { (count ≤ 256) × (16 * count ≤ length work.now) × (m.count ≤ 14) × Asc (held count work.now) }
     ensures { Stands (monomial_of m) (held count work.now) result }
 {
-    let vars = m.vars;
-    let mine = vars::numbers(vars);
-    let n = m.count;
-    let mut low: usize = 0;
+    let numbers = vars::numbers(m.vars);
+    let mine = &numbers[..m.count];
+    let mut low = 0;
     let mut high = count;
     while low < high {
         let k = (low + high) / 2;
-        let order = vars::order_at(
-            &mine,
-            0,
-            n,
-            work,
-            16 * k + 2,
-            list_steps::slot_count(work, k),
-        );
-        match order {
-            Order::Same => {
-                return Found::At(k);
-            }
-            Order::After => {
-                low = k + 1;
-                continue;
-            }
-            Order::Before => {
-                high = k;
-            }
+        let from = 16 * k + 2;
+        let to = from + list_steps::slot_count(work, k);
+        match vars::compare(mine, &work[from..to]) {
+            Ordering::Equal => return Ok(k),
+            Ordering::Greater => low = k + 1,
+            Ordering::Less => high = k,
         }
     }
-    Found::Gap(low)
+    Err(low)
 }
 
 // Puts m in front of slot k, unless its coefficient is 0.

@@ -1,14 +1,14 @@
 // Packed variables, as PackedVar in monomial.rs.
 #![tactic(auto)]
 
-ghost use Rattle.std.specs.Prelude.{◌≡◌, ◌+◌, ◌*◌, ◌<◌, eqb, ltb};
+ghost use Rattle.std.specs.Prelude.{◌≡◌, ◌+◌, ◌*◌, ◌<◌};
 ghost use Rattle.semantics.specs.Call.{variable_call};
 ghost use Rattle.packed_var.specs.Packed.{variable_record, refused_for, packed_outcome};
 
 use answers::{Reason, Refusal};
 use symbolic_variable::{Entry, SymbolicVariable};
 
-// A number with its own type: bits 0 to 3 type, 4 to 11 part, 12 to 15 offset, 16 to 31 column.
+// A number with its own type: bits 0 to 3 type, 4 to 11 part, 12 to 15 offset, 16 to 31 column. The order is the number's.
 #[derive(Clone, Copy, Debug, PartialEq, Eq, PartialOrd, Ord)]
 pub struct PackedVar(pub u32);
 
@@ -58,19 +58,6 @@ impl PackedVar {
             Entry::Public => Ok(PackedVar::new(3, 0, 0, column)),
             Entry::Challenge => refused(Reason::ChallengeRefused),
         }
-    }
-
-    // Two packed variables are compared by number.
-    pub fn below(self, other: PackedVar) -> bool
-        ensures { result ≡ ltb self.0 other.0 }
-    {
-        self.0 < other.0
-    }
-
-    pub fn same(self, other: PackedVar) -> bool
-        ensures { result ≡ eqb self.0 other.0 }
-    {
-        self.0 == other.0
     }
 
     pub fn is_first() -> Self

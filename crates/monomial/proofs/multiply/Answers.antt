@@ -5,4 +5,4 @@ use Rattle.monomial.proofs.multiply.Goals as goal
 
 pub returns : goal.returns
 unfolding mul_monomial
-returns c = (λ t. record { vars = c.merge_vars-vars.ensures t; coef = c.mul.ensures t }, refl)
+returns c = (λ t. record { vars = c.merge_vars.ensures t; coef = c.mul.ensures t }, refl)

@@ -1,53 +1,48 @@
-use mathlib.Core.Path.{◌≡◌, sym, ap, subst, ◌∙◌}
+use mathlib.Core.Path.{sym, ap, subst, ◌∙◌}
 use mathlib.Core.List.{List}
-use Prim.Native.Nat.{◌+◌, ◌-◌}
 use native.Mathlib.Omega.{arith}
-use lib.ListN.{drop}
+use lib.ListN.{length, drop}
+use Rattle.semantics.specs.Lists.{All}
 use Rattle.semantics.specs.Monomial.{Monomial}
-use Rattle.monomial.specs.Words.{monomial_of, read_monomial, held, list_in, insert_all, Fits}
-use Rattle.monomial.proofs.ListLaws.{Front, left_front}
-use Rattle.monomial.proofs.Summing.{sign_of, signed_map, signed_one, fits_sign, adding_more, adding_done}
+use Rattle.monomial.specs.Words.{monomial_of, held, list_in, insert_all, Fits}
+use Rattle.monomial.proofs.ListLaws.{list_length}
+use Rattle.monomial.proofs.Summing.{sign_of, signed_map, signed_one, fits_sign, adding_none, adding_more, adding_done}
 use Rattle.monomial.proofs.lists.combine_list.Goals as goal
 
-pub monomial_in-m-requires : goal.monomial_in-m-requires
-monomial_in-m-requires c =
-    let front : Front c.args.pool.now c.loop-i.from (c.args.n - (c.loop-i.i + 1)) =
-    left_front c.args.pool.now c.loop-i.from c.args.n c.loop-i.i (omega arith) c.loop-i.invariant.left in
-    (omega (arith, front.room), front.short)
+pub loop-m-init : goal.loop-m-init
+loop-m-init c =
+    let a = c.args in
+    adding_none (sign_of a.negated) (list_in a.pool.now a.at a.n) a.count a.work.now c.into_iter-m-iterator.result
+    (c.into_iter-m-iterator.ensures.into_iter_gives ∙ c.new-m-items.ensures) c.requires.2.fit c.requires.1
 
 pub combine_like_terms-total-requires : goal.combine_like_terms-total-requires
 combine_like_terms-total-requires c =
-    let front : Front c.args.pool.now c.loop-i.from (c.args.n - (c.loop-i.i + 1)) =
-    left_front c.args.pool.now c.loop-i.from c.args.n c.loop-i.i (omega arith) c.loop-i.invariant.left in
-    let signed_is : (monomial_of c.with_sign.result) ≡ (sign_of c.args.negated) (read_monomial (drop c.loop-i.from c.args.pool.now)) =
-    signed_one c.args.negated (monomial_of c.with_sign.result) (monomial_of c.monomial_in-m.result) c.with_sign.ensures.0
-    ∙ ap (sign_of c.args.negated) c.monomial_in-m.ensures.0 in
-    let signed-fits : Fits (monomial_of c.with_sign.result) =
-    subst Fits (sym signed_is) (fits_sign c.args.negated _ front.one) in (
-      omega (arith, c.requires.0, c.loop-i.invariant.few),
-      c.loop-i.invariant.summed,
-      omega (arith, c.with_sign.ensures.1, c.monomial_in-m.ensures.1, front.short),
-      signed-fits,
+    let a = c.args in
+    let g = c.loop-m.invariant in
+    let e = c.in-Some.ensures.steps in
+    let f = subst (All Fits) e.0 g.fits in (
+      omega (arith, ap length e.0, g.few, list_length a.n (drop a.at a.pool.now)),
+      g.summed,
+      omega (arith, c.with_sign.ensures.1, e.1, f.0.few),
+      subst Fits (sym (signed_one a.negated _ _ c.with_sign.ensures.0)) (fits_sign a.negated _ f.0),
     )
 
-pub loop-i-preserved : goal.loop-i-preserved
-loop-i-preserved c =
-    let front : Front c.args.pool.now c.loop-i.from (c.args.n - (c.loop-i.i + 1)) =
-    left_front c.args.pool.now c.loop-i.from c.args.n c.loop-i.i (omega arith) c.loop-i.invariant.left in
-    let signed_is : (monomial_of c.with_sign.result) ≡ (sign_of c.args.negated) (read_monomial (drop c.loop-i.from c.args.pool.now)) =
-    signed_one c.args.negated (monomial_of c.with_sign.result) (monomial_of c.monomial_in-m.result) c.with_sign.ensures.0
-    ∙ ap (sign_of c.args.negated) c.monomial_in-m.ensures.0 in
-    let signed-fits : Fits (monomial_of c.with_sign.result) =
-    subst Fits (sym signed_is) (fits_sign c.args.negated _ front.one) in
-    let p = c.combine_like_terms-total in
+pub loop-m-preserved : goal.loop-m-preserved
+loop-m-preserved c =
     let a = c.args in
-    adding_more (sign_of c.args.negated) c.args.pool.now a.at a.n a.count a.work.now c.loop-i.work p.new.work c.loop-i.total p.result
-    c.loop-i.from c.loop-i.i c.monomial_in-m.result.count (monomial_of c.with_sign.result) c.loop-i.invariant (omega arith) c.monomial_in-m.ensures.1 p.auto.work
-    signed_is signed-fits p.ensures.0 p.ensures.1
+    let l = c.loop-m in
+    let e = c.in-Some.ensures.steps in
+    let p = c.combine_like_terms-total in
+    let s = signed_one a.negated _ _ c.with_sign.ensures.0 in
+    adding_more (sign_of a.negated) (list_in a.pool.now a.at a.n) a.count a.work.now l.m-iterator c.next.new.self l.work p.new.work l.total p.result
+    (monomial_of c.in-Some.m) (monomial_of c.with_sign.result) l.invariant e.0 p.auto.work s
+    (subst Fits (sym s) (fits_sign a.negated _ (subst (All Fits) e.0 l.invariant.fits).0)) p.ensures.0 p.ensures.1
 
 pub returns : goal.returns
 returns c =
     let a = c.args in
-    let d = adding_done (sign_of c.args.negated) c.args.pool.now a.at a.n a.count a.work.now c.loop-i.work c.loop-i.total c.loop-i.from c.loop-i.i
-    c.loop-i.invariant (omega arith) in
-    (d.0 ∙ ap (λ (l : List Monomial). insert_all l (held a.count a.work.now)) (sym (signed_map a.negated (list_in c.args.pool.now a.at a.n))), d.1)
+    let l = c.loop-m in
+    let h = adding_done (sign_of a.negated) (list_in a.pool.now a.at a.n) a.count a.work.now l.m-iterator l.work l.total l.invariant c.in-None.ensures.steps.0 in (
+      h.0 ∙ ap (λ (x : List Monomial). insert_all x (held a.count a.work.now)) (sym (signed_map a.negated (list_in a.pool.now a.at a.n))),
+      omega (arith, h.1, list_length a.n (drop a.at a.pool.now)),
+    )

@@ -1,11 +1,8 @@
--- The variables of each monomial of the list are counted, and the most is kept. The loop's invariant is `Longest`: the larger of the most so far
--- and the longest of what is left is the longest of all; `longest_more` keeps it.
-use Prim.Native.Nat.{◌-◌}
-use Rattle.monomial.proofs.Sizes.{Longest}
+-- The most variables so far are kept. The loop's invariant: the larger of them and of the longest of what is left is the longest of all.
+use mathlib.Core.Path.{◌≡◌}
+use Prim.Native.Nat.{max}
+use Rattle.monomial.specs.Words.{longest_of, longest_in}
 use Rattle.monomial.proofs.lists.longest.Given as goal
 
-abbrev pub invariant-loop-i : goal.invariant-loop-i
-invariant-loop-i l = Longest l.pool l.at l.n l.most l.from l.i
-
-abbrev pub decreases-loop-i : goal.decreases-loop-i
-decreases-loop-i l = l.n - l.i
+abbrev pub invariant-loop-m : goal.invariant-loop-m
+invariant-loop-m l = max l.most (longest_of l.m-iterator) ≡ longest_in l.fn.pool l.fn.at l.fn.n

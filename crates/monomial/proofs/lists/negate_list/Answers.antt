@@ -1,34 +1,54 @@
-use mathlib.Core.Path.{ap, ◌∙◌}
-use Prim.Native.Nat.{◌+◌, ◌-◌}
+use mathlib.Core.Logic.{inl}
+use mathlib.Core.Path.{◌≡◌, sym, ap, subst, ◌∙◌}
+use Prim.Native.Nat.{ℕ, ◌+◌}
 use native.Mathlib.Omega.{arith}
-use Rattle.semantics.specs.Arithmetic.{prime}
-use Rattle.semantics.specs.Monomial.{neg_monomial}
-use Rattle.monomial.specs.Words.{monomial_of}
-use Rattle.monomial.proofs.ListLaws.{Front, left_front}
-use Rattle.monomial.proofs.Summing.{negating_none, negating_more, negating_done}
+use lib.ListN.{length, drop}
+use Rattle.std.specs.Iterator.Adapters.{enumerate_source, enumerate_count}
+use Rattle.semantics.specs.Lists.{All}
+use Rattle.monomial.specs.Words.{monomial_of, held, list_in, Fits}
+use Rattle.monomial.proofs.ListLaws.{list_length}
+use Rattle.monomial.proofs.Summing.{Negating, negating_none, negating_more, negating_done}
 use Rattle.monomial.proofs.lists.negate_list.Goals as goal
 
 pub loop-k-init : goal.loop-k-init
 loop-k-init c =
-    negating_none c.args.pool.now c.args.at c.args.n c.args.work.now c.requires.2
+    let a = c.args in
+    let i = c.into_iter-k-iterator in
+    let e = c.enumerate-k-items.ensures in
+    let s = ap enumerate_source i.ensures.into_iter_gives ∙ e.source ∙ c.new.ensures in
+    let k = ap enumerate_count i.ensures.into_iter_gives ∙ e.count in (
+      (tt, tt, inl (omega (arith, k, ap length s, list_length a.n (drop a.at a.pool.now)))),
+      tt,
+      negating_none (list_in a.pool.now a.at a.n) a.work.now (enumerate_source i.result) (enumerate_count i.result) s k c.requires.2.fit,
+    )
 
-pub monomial_in-m-requires : goal.monomial_in-m-requires
-monomial_in-m-requires c =
-    let front : Front c.args.pool.now c.loop-k.from (c.args.n - (c.loop-k.k + 1)) =
-    left_front c.args.pool.now c.loop-k.from c.args.n c.loop-k.k (omega arith) c.loop-k.invariant.left in
-    (omega (arith, front.room), front.short)
+pub put_monomial-requires : goal.put_monomial-requires
+put_monomial-requires c =
+    let a = c.args in
+    let g = c.loop-k.invariant.2 in
+    let e = c.in-Some.ensures.steps in (
+      omega (arith, c.negative.ensures.1, e.0.1, (subst (All Fits) e.0.0 g.fits).0.few),
+      omega (arith, e.1, ap length e.0.0, g.left, g.length_is, list_length a.n (drop a.at a.pool.now)),
+    )
 
 pub loop-k-preserved : goal.loop-k-preserved
 loop-k-preserved c =
-    let p = c.put_monomial in
-    let x = c.negative in
-    let r = c.monomial_in-m in
     let a = c.args in
-    negating_more c.args.pool.now a.at a.n a.work.now c.loop-k.work p.new.work c.loop-k.from c.loop-k.k r.result.count
-    (monomial_of x.result) c.loop-k.invariant (omega arith) r.ensures.1 p.auto.work
-    (x.ensures.0 ∙ ap (neg_monomial prime) r.ensures.0) p.ensures
+    let l = c.loop-k in
+    let e = c.in-Some.ensures.steps in
+    let p = c.put_monomial in
+    let g = negating_more (list_in a.pool.now a.at a.n) a.work.now (enumerate_source l.k-iterator) (enumerate_source c.next.new.self) l.work p.new.work c.in-Some.k
+    (monomial_of c.in-Some.m) (monomial_of c.negative.result) (rw e.1 l.invariant.2) e.0.0 p.auto.work c.negative.ensures.0 p.ensures in
+    let k : c.in-Some.k + 1 ≡ enumerate_count c.next.new.self = omega (arith, e.1, e.2) in (
+      (tt, tt, inl (omega (arith, k, g.left, list_length a.n (drop a.at a.pool.now)))),
+      tt,
+      subst (Negating (list_in a.pool.now a.at a.n) (enumerate_source c.next.new.self) a.work.now p.new.work) k g,
+    )
 
 pub returns : goal.returns
 returns c =
     let a = c.args in
-    negating_done c.args.pool.now a.at a.n a.work.now c.loop-k.work c.loop-k.from c.loop-k.k c.loop-k.invariant (omega arith)
+    let l = c.loop-k in
+    let n = list_length a.n (drop a.at a.pool.now) in
+    ap (λ (k : ℕ). held k l.work) (sym n)
+    ∙ negating_done (list_in a.pool.now a.at a.n) a.work.now (enumerate_source l.k-iterator) l.work (enumerate_count l.k-iterator) l.invariant.2 c.in-None.ensures.steps.0.0
