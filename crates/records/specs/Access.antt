@@ -7,6 +7,8 @@ use Rattle.semantics.specs.Sheet.{record_of, place}
 use Rattle.semantics.specs.Check.{prime_of, read_sheet, check}
 use Rattle.records.specs.declared.Record.{Record}
 use Rattle.records.specs.declared.Interaction as places
+use Rattle.records.specs.declared.Part.{Part}
+use Rattle.records.specs.declared.Part.TheVariants.{Count, Fields}
 
 -- Five words as a record.
 abbrev pub five_words : Record → semantics.Record
@@ -53,6 +55,14 @@ count_list_at ws at = words_from (at + 2) 1 ws
 
 abbrev pub fields_at : (ws : List ℕ) (at : ℕ) → List ℕ
 fields_at ws at = words_from (at + 4) (message_length ws at) ws
+
+-- The count, or the fields; and those of the n interactions from `at` on.
+abbrev pub part_at : Part → (ws : List ℕ) (at : ℕ) → List ℕ
+part_at Count ws at = count_list_at ws at
+part_at Fields ws at = fields_at ws at
+
+abbrev pub part_words : Part → (ws : List ℕ) (at n : ℕ) → List ℕ
+part_words part ws at n = each_words (part_at part ws) ws at n
 
 -- The records that interactions name: the fields of each before its count; the counts alone; the fields alone.
 abbrev pub root_words : (ws : List ℕ) (at n : ℕ) → List ℕ

@@ -6,10 +6,10 @@ ghost use Rattle.std.proofs.lemmas.List.Edits.{sets};
 ghost use Rattle.semantics.specs.Sheet.{record_words, place};
 ghost use Rattle.semantics.specs.Check.{read_sheet};
 ghost use Rattle.semantics.specs.Graph.{equal_records};
-ghost use Rattle.records.specs.Access.{IsSheet, five_words, node_in, constraints_at, interactions_at, message_length, interaction_from};
+ghost use Rattle.records.specs.Access.{IsSheet, five_words, node_in, constraints_at, interactions_at, message_length, interaction_from, part_at};
 
 // A record as five words.
-#[derive(Clone, Copy, PartialEq, Eq)]
+#[derive(Clone, Copy, Debug, PartialEq, Eq)]
 pub struct Record {
     pub kind: u32,
     pub a: u32,
@@ -141,7 +141,7 @@ pub fn constraints(sheet: &[u32]) -> &[u32]
 }
 
 // Where the words of an interaction stand: its count, its message's length, the message's fields, and what follows it.
-#[derive(Clone, Copy)]
+#[derive(Clone, Copy, Debug, PartialEq, Eq)]
 pub struct Interaction {
     pub count: usize,
     pub length: usize,
@@ -170,6 +170,25 @@ pub fn interaction_at(sheet: &[u32], at: usize) -> Interaction
     ensures { result ≡ interaction_from at (message_length sheet.now at) }
 {
     interaction_from(at, sheet[at + 3] as usize)
+}
+
+// What is taken of an interaction: the record of its count, or those of its message's fields.
+#[derive(Clone, Copy, Debug, PartialEq, Eq)]
+pub enum Part {
+    Count,
+    Fields,
+}
+
+// The records that a part of the interaction that starts at `at` names.
+pub fn part_at(sheet: &[u32], at: usize, part: Part) -> &[u32]
+    requires { at + (4 + message_length sheet.now at) ≤ length sheet.now }
+    ensures { result.now ≡ part_at part sheet.now at }
+{
+    let x = interaction_at(sheet, at);
+    match part {
+        Part::Count => &sheet[x.count..x.count + 1],
+        Part::Fields => &sheet[x.fields..x.next],
+    }
 }
 
 // Copies the bus and the weight of the interaction that starts at `at` to the one that starts at `to`.
