@@ -12,13 +12,14 @@ use Rattle.semantics.specs.Answer.{Answer, good, refused}
 use Rattle.semantics.specs.Sheet.{Sheet, encode, length_of}
 use Rattle.semantics.specs.Check.{read_sheet, check}
 use Rattle.semantics.specs.Graph.{graph_of}
-use Rattle.semantics.specs.Call.{Result, outcome, needs, result, builder_call, check_call, zeros, padded_all}
+use Rattle.semantics.specs.Call.{Result as Made, outcome, needs, result, builder_call, check_call, zeros, padded_all}
 use Rattle.semantics.proofs.Basics.{cond_true, cond_false}
 use Rattle.answers.specs.declared.Refusal.{Refusal}
-use Rattle.sheet.specs.declared.Checked.{Checked}
-use Rattle.sheet.specs.declared.Checked.TheVariants as checked
-use Rattle.answers.specs.declared.Written.TheVariants.{Words, Refused}
-use Rattle.sheet.specs.Replies.{checked_outcome, checked_refusal}
+use Rattle.std.specs.Prelude.{Result, Ok, Err}
+use Rattle.answers.specs.declared.Reason.TheVariants.{ScratchTooShort, OutputTooShort}
+use Rattle.answers.specs.Replies.{number_of}
+use Rattle.sheet.specs.declared.Head.{Head}
+use Rattle.sheet.specs.Replies.{checked_outcome}
 use Rattle.sheet.proofs.Answers.{on_found, on_refused}
 use Rattle.records.proofs.Reading.{read_found}
 use Rattle.graph_lists.specs.Lists.{graph_out, graph_length}
@@ -43,19 +44,17 @@ take_replicate k m h =
     ∙ take_at (replicate k 0) (replicate (m - k) 0) k (length-replicate {A = ℕ} k 0)
 
 module _ (ws : List ℕ) (lent n : ℕ) where
-  abbrev rest : Sheet → Answer Result
+  abbrev rest : Sheet → Answer Made
   rest s = needs 14 (length s.records) lent (needs 15 (length_of s) n (result (encode (graph_of prime s) ∷ []) []))
 
-  refused_outcome : (v : Refusal) → built_outcome (Refused v) (zeros lent) (zeros n) ≡ outcome (lent ∷ []) (n ∷ []) (refused v.number v.place)
+  refused_outcome : (v : Refusal) → built_outcome (Err v) (zeros lent) (zeros n) ≡ outcome (lent ∷ []) (n ∷ []) (refused (number_of v.reason) v.place)
   unfolding outcome
   refused_outcome v = refl
 
-  pub call_refused : {r : Checked} {v u : Refusal} → checked_outcome r ≡ check_call prime ws → r ≡ checked.Refused v → u ≡ checked_refusal r
-      → built_outcome (Refused u) (zeros lent) (zeros n) ≡ builder_call prime ws (lent ∷ n ∷ [])
+  pub call_refused : {r : Result Head Refusal} {v : Refusal} → checked_outcome r ≡ check_call prime ws → r ≡ Err v
+      → built_outcome (Err v) (zeros lent) (zeros n) ≡ builder_call prime ws (lent ∷ n ∷ [])
   unfolding builder_call
-  call_refused {v} e q f =
-      ap (λ (x : Refusal). built_outcome (Refused x) (zeros lent) (zeros n)) (f ∙ ap checked_refusal q)
-      ∙ refused_outcome v ∙ ap (outcome (lent ∷ []) (n ∷ [])) (on_refused prime ws rest e q)
+  call_refused {v = v} e q = refused_outcome v ∙ ap (outcome (lent ∷ []) (n ∷ [])) (on_refused prime ws rest e q)
 
 -- A checked sheet, with scratch and output of zeros.
 module _ {ws : List ℕ} {records words : ℕ} {scratch out : List ℕ} (h : Clear ws records words scratch out) where
@@ -68,17 +67,17 @@ module _ {ws : List ℕ} {records words : ℕ} {scratch out : List ℕ} (h : Cle
   abbrev n : ℕ
   n = length out
 
-  abbrev after : Answer Result
+  abbrev after : Answer Made
   after = needs 15 (length_of s) n (result (encode (graph_of prime s) ∷ []) [])
 
   -- A refusal leaves the zeros.
-  refused_clear : (v : Refusal) → built_outcome (Refused v) (zeros lent) out ≡ outcome (lent ∷ []) (n ∷ []) (refused v.number v.place)
-  refused_clear v = ap (built_outcome (Refused v) (zeros lent)) h.out_is ∙ refused_outcome ws lent n v
+  refused_clear : (v : Refusal) → built_outcome (Err v) (zeros lent) out ≡ outcome (lent ∷ []) (n ∷ []) (refused (number_of v.reason) v.place)
+  refused_clear v = ap (built_outcome (Err v) (zeros lent)) h.out_is ∙ refused_outcome ws lent n v
 
-  pub scratch_short : lent < records → built_outcome (Refused (record { number = 14; place = records })) (zeros lent) out ≡ builder_call prime ws (lent ∷ n ∷ [])
+  pub scratch_short : lent < records → built_outcome (Err (record { reason = ScratchTooShort; place = records })) (zeros lent) out ≡ builder_call prime ws (lent ∷ n ∷ [])
   unfolding builder_call needs
   scratch_short l =
-      refused_clear (record { number = 14; place = records })
+      refused_clear (record { reason = ScratchTooShort; place = records })
       ∙ ap (outcome (lent ∷ []) (n ∷ []))
       (ap (refused 14) h.records_are
       ∙ sym (cond_false (leb (length s.records) lent) after (refused 14 (length s.records))
@@ -92,10 +91,10 @@ module _ {ws : List ℕ} {records words : ℕ} {scratch out : List ℕ} (h : Cle
       (le-leb (length s.records) lent (omega (arith, h.records_are))))
 
   pub out_short : records ≤ lent → n < words
-      → built_outcome (Refused (record { number = 15; place = words })) (zeros lent) out ≡ builder_call prime ws (lent ∷ n ∷ [])
+      → built_outcome (Err (record { reason = OutputTooShort; place = words })) (zeros lent) out ≡ builder_call prime ws (lent ∷ n ∷ [])
   unfolding builder_call needs
   out_short l k =
-      refused_clear (record { number = 15; place = words })
+      refused_clear (record { reason = OutputTooShort; place = words })
       ∙ ap (outcome (lent ∷ []) (n ∷ []))
       (ap (refused 15) h.words_are
       ∙ sym (cond_false (leb (length_of s) n) (result (encode (graph_of prime s) ∷ []) []) (refused 15 (length_of s))
@@ -103,7 +102,7 @@ module _ {ws : List ℕ} {records words : ℕ} {scratch out : List ℕ} (h : Cle
       ∙ enough l ∙ on_found prime ws (rest ws lent n) h.checked)
 
   pub graph_built : records ≤ lent → words ≤ n → (written : ℕ) (out' : List ℕ) → out' ≡ graph_out n ws → written ≡ graph_length ws
-      → built_outcome (Words written) (zeros lent) out' ≡ builder_call prime ws (lent ∷ n ∷ [])
+      → built_outcome (Ok written) (zeros lent) out' ≡ builder_call prime ws (lent ∷ n ∷ [])
   unfolding builder_call needs outcome padded_all result
   graph_built l k written out' eo ew =
       (λ i. record { reply = record { number = 0; place = 0; counts = ew i ∷ []; numbers = [] }; slices = zeros lent ∷ eo i ∷ [] })

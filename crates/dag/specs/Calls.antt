@@ -1,14 +1,14 @@
 -- What the builder's answer stands for (01, "What each call hands back"), and what its parts ask.
-use Rattle.std.specs.Prelude.{◌≡◌, List, [], ◌∷◌, ℕ, ◌≤◌, length}
+use Rattle.std.specs.Prelude.{◌≡◌, List, [], ◌∷◌, ℕ, ◌≤◌, length, Result}
 use Rattle.semantics.specs.Sheet.{length_of}
 use Rattle.semantics.specs.Check.{read_sheet}
 use Rattle.semantics.specs.Call.{Outcome, zeros}
 use Rattle.records.specs.Access.{IsSheet}
-use Rattle.answers.specs.declared.Written.{Written}
+use Rattle.answers.specs.declared.Refusal.{Refusal}
 use Rattle.answers.specs.Replies.{written_reply}
 
 -- The reply, scratch and the output.
-abbrev pub built_outcome : Written → (scratch out : List ℕ) → Outcome
+abbrev pub built_outcome : Result ℕ Refusal → (scratch out : List ℕ) → Outcome
 built_outcome r scratch out = record { reply = written_reply r; slices = scratch ∷ out ∷ [] }
 
 -- A checked sheet with its E and L, and nothing but zeros in what is lent for writing.

@@ -10,8 +10,7 @@ ghost use Rattle.dag.specs.Calls.{built_outcome, Clear};
 
 mod graph;
 
-use answers::{Refusal, Written};
-use sheet::Checked;
+use answers::{Reason, Refusal};
 
 // The graph of a checked sheet, where scratch and output are long enough.
 fn build_checked(
@@ -20,47 +19,47 @@ fn build_checked(
     words: usize,
     scratch: &mut [u32],
     out: &mut [u32],
-) -> Written
+) -> Result<usize, Refusal>
     requires { Clear s.now records words scratch.old out.old }
     ensures { built_outcome result (zeros (length scratch.old)) out.new
         ≡ builder_call (prime_of s.now) s.now (lengths (scratch ∷ out ∷ [])) }
 {
     if scratch.len() < records {
-        return Written::Refused(Refusal {
-            number: 14,
+        return Err(Refusal {
+            reason: Reason::ScratchTooShort,
             place: records,
         });
     }
     if out.len() < words {
-        return Written::Refused(Refusal {
-            number: 15,
+        return Err(Refusal {
+            reason: Reason::OutputTooShort,
             place: words,
         });
     }
     let written = graph::build_graph(s, &mut scratch[..records], out);
-    Written::Words(written)
+    Ok(written)
 }
 
 // The graph of a sheet, in an output of zeros.
-fn build_clear(s: &[u32], scratch: &mut [u32], out: &mut [u32]) -> Written
+fn build_clear(s: &[u32], scratch: &mut [u32], out: &mut [u32]) -> Result<usize, Refusal>
     requires { (scratch.old ≡ zeros (length scratch.old)) × (out.old ≡ zeros (length out.old)) }
     ensures { built_outcome result (zeros (length scratch.old)) out.new
         ≡ builder_call (prime_of s.now) s.now (lengths (scratch ∷ out ∷ [])) }
 {
     let checked = sheet::check_sheet(s);
-    let Checked::Sheet(head) = checked else {
-        return Written::Refused(sheet::refusal_of(checked));
+    let Ok(head) = checked else {
+        return Err(checked.unwrap_err());
     };
     build_checked(s, head.records, head.words, scratch, out)
 }
 
 // The builder: checks the sheet and writes its graph; scratch ends all zero.
-pub fn build(s: &[u32], scratch: &mut [u32], out: &mut [u32]) -> Written
+pub fn build(s: &[u32], scratch: &mut [u32], out: &mut [u32]) -> Result<usize, Refusal>
     ensures { Gives written_reply result (scratch ∷ out ∷ []) (builder_call (prime_of s.now) s.now) }
 {
-    slices::zero_all(scratch);
-    slices::zero_all(out);
+    scratch.fill(0);
+    out.fill(0);
     let written = build_clear(s, scratch, out);
-    slices::zero_all(scratch);
+    scratch.fill(0);
     written
 }

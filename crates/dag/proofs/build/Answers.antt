@@ -15,14 +15,14 @@ zeroed m z e k = e ∙ ap (λ (n : ℕ). replicate n 0) (sym k)
 
 pub build_clear-written-requires : goal.build_clear-written-requires
 build_clear-written-requires c =
-    let out = c.zero_all-2 in
-    let scratch = c.zero_all in
-    (zeroed _ _ scratch.ensures scratch.auto.s, zeroed _ _ out.ensures out.auto.s)
+    let scratch = c.fill.ensures in
+    let out = c.fill-2.ensures in
+    (zeroed _ _ (scratch.after (λ y e. e)) scratch.len, zeroed _ _ (out.after (λ y e. e)) out.len)
 
 pub returns : goal.returns
 unfolding zeros
 returns c =
     let b = c.build_clear-written in
-    ap (λ (l : List ℕ). built_outcome b.result l b.new.out) (c.zero_all-3.ensures ∙ ap (λ (k : ℕ). replicate k 0) b.auto.scratch)
+    ap (λ (l : List ℕ). built_outcome b.result l b.new.out) (c.fill-3.ensures.after (λ y e. e) ∙ ap (λ (k : ℕ). replicate k 0) b.auto.scratch)
     ∙ b.ensures
-    ∙ (λ i. builder_call prime c.args.s.now ((c.zero_all.auto.s i) ∷ (c.zero_all-2.auto.s i) ∷ []))
+    ∙ (λ i. builder_call prime c.args.s.now ((c.fill.ensures.len i) ∷ (c.fill-2.ensures.len i) ∷ []))

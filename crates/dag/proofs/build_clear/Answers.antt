@@ -4,7 +4,7 @@ use lib.ListN.{length}
 use Rattle.semantics.specs.Arithmetic.{prime}
 use Rattle.semantics.specs.Call.{zeros}
 use Rattle.sheet.specs.declared.Head.{Head}
-use Rattle.answers.specs.declared.Written.TheVariants.{Refused}
+use Rattle.std.specs.Prelude.{Err}
 use Rattle.sheet.proofs.Answers.{found}
 use Rattle.dag.specs.Calls.{built_outcome}
 use Rattle.dag.proofs.Outcomes.{clear_found, call_refused}
@@ -13,14 +13,13 @@ use Rattle.dag.proofs.build_clear.Goals as goal
 pub returns-in_default : goal.returns-in_default
 returns-in_default c =
     let a = c.args in
-    ap (built_outcome (Refused c.refusal_of.result) (zeros (length a.scratch.now))) c.requires.1
-    ∙ call_refused a.s.now (length a.scratch.now) (length a.out.now) c.check_sheet-checked.ensures c.in_default.is
-    c.refusal_of.ensures
+    ap (built_outcome (Err c.unwrap_err.result) (zeros (length a.scratch.now))) c.requires.1
+    ∙ call_refused a.s.now (length a.scratch.now) (length a.out.now) c.check_sheet-checked.ensures c.unwrap_err.ensures
 
 pub build_checked-requires : goal.build_checked-requires
 build_checked-requires c =
     let a = c.args in
     let p = c.requires in
-    let t = found prime a.s.now c.check_sheet-checked.ensures c.in-Sheet.is in
+    let t = found prime a.s.now c.check_sheet-checked.ensures c.in-Ok.is in
     clear_found a.s.now t.0 t.1 _ _ (ap (λ (h : Head). h.records) t.2) (ap (λ (h : Head). h.words) t.2) a.scratch.now a.out.now
     p.0 p.1
