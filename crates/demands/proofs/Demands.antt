@@ -7,8 +7,6 @@ use Rattle.semantics.specs.Arithmetic.{prime}
 use Rattle.semantics.specs.Call.{Outcome, Accepted, handed_back, builder_call, constraint_call, interaction_call}
 use Rattle.semantics.specs.Demand.{GraphRule, ConstraintRule, InteractionRule, GraphConstraintRule, GraphInteractionRule}
 use Rattle.semantics.proofs.Demands.{demand_prime}
-use Rattle.answers.specs.declared.Written.{Written}
-use Rattle.answers.specs.declared.Written.TheVariants.{Words, Refused}
 use Rattle.answers.specs.Replies.{count_of}
 use Rattle.dag.specs.Calls.{built_outcome}
 use Rattle.demands.specs.Demand.{GraphBuilt, ConstraintsExpanded, InteractionsExpanded, CallsDemand}
@@ -18,12 +16,12 @@ number_is : {o o' : Outcome} → o ≡ o' → Accepted o → Accepted o'
 number_is e a = ap (λ (x : Outcome). x.reply.number) (sym e) ∙ a
 
 -- The words that `build` hands back are the front of its output.
-words_back : (r : Written) (scratch out : List ℕ) → handed_back 1 (built_outcome r scratch out) 0 ≡ take (count_of r) out
+words_back : (r : Result ℕ Refusal) (scratch out : List ℕ) → handed_back 1 (built_outcome r scratch out) 0 ≡ take (count_of r) out
 unfolding handed_back
 words_back (Words n) scratch out = refl
-words_back (Refused v) scratch out = refl
+words_back (Err v) scratch out = refl
 
-pub build_demand : (ws : List ℕ) (scratch-lent out-lent : ℕ) (r : Written) (scratch out : List ℕ)
+pub build_demand : (ws : List ℕ) (scratch-lent out-lent : ℕ) (r : Result ℕ Refusal) (scratch out : List ℕ)
     → built_outcome r scratch out ≡ builder_call prime ws (scratch-lent ∷ out-lent ∷ []) → GraphBuilt ws r out
 build_demand ws scratch-lent out-lent r scratch out e a =
     let g = demand_prime.graph ws scratch-lent out-lent (number_is e a) in

@@ -6,16 +6,13 @@ use Rattle.semantics.specs.Sheet.{Sheet}
 use Rattle.semantics.specs.Check.{prime_of, check}
 use Rattle.semantics.specs.Call.{Outcome, Accepted, handed_back, builder_call, constraint_call, interaction_call}
 use Rattle.semantics.specs.Demand.{GraphRule, ConstraintRule, InteractionRule, GraphConstraintRule, GraphInteractionRule}
-use Rattle.answers.specs.declared.Written.{Written}
 use Rattle.answers.specs.Replies.{written_reply, count_of}
 use Rattle.dag.specs.Calls.{built_outcome}
-use Rattle.constraint_lists.specs.declared.ConstraintLists.{ConstraintLists}
-use Rattle.interaction_lists.specs.declared.InteractionLists.{InteractionLists}
 use Rattle.expansion.specs.Answers.{constraint_outcome, interaction_outcome}
 
 -- Where the builder's number is 0, the words given are a sheet, and as many words of the output as it counts are its graph, which keeps
 -- every value and has no more nodes than records reached.
-abbrev pub GraphBuilt : (ws : List ℕ) → Written → (out : List ℕ) → Type 0
+abbrev pub GraphBuilt : (ws : List ℕ) → Result ℕ Refusal → (out : List ℕ) → Type 0
 GraphBuilt ws r out = (written_reply r).number ≡ 0 → (s : Sheet) × (check (prime_of ws) ws ≡ good s) × GraphRule (prime_of ws) s (take (count_of r) out)
 
 -- Words that the builder hands back for a source, which is the sheet s.
@@ -40,11 +37,11 @@ pub record InteractionsExpanded (ws : List ℕ) (o : Outcome) : Type 0 where
 
 -- For any words and any lent lengths, from what the contracts of the three calls promise of an answer r and of the slices.
 pub record CallsDemand : Type 0 where
-  pub build : (ws : List ℕ) (scratch-lent out-lent : ℕ) (r : Written) (scratch out : List ℕ)
+  pub build : (ws : List ℕ) (scratch-lent out-lent : ℕ) (r : Result ℕ Refusal) (scratch out : List ℕ)
       → built_outcome r scratch out ≡ builder_call (prime_of ws) ws (scratch-lent ∷ out-lent ∷ []) → GraphBuilt ws r out
-  pub constraints : (ws : List ℕ) (work pool h v t : ℕ) (r : ConstraintLists) (work' pool' h' v' t' : List ℕ)
+  pub constraints : (ws : List ℕ) (work pool h v t : ℕ) (r : Result Lengths Refusal) (work' pool' h' v' t' : List ℕ)
       → constraint_outcome r work' pool' h' v' t' ≡ constraint_call (prime_of ws) ws (work ∷ pool ∷ h ∷ v ∷ t ∷ [])
       → ConstraintsExpanded ws (constraint_outcome r work' pool' h' v' t')
-  pub interactions : (ws : List ℕ) (work pool h v t h₂ v₂ t₂ : ℕ) (r : InteractionLists) (work' pool' h' v' t' h₃ v₃ t₃ : List ℕ)
+  pub interactions : (ws : List ℕ) (work pool h v t h₂ v₂ t₂ : ℕ) (r : Result InteractionLengths Refusal) (work' pool' h' v' t' h₃ v₃ t₃ : List ℕ)
       → interaction_outcome r work' pool' h' v' t' h₃ v₃ t₃ ≡ interaction_call (prime_of ws) ws (work ∷ pool ∷ h ∷ v ∷ t ∷ h₂ ∷ v₂ ∷ t₂ ∷ [])
       → InteractionsExpanded ws (interaction_outcome r work' pool' h' v' t' h₃ v₃ t₃)

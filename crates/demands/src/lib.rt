@@ -8,11 +8,11 @@ ghost use Rattle.semantics.specs.Call.{builder_call, constraint_call, interactio
 ghost use Rattle.expansion.specs.Answers.{constraint_reply, interaction_reply};
 ghost use Rattle.demands.specs.Demand.{GraphBuilt, ConstraintsExpanded, InteractionsExpanded};
 
-use answers::Written;
-use constraint_lists::ConstraintLists;
-use interaction_lists::InteractionLists;
+use answers::Refusal;
+use grouping::Lengths;
+use interaction_lists::InteractionLengths;
 
-pub fn build(s: &[u32], scratch: &mut [u32], out: &mut [u32]) -> Written
+pub fn build(s: &[u32], scratch: &mut [u32], out: &mut [u32]) -> Result<usize, Refusal>
     ensures outcome { Gives written_reply result (scratch ∷ out ∷ []) (builder_call (prime_of s.now) s.now) }
     ensures demand { GraphBuilt s.now result out.new }
 {
@@ -27,7 +27,7 @@ pub fn expand_constraints(
     headers: &mut [u32],
     variables: &mut [u32],
     terms: &mut [u32],
-) -> ConstraintLists
+) -> Result<Lengths, Refusal>
     ensures outcome { Gives constraint_reply result (work ∷ pool ∷ headers ∷ variables ∷ terms ∷ [])
         (constraint_call (prime_of s.now) s.now) }
     ensures demand { ConstraintsExpanded s.now
@@ -47,7 +47,7 @@ pub fn expand_interactions(
     denom_headers: &mut [u32],
     denom_variables: &mut [u32],
     denom_terms: &mut [u32],
-) -> InteractionLists
+) -> Result<InteractionLengths, Refusal>
     ensures outcome { Gives interaction_reply result
         (work ∷ pool ∷ headers ∷ variables ∷ terms ∷ denom_headers ∷ denom_variables ∷ denom_terms ∷ [])
         (interaction_call (prime_of s.now) s.now) }

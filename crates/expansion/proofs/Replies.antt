@@ -9,20 +9,16 @@ use Rattle.semantics.specs.Arithmetic.{prime}
 use Rattle.semantics.specs.Answer.{Answer, good, refused}
 use Rattle.semantics.specs.Sheet.{Sheet}
 use Rattle.semantics.specs.Check.{read_sheet, check}
-use Rattle.semantics.specs.Call.{Result, zeros, padded, padded_all, outcome, on_sheet, check_call, expansion, constraints_of, constraint_call, interactions_of, interaction_call}
+use Rattle.semantics.specs.Call.{Result as Made, zeros, padded, padded_all, outcome, on_sheet, check_call, expansion, constraints_of, constraint_call, interactions_of, interaction_call}
 use Rattle.records.proofs.Reading.{read_found}
+use Rattle.std.specs.Prelude.{Result, Ok, Err}
 use Rattle.answers.specs.declared.Refusal.{Refusal}
+use Rattle.answers.specs.Replies.{number_of}
 use Rattle.sheet.specs.declared.Head.{Head}
-use Rattle.sheet.specs.declared.Checked.{Checked}
-use Rattle.sheet.specs.declared.Checked.TheVariants as checked
-use Rattle.sheet.specs.Replies.{checked_outcome, checked_refusal}
+use Rattle.sheet.specs.Replies.{checked_outcome}
 use Rattle.sheet.proofs.Answers.{found, on_found, on_refused}
 use Rattle.grouping.specs.declared.Lengths.{Lengths}
-use Rattle.constraint_lists.specs.declared.ConstraintLists.{ConstraintLists}
-use Rattle.constraint_lists.specs.declared.ConstraintLists.TheVariants.{Written, Refused}
 use Rattle.interaction_lists.specs.declared.InteractionLengths.{InteractionLengths}
-use Rattle.interaction_lists.specs.declared.InteractionLists.{InteractionLists}
-use Rattle.interaction_lists.specs.declared.InteractionLists.TheVariants as interaction
 use Rattle.constraint_lists.specs.Lists.{constraint_answer, ListsFit, CheckedSheet}
 use Rattle.constraint_lists.proofs.Steps.{Kept}
 use Rattle.interaction_lists.specs.Lists.{interaction_answer, BothInside}
@@ -42,7 +38,7 @@ pub cut_none : (o : List ℕ) → cut 0 o ≡ zeros (length o)
 unfolding zeros
 cut_none o = ap (λ (n : ℕ). replicate n 0) (sub-zero (length o))
 
-pub sheet_found : (ws : List ℕ) {r : Checked} {h : Head} → checked_outcome r ≡ check_call prime ws → r ≡ checked.Sheet h
+pub sheet_found : (ws : List ℕ) {r : Result Head Refusal} {h : Head} → checked_outcome r ≡ check_call prime ws → r ≡ Ok h
     → CheckedSheet ws h.records h.constraints h.interactions
 sheet_found ws e q =
     let t = found prime ws e q in
@@ -55,21 +51,21 @@ sheet_found ws e q =
     }
 
 -- A refused sheet ends the call, and another goes on.
-module _ (ws : List ℕ) (rest : Sheet → Answer Result) where
-  pub sheet_refused : {r : Checked} {v u : Refusal} → checked_outcome r ≡ check_call prime ws → r ≡ checked.Refused v → u ≡ checked_refusal r
-      → refused u.number u.place ≡ on_sheet prime ws rest
-  sheet_refused e q f = ap (λ (x : Refusal). refused x.number x.place) (f ∙ ap checked_refusal q) ∙ on_refused prime ws rest e q
+module _ (ws : List ℕ) (rest : Sheet → Answer Made) where
+  pub sheet_refused : {r : Result Head Refusal} {v : Refusal} → checked_outcome r ≡ check_call prime ws → r ≡ Err v
+      → refused (number_of v.reason) v.place ≡ on_sheet prime ws rest
+  sheet_refused e q = on_refused prime ws rest e q
 
   pub sheet_goes_on : check prime ws ≡ good (read_sheet ws) → rest (read_sheet ws) ≡ on_sheet prime ws rest
   sheet_goes_on e = on_found prime ws rest e
 
 -- The call, once scratch is zeroed and the outputs are zeroed behind their lists.
-pub constraint_finish : (r : ConstraintLists) (h v t : List ℕ) → ListsFit r h v t → (work pool : ℕ)
+pub constraint_finish : (r : Result Lengths Refusal) (h v t : List ℕ) → ListsFit r h v t → (work pool : ℕ)
     → constraint_outcome r (replicate work 0) (replicate pool 0)
     (cut (lengths_of r).headers h) (cut (lengths_of r).variables v) (cut (lengths_of r).terms t)
     ≡ outcome (work ∷ pool ∷ []) (length h ∷ length v ∷ length t ∷ []) (constraint_answer r h v t)
 unfolding outcome padded_all zeros
-constraint_finish (Written n) h v t i work pool = λ j. record {
+constraint_finish (Ok n) h v t i work pool = λ j. record {
   reply = record {
     number = 0;
     place = 0;
@@ -79,8 +75,8 @@ constraint_finish (Written n) h v t i work pool = λ j. record {
   slices =
       replicate work 0 ∷ replicate pool 0 ∷ kept_padded n.headers h j ∷ kept_padded n.variables v j ∷ kept_padded n.terms t j ∷ [];
 }
-constraint_finish (Refused q) h v t i work pool = λ j. record {
-  reply = record { number = q.number; place = q.place; counts = []; numbers = [] };
+constraint_finish (Err q) h v t i work pool = λ j. record {
+  reply = record { number = number_of q.reason; place = q.place; counts = []; numbers = [] };
   slices = replicate work 0 ∷ replicate pool 0 ∷ cut_none h j ∷ cut_none v j ∷ cut_none t j ∷ [];
 }
 
@@ -92,7 +88,7 @@ Cleared kept h v t h' v' t' = (h' ≡ cut kept.headers h) × (v' ≡ cut kept.va
 pub zeroed_again : {n k : ℕ} {s : List ℕ} → s ≡ replicate k 0 → k ≡ n → s ≡ replicate n 0
 zeroed_again e l = e ∙ ap (λ (k : ℕ). replicate k 0) l
 
-module _ (ws : List ℕ) (work pool : ℕ) {headers variables terms : ℕ} (r : ConstraintLists) {h v t : List ℕ}
+module _ (ws : List ℕ) (work pool : ℕ) {headers variables terms : ℕ} (r : Result Lengths Refusal) {h v t : List ℕ}
     (long : Kept headers variables terms h v t)
     (answer : constraint_answer r h v t ≡ on_sheet prime ws (constraints_of prime (work ∷ pool ∷ headers ∷ variables ∷ terms ∷ []))) (inside : ListsFit r h v t) where
   pub constraint_done : (kept : Lengths) → kept ≡ lengths_of r → (work' pool' : List ℕ) → work' ≡ replicate work 0 → pool' ≡ replicate pool 0
@@ -107,7 +103,7 @@ module _ (ws : List ℕ) (work pool : ℕ) {headers variables terms : ℕ} (r : 
       ∙ (λ i. outcome (work ∷ pool ∷ []) (long.headers_long i ∷ long.variables_long i ∷ long.terms_long_lem i ∷ []) (answer i))
 
 -- The same for the interaction call.
-pub interaction_finish : (r : InteractionLists) (h v t h₂ v₂ t₂ : List ℕ) → BothInside r h v t h₂ v₂ t₂ → (work pool : ℕ)
+pub interaction_finish : (r : Result InteractionLengths Refusal) (h v t h₂ v₂ t₂ : List ℕ) → BothInside r h v t h₂ v₂ t₂ → (work pool : ℕ)
     → interaction_outcome r (replicate work 0) (replicate pool 0)
     (cut (both_lengths r).numerators.headers h) (cut (both_lengths r).numerators.variables v) (cut (both_lengths r).numerators.terms t)
     (cut (both_lengths r).denominators.headers h₂) (cut (both_lengths r).denominators.variables v₂)
@@ -115,7 +111,7 @@ pub interaction_finish : (r : InteractionLists) (h v t h₂ v₂ t₂ : List ℕ
     ≡ outcome (work ∷ pool ∷ []) (length h ∷ length v ∷ length t ∷ length h₂ ∷ length v₂ ∷ length t₂ ∷ [])
     (interaction_answer r h v t h₂ v₂ t₂)
 unfolding outcome padded_all zeros
-interaction_finish (interaction.Written n) h v t h₂ v₂ t₂ i work pool =
+interaction_finish (Ok n) h v t h₂ v₂ t₂ i work pool =
     let a = n.numerators in
     let b = n.denominators in
     λ j. record {
@@ -131,14 +127,14 @@ interaction_finish (interaction.Written n) h v t h₂ v₂ t₂ i work pool =
           replicate work 0 ∷ replicate pool 0 ∷ kept_padded a.headers h j ∷ kept_padded a.variables v j ∷ kept_padded a.terms t j
           ∷ kept_padded b.headers h₂ j ∷ kept_padded b.variables v₂ j ∷ kept_padded b.terms t₂ j ∷ [];
     }
-interaction_finish (interaction.Refused q) h v t h₂ v₂ t₂ i work pool = λ j. record {
-  reply = record { number = q.number; place = q.place; counts = []; numbers = [] };
+interaction_finish (Err q) h v t h₂ v₂ t₂ i work pool = λ j. record {
+  reply = record { number = number_of q.reason; place = q.place; counts = []; numbers = [] };
   slices =
       replicate work 0 ∷ replicate pool 0 ∷ cut_none h j ∷ cut_none v j ∷ cut_none t j
       ∷ cut_none h₂ j ∷ cut_none v₂ j ∷ cut_none t₂ j ∷ [];
 }
 
-module _ (ws : List ℕ) (work pool : ℕ) {lh lv lt lh₂ lv₂ lt₂ : ℕ} (r : InteractionLists) {h v t h₂ v₂ t₂ : List ℕ}
+module _ (ws : List ℕ) (work pool : ℕ) {lh lv lt lh₂ lv₂ lt₂ : ℕ} (r : Result InteractionLengths Refusal) {h v t h₂ v₂ t₂ : List ℕ}
     (numerators : Kept lh lv lt h v t) (denominators : Kept lh₂ lv₂ lt₂ h₂ v₂ t₂)
     (answer : interaction_answer r h v t h₂ v₂ t₂ ≡ on_sheet prime ws (interactions_of prime (work ∷ pool ∷ lh ∷ lv ∷ lt ∷ lh₂ ∷ lv₂ ∷ lt₂ ∷ [])))
     (inside : BothInside r h v t h₂ v₂ t₂) where

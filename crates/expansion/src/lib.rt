@@ -6,12 +6,11 @@ ghost use Rattle.semantics.specs.Check.{prime_of};
 ghost use Rattle.semantics.specs.Call.{constraint_call, interaction_call, Gives, constraints_of, interactions_of};
 ghost use Rattle.constraint_lists.specs.Lists.{ConstraintsAre, on_words};
 ghost use Rattle.interaction_lists.specs.Lists.{InteractionsAre};
-ghost use Rattle.expansion.specs.Answers.{lengths_of, both_lengths, constraint_reply, interaction_reply, Cut};
+ghost use Rattle.expansion.specs.Answers.{constraint_reply, interaction_reply, Cut};
 
-use constraint_lists::ConstraintLists;
+use answers::Refusal;
 use grouping::Lengths;
-use interaction_lists::{InteractionLengths, InteractionLists};
-use sheet::Checked;
+use interaction_lists::InteractionLengths;
 
 // The lists of a sheet's constraints; what is not written is not zeroed yet.
 fn expand_sheet(
@@ -21,12 +20,12 @@ fn expand_sheet(
     headers: &mut [u32],
     variables: &mut [u32],
     terms: &mut [u32],
-) -> ConstraintLists
+) -> Result<Lengths, Refusal>
     ensures { ConstraintsAre 2 result (work ∷ pool ∷ headers ∷ variables ∷ terms ∷ []) (on_words s.now constraints_of) }
 {
     let checked = sheet::check_sheet(s);
-    let Checked::Sheet(head) = checked else {
-        return ConstraintLists::Refused(sheet::refusal_of(checked));
+    let Ok(head) = checked else {
+        return Err(checked.unwrap_err());
     };
     constraint_lists::expand_checked(
         s,
@@ -40,27 +39,27 @@ fn expand_sheet(
     )
 }
 
-// How many words of each output stay.
-fn lengths_of(lists: ConstraintLists) -> Lengths
-    ensures { result ≡ lengths_of lists }
-{
-    match lists {
-        ConstraintLists::Written(n) => n,
-        ConstraintLists::Refused(_) => Lengths {
-            headers: 0,
-            variables: 0,
-            terms: 0,
-        },
-    }
-}
+// No words: what stays of three outputs after a refusal, and of six.
+const NOTHING: Lengths = Lengths {
+    headers: 0,
+    variables: 0,
+    terms: 0,
+};
+
+const NOTHING_OF_BOTH: InteractionLengths = InteractionLengths {
+    numerators: NOTHING,
+    denominators: NOTHING,
+    num_interactions: 0,
+    max_fields_len: 0,
+};
 
 // Zeros behind the words of three lists.
 fn clear_behind(headers: &mut [u32], variables: &mut [u32], terms: &mut [u32], kept: Lengths)
     ensures { Cut headers kept.headers × Cut variables kept.variables × Cut terms kept.terms }
 {
-    slices::zero_from(headers, kept.headers);
-    slices::zero_from(variables, kept.variables);
-    slices::zero_from(terms, kept.terms);
+    slices::fill_from(headers, kept.headers, 0);
+    slices::fill_from(variables, kept.variables, 0);
+    slices::fill_from(terms, kept.terms, 0);
 }
 
 // The constraint call: headers, variables and terms of the sheet's constraints; work and pool end all zero.
@@ -71,14 +70,14 @@ pub fn expand_constraints(
     headers: &mut [u32],
     variables: &mut [u32],
     terms: &mut [u32],
-) -> ConstraintLists
+) -> Result<Lengths, Refusal>
     ensures { Gives constraint_reply result (work ∷ pool ∷ headers ∷ variables ∷ terms ∷ [])
         (constraint_call (prime_of s.now) s.now) }
 {
     let lists = expand_sheet(s, work, pool, headers, variables, terms);
-    let kept = lengths_of(lists);
-    slices::zero_all(work);
-    slices::zero_all(pool);
+    let kept = lists.unwrap_or(NOTHING);
+    work.fill(0);
+    pool.fill(0);
     clear_behind(headers, variables, terms, kept);
     lists
 }
@@ -94,14 +93,14 @@ fn expand_sheet_interactions(
     denom_headers: &mut [u32],
     denom_variables: &mut [u32],
     denom_terms: &mut [u32],
-) -> InteractionLists
+) -> Result<InteractionLengths, Refusal>
     ensures { InteractionsAre 2 result
         (work ∷ pool ∷ headers ∷ variables ∷ terms ∷ denom_headers ∷ denom_variables ∷ denom_terms ∷ [])
         (on_words s.now interactions_of) }
 {
     let checked = sheet::check_sheet(s);
-    let Checked::Sheet(head) = checked else {
-        return InteractionLists::Refused(sheet::refusal_of(checked));
+    let Ok(head) = checked else {
+        return Err(checked.unwrap_err());
     };
     interaction_lists::expand_checked(
         s,
@@ -119,28 +118,6 @@ fn expand_sheet_interactions(
     )
 }
 
-fn both_lengths(lists: InteractionLists) -> InteractionLengths
-    ensures { result ≡ both_lengths lists }
-{
-    match lists {
-        InteractionLists::Written(n) => n,
-        InteractionLists::Refused(_) => InteractionLengths {
-            numerators: Lengths {
-                headers: 0,
-                variables: 0,
-                terms: 0,
-            },
-            denominators: Lengths {
-                headers: 0,
-                variables: 0,
-                terms: 0,
-            },
-            num_interactions: 0,
-            max_fields_len: 0,
-        },
-    }
-}
-
 // The interaction call: numerators, then denominators; work and pool end all zero.
 pub fn expand_interactions(
     s: &[u32],
@@ -152,7 +129,7 @@ pub fn expand_interactions(
     denom_headers: &mut [u32],
     denom_variables: &mut [u32],
     denom_terms: &mut [u32],
-) -> InteractionLists
+) -> Result<InteractionLengths, Refusal>
     ensures { Gives interaction_reply result
         (work ∷ pool ∷ headers ∷ variables ∷ terms ∷ denom_headers ∷ denom_variables ∷ denom_terms ∷ [])
         (interaction_call (prime_of s.now) s.now) }
@@ -168,9 +145,9 @@ pub fn expand_interactions(
         denom_variables,
         denom_terms,
     );
-    let kept = both_lengths(lists);
-    slices::zero_all(work);
-    slices::zero_all(pool);
+    let kept = lists.unwrap_or(NOTHING_OF_BOTH);
+    work.fill(0);
+    pool.fill(0);
     clear_behind(headers, variables, terms, kept.numerators);
     clear_behind(
         denom_headers,

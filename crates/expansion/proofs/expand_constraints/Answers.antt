@@ -18,6 +18,6 @@ returns c =
     let a = c.args in
     constraint_done a.s.now (length a.work.now) (length a.pool.now) expand.result long
     expand.ensures.0 expand.ensures.1
-    c.lengths_of-kept.result c.lengths_of-kept.ensures c.zero_all.new.s c.zero_all-2.new.s
-    (zeroed_again c.zero_all.ensures expand.auto.work) (zeroed_again c.zero_all-2.ensures expand.auto.pool)
+    c.unwrap_or-kept.result c.unwrap_or-kept.ensures c.fill.new.self c.fill-2.new.self
+    (zeroed_again (c.fill.ensures.after (λ y e. e)) expand.auto.work) (zeroed_again (c.fill-2.ensures.after (λ y e. e)) expand.auto.pool)
     clear.new.headers clear.new.variables clear.new.terms clear.ensures

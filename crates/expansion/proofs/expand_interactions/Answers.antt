@@ -24,14 +24,14 @@ returns c =
     } in
     let expand = c.expand_sheet_interactions-lists in
     let a = c.args in
-    let kept = c.both_lengths-kept in
-    let zero-work = c.zero_all in
-    let zero-pool = c.zero_all-2 in
+    let kept = c.unwrap_or-kept in
+    let zero-work = c.fill in
+    let zero-pool = c.fill-2 in
     let clear = c.clear_behind in
     let clear-denominators = c.clear_behind-2 in
     interaction_done a.s.now (length a.work.now) (length a.pool.now) expand.result
     numerators denominators
-    expand.ensures.0 expand.ensures.1 kept.result kept.ensures zero-work.new.s zero-pool.new.s
-    (zeroed_again zero-work.ensures expand.auto.work) (zeroed_again zero-pool.ensures expand.auto.pool)
+    expand.ensures.0 expand.ensures.1 kept.result kept.ensures zero-work.new.self zero-pool.new.self
+    (zeroed_again (zero-work.ensures.after (λ y e. e)) expand.auto.work) (zeroed_again (zero-pool.ensures.after (λ y e. e)) expand.auto.pool)
     clear.new.headers clear.new.variables clear.new.terms clear.ensures
     clear-denominators.new.headers clear-denominators.new.variables clear-denominators.new.terms clear-denominators.ensures

@@ -13,20 +13,20 @@ pub returns-in_default : goal.returns-in_default
 returns-in_default c = (
   sheet_refused c.args.s.now (let a = c.args in
       constraints_of prime (map (λ (l : List ℕ). length l)
-      (a.work.now ∷ a.pool.now ∷ a.headers.now ∷ a.variables.now ∷ a.terms.now ∷ []))) c.check_sheet-checked.ensures c.in_default.is c.refusal_of.ensures,
+      (a.work.now ∷ a.pool.now ∷ a.headers.now ∷ a.variables.now ∷ a.terms.now ∷ []))) c.check_sheet-checked.ensures c.unwrap_err.ensures,
   tt,
 )
 
 pub expand_checked-requires : goal.expand_checked-requires
 expand_checked-requires c =
-    let sheet : let h = c.in-Sheet.head in CheckedSheet c.args.s.now h.records h.constraints h.interactions =
-    sheet_found c.args.s.now c.check_sheet-checked.ensures c.in-Sheet.is in
-    (c.in-Sheet.head.interactions, sheet)
+    let sheet : let h = c.in-Ok.head in CheckedSheet c.args.s.now h.records h.constraints h.interactions =
+    sheet_found c.args.s.now c.check_sheet-checked.ensures c.in-Ok.is in
+    (c.in-Ok.head.interactions, sheet)
 
 pub returns : goal.returns
 returns c =
-    let sheet : let h = c.in-Sheet.head in CheckedSheet c.args.s.now h.records h.constraints h.interactions =
-    sheet_found c.args.s.now c.check_sheet-checked.ensures c.in-Sheet.is in
+    let sheet : let h = c.in-Ok.head in CheckedSheet c.args.s.now h.records h.constraints h.interactions =
+    sheet_found c.args.s.now c.check_sheet-checked.ensures c.in-Ok.is in
     let x = c.expand_checked.ensures in (
       x.0 ∙ sheet_goes_on c.args.s.now (let a = c.args in
           constraints_of prime (map (λ (l : List ℕ). length l)

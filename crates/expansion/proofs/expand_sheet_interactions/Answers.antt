@@ -14,20 +14,20 @@ returns-in_default c = (
   sheet_refused c.args.s.now (let a = c.args in
       interactions_of prime (map (λ (l : List ℕ). length l)
       (a.work.now ∷ a.pool.now ∷ a.headers.now ∷ a.variables.now ∷ a.terms.now
-      ∷ a.denom_headers.now ∷ a.denom_variables.now ∷ a.denom_terms.now ∷ []))) c.check_sheet-checked.ensures c.in_default.is c.refusal_of.ensures,
+      ∷ a.denom_headers.now ∷ a.denom_variables.now ∷ a.denom_terms.now ∷ []))) c.check_sheet-checked.ensures c.unwrap_err.ensures,
   tt,
 )
 
 pub expand_checked-requires : goal.expand_checked-requires
 expand_checked-requires c =
-    let sheet : let h = c.in-Sheet.head in CheckedSheet c.args.s.now h.records h.constraints h.interactions =
-    sheet_found c.args.s.now c.check_sheet-checked.ensures c.in-Sheet.is in
+    let sheet : let h = c.in-Ok.head in CheckedSheet c.args.s.now h.records h.constraints h.interactions =
+    sheet_found c.args.s.now c.check_sheet-checked.ensures c.in-Ok.is in
     sheet
 
 pub returns : goal.returns
 returns c =
-    let sheet : let h = c.in-Sheet.head in CheckedSheet c.args.s.now h.records h.constraints h.interactions =
-    sheet_found c.args.s.now c.check_sheet-checked.ensures c.in-Sheet.is in
+    let sheet : let h = c.in-Ok.head in CheckedSheet c.args.s.now h.records h.constraints h.interactions =
+    sheet_found c.args.s.now c.check_sheet-checked.ensures c.in-Ok.is in
     let x = c.expand_checked.ensures in (
       x.0 ∙ sheet_goes_on c.args.s.now (let a = c.args in
           interactions_of prime (map (λ (l : List ℕ). length l)
