@@ -10,7 +10,7 @@ use Rattle.std.proofs.lemmas.Fmt.{decimal_digit, decimal_step}
 use Rattle.std.proofs.lemmas.Bool.{cases_lt}
 use Rattle.std.proofs.Math.Nat.{pow-suc}
 use Rattle.semantics.specs.Sheetlist.{digits, decimal, hex_digit, hex_digits}
-use Rattle.listing.specs.declared.out.Out.{Out}
+use Rattle.listing.specs.declared.output.Out.{Out}
 use Rattle.listing.specs.Putting.{Room, Writes}
 use Rattle.listing.proofs.Writing.{room_front, puts_none, puts_is, Done, done_none, done_more}
 

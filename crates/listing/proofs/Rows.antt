@@ -8,7 +8,7 @@ use native.Mathlib.Numerals.{add-one}
 use lib.ListN.{length, length-append}
 use Rattle.slices.specs.Rows.{rows}
 use Rattle.slices.proofs.Rows.{rows_cons}
-use Rattle.listing.specs.declared.out.Out.{Out}
+use Rattle.listing.specs.declared.output.Out.{Out}
 use Rattle.listing.specs.Putting.{Room, Writes}
 use Rattle.listing.proofs.Writing.{Done, done_none, done_room, done_more, done_all}
 

@@ -9,7 +9,7 @@ use lib.Seq.{drop-cons}
 use Rattle.std.proofs.lemmas.List.{drop_all}
 use Rattle.slices.specs.Putting.{put}
 use Rattle.slices.proofs.Puts.{put_none, put_length, put_behind}
-use Rattle.listing.specs.declared.out.Out.{Out}
+use Rattle.listing.specs.declared.output.Out.{Out}
 use Rattle.listing.specs.Putting.{Room, Writes, spaced}
 
 -- Nothing is written.

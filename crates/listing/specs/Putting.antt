@@ -2,7 +2,7 @@
 use mathlib.Core.List.{List, ◌∷◌, flat_map}
 use Rattle.std.specs.Prelude.{◌≡◌, ℕ, ◌+◌, ◌≤◌, length}
 use Rattle.slices.specs.Putting.{Puts}
-use Rattle.listing.specs.declared.out.Out.{Out}
+use Rattle.listing.specs.declared.output.Out.{Out}
 
 -- There is room for some bytes.
 abbrev pub Room : Out → (xs : List ℕ) → Type 0

@@ -3,7 +3,7 @@ ghost use Rattle.std.specs.Prelude.{◌≡◌, length};
 ghost use Rattle.listing.specs.Putting.{Room, Writes};
 ghost use Rattle.listing.specs.Families.{letter_of, width_of, term_lines, header_line, header_of, family_lines, HeaderInside, HeadersInside};
 
-use crate::out::Out;
+use crate::output::Out;
 use crate::terms::put_term;
 
 // The three families of lists.

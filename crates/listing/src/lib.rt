@@ -3,5 +3,5 @@
 
 pub mod headers;
 pub mod lines;
-pub mod out;
+pub mod output;
 mod terms;

@@ -4,7 +4,7 @@ ghost use Rattle.listing.specs.Putting.{Room, Writes};
 ghost use Rattle.listing.specs.Families.{width_of, line_of, term_line};
 
 use crate::headers::Family;
-use crate::out::Out;
+use crate::output::Out;
 
 // A letter, numbers and a coefficient.
 fn put_line(out: &mut Out, letter: u8, numbers: &[usize], coefficient: u32)

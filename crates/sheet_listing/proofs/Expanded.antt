@@ -7,21 +7,18 @@ use lib.ListN.{length, get_or, take}
 use Rattle.semantics.specs.Arithmetic.{prime}
 use Rattle.semantics.specs.Call.{Outcome, Accepted, handed_back}
 use Rattle.semantics.specs.Sheetlist.{decimal, line, refused_text, cons_text, inter_text, end_text, constraint_step, interaction_step}
+use Rattle.std.specs.Prelude.{Result, Ok, Err}
 use Rattle.answers.specs.declared.Refusal.{Refusal}
+use Rattle.answers.specs.Replies.{number_of}
 use Rattle.listing.specs.declared.headers.Family.{Family}
 use Rattle.listing.specs.declared.headers.Family.TheVariants.{Constraints, Numerators, Denominators}
 use Rattle.listing.specs.Families.{width_of, family_lines, HeadersInside}
 use Rattle.listing.proofs.Steps.{expands_constraints, expands_interactions, step_on, constraint_prints, interaction_prints}
 use Rattle.listing.proofs.Handing.{constraints_handed, numerators_handed, denominators_handed}
 use Rattle.grouping.specs.declared.Lengths.{Lengths}
-use Rattle.constraint_lists.specs.declared.ConstraintLists.{ConstraintLists}
-use Rattle.constraint_lists.specs.declared.ConstraintLists.TheVariants as constraint
 use Rattle.interaction_lists.specs.declared.InteractionLengths.{InteractionLengths}
-use Rattle.interaction_lists.specs.declared.InteractionLists.{InteractionLists}
-use Rattle.interaction_lists.specs.declared.InteractionLists.TheVariants as interaction
 use Rattle.expansion.specs.Answers.{constraint_outcome, interaction_outcome}
 use Rattle.sheet_listing.specs.Fronts.{front_lines, Fronts, both_lines}
-use Rattle.sheet_listing.specs.Refusals.{of_constraints, of_interactions}
 use Rattle.sheet_listing.proofs.Sounds.{Sound, constraint_sound, interaction_sound, output_refused}
 
 -- Lists handed back from k on, by a call whose scratch is work and pool.
@@ -52,16 +49,16 @@ module _ (family : Family) (o : Outcome) (s : Sound 2 o) (k : ℕ) (n : Lengths)
   }
 
 -- Constraints.
-module _ (graph : List ℕ) (r : ConstraintLists) (work pool hs vs ts : List ℕ) (e : constraint_outcome r work pool hs vs ts ≡ expands_constraints graph) where
-  pub constraints_refused : (x u : Refusal) → r ≡ constraint.Refused x → u ≡ of_constraints r
-      → line (refused_text ∷ cons_text ∷ decimal u.number ∷ decimal u.place ∷ []) ≡ constraint_step prime graph
-  constraints_refused x u q f =
-      let o : constraint_outcome (constraint.Refused x) work pool hs vs ts ≡ expands_constraints graph = ap (λ a. constraint_outcome a work pool hs vs ts) (sym q) ∙ e in
-      output_refused cons_text 2 (expands_constraints graph) _ x u (constraint_sound prime graph 4096 4096 1024 1024 1024) (f ∙ ap of_constraints q)
+module _ (graph : List ℕ) (r : Result Lengths Refusal) (work pool hs vs ts : List ℕ) (e : constraint_outcome r work pool hs vs ts ≡ expands_constraints graph) where
+  pub constraints_refused : (x : Refusal) → r ≡ Err x
+      → line (refused_text ∷ cons_text ∷ decimal (number_of x.reason) ∷ decimal x.place ∷ []) ≡ constraint_step prime graph
+  constraints_refused x q =
+      let o : constraint_outcome (Err x) work pool hs vs ts ≡ expands_constraints graph = ap (λ a. constraint_outcome a work pool hs vs ts) (sym q) ∙ e in
+      output_refused cons_text 2 (expands_constraints graph) _ x (constraint_sound prime graph 4096 4096 1024 1024 1024)
       (ap (λ (y : Outcome). y.reply) o) (subst (λ (y : Outcome). 2 < length y.slices) o (omega arith))
 
-  module _ (n : Lengths) (q : r ≡ constraint.Written n) where
-    written : expands_constraints graph ≡ constraint_outcome (constraint.Written n) work pool hs vs ts
+  module _ (n : Lengths) (q : r ≡ Ok n) where
+    written : expands_constraints graph ≡ constraint_outcome (Ok n) work pool hs vs ts
     written = sym e ∙ ap (λ a. constraint_outcome a work pool hs vs ts) q
 
     accepted : Accepted (expands_constraints graph)
@@ -95,21 +92,21 @@ module _ (graph : List ℕ) (r : ConstraintLists) (work pool hs vs ts : List ℕ
     constraints_written = (constraint_fronts, constraint_joins)
 
 -- Interactions.
-module _ (graph : List ℕ) (r : InteractionLists) (work pool hs vs ts hs' vs' ts' : List ℕ)
+module _ (graph : List ℕ) (r : Result InteractionLengths Refusal) (work pool hs vs ts hs' vs' ts' : List ℕ)
     (e : interaction_outcome r work pool hs vs ts hs' vs' ts' ≡ expands_interactions graph) where
   both_sound : Sound 2 (expands_interactions graph)
   both_sound = interaction_sound prime graph 4096 4096 512 512 512 512 512 512
 
-  pub interactions_refused : (x u : Refusal) → r ≡ interaction.Refused x → u ≡ of_interactions r
-      → line (refused_text ∷ inter_text ∷ decimal u.number ∷ decimal u.place ∷ []) ≡ interaction_step prime graph
-  interactions_refused x u q f =
-      let o : interaction_outcome (interaction.Refused x) work pool hs vs ts hs' vs' ts' ≡ expands_interactions graph =
+  pub interactions_refused : (x : Refusal) → r ≡ Err x
+      → line (refused_text ∷ inter_text ∷ decimal (number_of x.reason) ∷ decimal x.place ∷ []) ≡ interaction_step prime graph
+  interactions_refused x q =
+      let o : interaction_outcome (Err x) work pool hs vs ts hs' vs' ts' ≡ expands_interactions graph =
       ap (λ a. interaction_outcome a work pool hs vs ts hs' vs' ts') (sym q) ∙ e in
-      output_refused inter_text 2 (expands_interactions graph) _ x u both_sound (f ∙ ap of_interactions q)
+      output_refused inter_text 2 (expands_interactions graph) _ x both_sound
       (ap (λ (y : Outcome). y.reply) o) (subst (λ (y : Outcome). 2 < length y.slices) o (omega arith))
 
-  module _ (n : InteractionLengths) (q : r ≡ interaction.Written n) where
-    both_written : expands_interactions graph ≡ interaction_outcome (interaction.Written n) work pool hs vs ts hs' vs' ts'
+  module _ (n : InteractionLengths) (q : r ≡ Ok n) where
+    both_written : expands_interactions graph ≡ interaction_outcome (Ok n) work pool hs vs ts hs' vs' ts'
     both_written = sym e ∙ ap (λ a. interaction_outcome a work pool hs vs ts hs' vs' ts') q
 
     both_accepted : Accepted (expands_interactions graph)
@@ -119,7 +116,7 @@ module _ (graph : List ℕ) (r : InteractionLists) (work pool hs vs ts hs' vs' t
     eight = ap (λ (u : Outcome). length u.slices) both_written
 
     count_at : (k : ℕ) → get_or (expands_interactions graph).reply.counts k 0
-        ≡ get_or (interaction_outcome (interaction.Written n) work pool hs vs ts hs' vs' ts').reply.counts k 0
+        ≡ get_or (interaction_outcome (Ok n) work pool hs vs ts hs' vs' ts').reply.counts k 0
     count_at k = ap (λ (u : Outcome). get_or u.reply.counts k 0) both_written
 
     slice_at : (k : ℕ) → get_or (expands_interactions graph).slices k [] ≡ get_or (work ∷ pool ∷ hs ∷ vs ∷ ts ∷ hs' ∷ vs' ∷ ts' ∷ []) k []

@@ -10,7 +10,7 @@ use Rattle.semantics.specs.Call.{zeros, padded}
 use Rattle.semantics.specs.Sheetlist.{most_read, sheetlist}
 use Rattle.semantics.proofs.Listings.{reads_enough}
 use Rattle.slices.specs.Putting.{put}
-use Rattle.listing.specs.declared.out.Out.{Out}
+use Rattle.listing.specs.declared.output.Out.{Out}
 use Rattle.listing.specs.Putting.{Room, Writes}
 use Rattle.listing.proofs.Writing.{puts_length}
 use Rattle.listing.proofs.Totals.{sheetlist_most}

@@ -12,31 +12,27 @@ use Rattle.semantics.specs.Graph.{graph_of}
 use Rattle.semantics.specs.Call.{Outcome, handed_back, reader_call}
 use Rattle.semantics.specs.Sheetlist.{decimal, line, refused_text, read_text, dag_text, step, most_taken, graph_lines, sheet_lines, sheetlist, constraint_step}
 use Rattle.semantics.proofs.Basics.{cond_true}
+use Rattle.std.specs.Prelude.{Result, Ok, Err}
 use Rattle.answers.specs.declared.Refusal.{Refusal}
-use Rattle.answers.specs.declared.Written.{Written}
-use Rattle.answers.specs.declared.Written.TheVariants.{Words, Refused}
-use Rattle.answers.specs.Replies.{written_outcome, counted_outcome}
-use Rattle.answers.specs.declared.Counted.{Counted}
-use Rattle.answers.specs.declared.Counted.TheVariants as counted
+use Rattle.answers.specs.Replies.{number_of, written_outcome, counted_outcome}
 use Rattle.dag.specs.Calls.{built_outcome}
 use Rattle.demands.proofs.Demands.{build_demand}
 use Rattle.listing.proofs.Steps.{builds, rotates, step_on, dag_line, graph_prints, sheet_prints}
-use Rattle.sheet_listing.specs.Refusals.{of_written, of_counted}
 use Rattle.sheet_listing.proofs.Sounds.{Sound, reader_sound, builder_sound, rotation_real, refused_line, output_refused}
 
 -- The graph.
-module _ (graph : List ℕ) (r : Counted) (e : counted_outcome r ≡ rotates graph) where
-  pub rotation_refused : (x u : Refusal) → r ≡ counted.Refused x → u ≡ of_counted r
-      → line (refused_text ∷ dag_text ∷ decimal u.number ∷ decimal u.place ∷ []) ≡ graph_lines prime graph
-  rotation_refused x u q f =
-      let o : counted_outcome (counted.Refused x) ≡ rotates graph = ap counted_outcome (sym q) ∙ e in
-      refused_line dag_text (rotates graph) _ x u (f ∙ ap of_counted q) (ap (λ (y : Outcome). y.reply) o)
+module _ (graph : List ℕ) (r : Result ℕ Refusal) (e : counted_outcome r ≡ rotates graph) where
+  pub rotation_refused : (x : Refusal) → r ≡ Err x
+      → line (refused_text ∷ dag_text ∷ decimal (number_of x.reason) ∷ decimal x.place ∷ []) ≡ graph_lines prime graph
+  rotation_refused x q =
+      let o : counted_outcome (Err x) ≡ rotates graph = ap counted_outcome (sym q) ∙ e in
+      refused_line dag_text (rotates graph) _ x (ap (λ (y : Outcome). y.reply) o)
       (rotation_real prime graph (ap (λ (y : Outcome). y.reply.numbers) (sym o)))
       ∙ graph_prints graph
 
-  pub graph_joins : (n : ℕ) → r ≡ counted.Number n → dag_line graph n ++ constraint_step prime graph ≡ graph_lines prime graph
+  pub graph_joins : (n : ℕ) → r ≡ Ok n → dag_line graph n ++ constraint_step prime graph ≡ graph_lines prime graph
   graph_joins n q =
-      let o : counted_outcome (counted.Number n) ≡ rotates graph = ap counted_outcome (sym q) ∙ e in
+      let o : counted_outcome (Ok n) ≡ rotates graph = ap counted_outcome (sym q) ∙ e in
       ap (λ (y : Outcome). dag_line graph (get_or y.reply.numbers 0 0) ++ constraint_step prime graph) o
       ∙ step_on dag_text (rotates graph) _ (ap (λ (y : Outcome). y.reply.number) (sym o))
       ∙ graph_prints graph
@@ -47,27 +43,27 @@ unfolding encode head_words
 some_words s = omega (arith, length-append (head_words s) (flat_map record_words s.records ++ (s.constraints ++ flat_map interaction_words s.interactions)))
 
 -- The builder.
-module _ (sheet : List ℕ) (r : Written) (scratch out : List ℕ) (e : built_outcome r scratch out ≡ builds sheet) where
-  pub built_refused : (x u : Refusal) → r ≡ Refused x → u ≡ of_written r
-      → line (refused_text ∷ dag_text ∷ decimal u.number ∷ decimal u.place ∷ []) ≡ sheet_lines prime sheet
-  built_refused x u q f =
-      let o : built_outcome (Refused x) scratch out ≡ builds sheet = ap (λ a. built_outcome a scratch out) (sym q) ∙ e in
-      output_refused dag_text 1 (builds sheet) _ x u (builder_sound prime sheet 1016 1016) (f ∙ ap of_written q)
+module _ (sheet : List ℕ) (r : Result ℕ Refusal) (scratch out : List ℕ) (e : built_outcome r scratch out ≡ builds sheet) where
+  pub built_refused : (x : Refusal) → r ≡ Err x
+      → line (refused_text ∷ dag_text ∷ decimal (number_of x.reason) ∷ decimal x.place ∷ []) ≡ sheet_lines prime sheet
+  built_refused x q =
+      let o : built_outcome (Err x) scratch out ≡ builds sheet = ap (λ a. built_outcome a scratch out) (sym q) ∙ e in
+      output_refused dag_text 1 (builds sheet) _ x (builder_sound prime sheet 1016 1016)
       (ap (λ (y : Outcome). y.reply) o) (subst (λ (y : Outcome). 1 < length y.slices) o (omega arith))
       ∙ sheet_prints sheet
 
-  module _ (n : ℕ) (q : r ≡ Words n) where
-    built : builds sheet ≡ built_outcome (Words n) scratch out
+  module _ (n : ℕ) (q : r ≡ Ok n) where
+    built : builds sheet ≡ built_outcome (Ok n) scratch out
     built = sym e ∙ ap (λ a. built_outcome a scratch out) q
 
     built_fits : n ≤ length out
     built_fits =
-        let s : Sound 1 (built_outcome (Words n) scratch out) = subst (Sound 1) built (builder_sound prime sheet 1016 1016) in
+        let s : Sound 1 (built_outcome (Ok n) scratch out) = subst (Sound 1) built (builder_sound prime sheet 1016 1016) in
         s.inside 0 (omega arith)
 
     graph_words : 2 < length (take n out)
     graph_words =
-        let d = build_demand sheet 1016 1016 (Words n) scratch out (sym built) refl in
+        let d = build_demand sheet 1016 1016 (Ok n) scratch out (sym built) refl in
         omega (arith, ap length d.2.words, some_words (graph_of prime d.0))
 
     graph_back : handed_back 1 (builds sheet) 0 ≡ take n out
@@ -88,26 +84,26 @@ module _ (bytes : List ℕ) where
   abbrev reads : Outcome
   reads = reader_call bytes (1016 ∷ [])
 
-  module _ (l : length bytes ≤ most_taken) (r : Written) (sheet : List ℕ) (e : written_outcome r sheet ≡ reads) where
+  module _ (l : length bytes ≤ most_taken) (r : Result ℕ Refusal) (sheet : List ℕ) (e : written_outcome r sheet ≡ reads) where
     bytes_print : step read_text reads (sheet_lines prime (handed_back 0 reads 0)) ≡ sheetlist prime bytes
     unfolding sheetlist
     bytes_print = sym (cond_true (leb (length bytes) most_taken) _ _ (le-leb (length bytes) most_taken l))
 
-    pub read_refused : (x u : Refusal) → r ≡ Refused x → u ≡ of_written r
-        → line (refused_text ∷ read_text ∷ decimal u.number ∷ decimal u.place ∷ []) ≡ sheetlist prime bytes
-    read_refused x u q f =
-        let o : written_outcome (Refused x) sheet ≡ reads = ap (λ a. written_outcome a sheet) (sym q) ∙ e in
-        output_refused read_text 0 reads _ x u (reader_sound bytes 1016) (f ∙ ap of_written q)
+    pub read_refused : (x : Refusal) → r ≡ Err x
+        → line (refused_text ∷ read_text ∷ decimal (number_of x.reason) ∷ decimal x.place ∷ []) ≡ sheetlist prime bytes
+    read_refused x q =
+        let o : written_outcome (Err x) sheet ≡ reads = ap (λ a. written_outcome a sheet) (sym q) ∙ e in
+        output_refused read_text 0 reads _ x (reader_sound bytes 1016)
         (ap (λ (y : Outcome). y.reply) o) (subst (λ (y : Outcome). 0 < length y.slices) o (omega arith))
         ∙ bytes_print
 
-    module _ (n : ℕ) (q : r ≡ Words n) where
-      read : reads ≡ written_outcome (Words n) sheet
+    module _ (n : ℕ) (q : r ≡ Ok n) where
+      read : reads ≡ written_outcome (Ok n) sheet
       read = sym e ∙ ap (λ a. written_outcome a sheet) q
 
       read_fits : n ≤ length sheet
       read_fits =
-          let s : Sound 0 (written_outcome (Words n) sheet) = subst (Sound 0) read (reader_sound bytes 1016) in
+          let s : Sound 0 (written_outcome (Ok n) sheet) = subst (Sound 0) read (reader_sound bytes 1016) in
           s.inside 0 (omega arith)
 
       sheet_back : handed_back 0 reads 0 ≡ take n sheet

@@ -19,7 +19,7 @@ use Rattle.semantics.proofs.Basics.{not_both}
 use Rattle.semantics.proofs.Acceptance.{Within}
 use Rattle.semantics.proofs.Refusals.{check_within, reader_within, builder_within, expansion_within}
 use Rattle.answers.specs.declared.Refusal.{Refusal}
-use Rattle.answers.specs.Replies.{refused_reply}
+use Rattle.answers.specs.Replies.{number_of, refused_reply}
 use Rattle.listing.proofs.Steps.{step_refused}
 
 pub record Sound (scratch : ℕ) (o : Outcome) : Type 0 where
@@ -96,14 +96,13 @@ pub rotation_real : (p : ℕ) (ws : List ℕ) → (max_rotation_call p ws).reply
 unfolding max_rotation_call on_sheet
 rotation_real p ws = rotated_real (check p ws) (check_within p ws)
 
--- A refusal ends the output with its line: x is the refusal in the answer, u the one taken out of it.
-pub refused_line : (name : List ℕ) (o : Outcome) (rest : List ℕ) (x u : Refusal) → u ≡ x → refused_reply x ≡ o.reply → (Accepted o → ⊥)
-    → line (refused_text ∷ name ∷ decimal u.number ∷ decimal u.place ∷ []) ≡ step name o rest
-refused_line name o rest x u f e h =
-    let g : refused_reply u ≡ o.reply = ap refused_reply f ∙ e in
-    (λ i. line (refused_text ∷ name ∷ decimal (g i).number ∷ decimal (g i).place ∷ [])) ∙ step_refused name o rest h
+-- A refusal ends the output with its line.
+pub refused_line : (name : List ℕ) (o : Outcome) (rest : List ℕ) (x : Refusal) → refused_reply x ≡ o.reply → (Accepted o → ⊥)
+    → line (refused_text ∷ name ∷ decimal (number_of x.reason) ∷ decimal x.place ∷ []) ≡ step name o rest
+refused_line name o rest x e h =
+    (λ i. line (refused_text ∷ name ∷ decimal (e i).number ∷ decimal (e i).place ∷ [])) ∙ step_refused name o rest h
 
 -- The same for a call that has an output.
-pub output_refused : (name : List ℕ) (scratch : ℕ) (o : Outcome) (rest : List ℕ) (x u : Refusal) → Sound scratch o → u ≡ x → refused_reply x ≡ o.reply → scratch < length o.slices
-    → line (refused_text ∷ name ∷ decimal u.number ∷ decimal u.place ∷ []) ≡ step name o rest
-output_refused name scratch o rest x u s f e l = refused_line name o rest x u f e (s.real (ap (λ y. y.counts) (sym e)) l)
+pub output_refused : (name : List ℕ) (scratch : ℕ) (o : Outcome) (rest : List ℕ) (x : Refusal) → Sound scratch o → refused_reply x ≡ o.reply → scratch < length o.slices
+    → line (refused_text ∷ name ∷ decimal (number_of x.reason) ∷ decimal x.place ∷ []) ≡ step name o rest
+output_refused name scratch o rest x s e l = refused_line name o rest x e (s.real (ap (λ y. y.counts) (sym e)) l)

@@ -1,7 +1,7 @@
 -- Lists that stand in front of their slices, as an expansion writes them.
 use Rattle.std.specs.Prelude.{List, [], ◌∷◌, ◌++◌, ℕ, ◌≤◌, length, take}
 use Rattle.semantics.specs.Sheetlist.{line, end_text}
-use Rattle.listing.specs.declared.out.Out.{Out}
+use Rattle.listing.specs.declared.output.Out.{Out}
 use Rattle.listing.specs.declared.headers.Family.{Family}
 use Rattle.listing.specs.declared.headers.Family.TheVariants.{Numerators, Denominators}
 use Rattle.listing.specs.Putting.{Room}

@@ -11,14 +11,11 @@ ghost use Rattle.listing.specs.Putting.{Room, Writes};
 ghost use Rattle.sheet_listing.specs.Fronts.{front_lines, Fronts, both_lines, BothFronts};
 ghost use Rattle.sheet_listing.specs.Inputs.{ReadOf};
 
-mod refusals;
-
-use answers::{Counted, Written};
-use constraint_lists::ConstraintLists;
+use answers::{Reason, Refusal};
 use grouping::Lengths;
-use interaction_lists::{InteractionLengths, InteractionLists};
+use interaction_lists::InteractionLengths;
 use listing::headers::Family;
-use listing::out::Out;
+use listing::output::Out;
 use listing::{headers, lines};
 use std::io;
 use std::io::{Read, Write};
@@ -106,9 +103,8 @@ fn put_interactions(out: &mut Out, graph: &[u32])
         &mut denom_variables,
         &mut denom_terms,
     );
-    let InteractionLists::Written(n) = lists else {
-        let refusal = refusals::of_interactions(lists);
-        return lines::put_refused(out, b"inter", refusal.number, refusal.place);
+    let Ok(n) = lists else {
+        return lines::put_refused(out, b"inter", lists.unwrap_err());
     };
     put_both_lists(
         out,
@@ -140,9 +136,8 @@ fn put_constraints(out: &mut Out, graph: &[u32])
         &mut variables,
         &mut terms,
     );
-    let ConstraintLists::Written(n) = lists else {
-        let refusal = refusals::of_constraints(lists);
-        return lines::put_refused(out, b"cons", refusal.number, refusal.place);
+    let Ok(n) = lists else {
+        return lines::put_refused(out, b"cons", lists.unwrap_err());
     };
     put_lists(out, Family::Constraints, n, &headers, &variables, &terms);
     put_interactions(out, graph)
@@ -154,9 +149,8 @@ fn put_graph(out: &mut Out, graph: &[u32])
     ensures { Writes out.old (graph_lines (prime_of graph.now) graph.now) out.new }
 {
     let rotated = sheet_calls::max_rotation(graph);
-    let Counted::Number(rotation) = rotated else {
-        let refusal = refusals::of_counted(rotated);
-        return lines::put_refused(out, b"dag", refusal.number, refusal.place);
+    let Ok(rotation) = rotated else {
+        return lines::put_refused(out, b"dag", rotated.unwrap_err());
     };
     lines::put_dag_line(out, graph[1], graph[2], rotation);
     put_constraints(out, graph)
@@ -170,12 +164,17 @@ fn put_sheet(out: &mut Out, sheet: &[u32])
     let mut scratch = [0u32; 1016];
     let mut graph = [0u32; 1016];
     let built = dag::build(sheet, &mut scratch, &mut graph);
-    let Written::Words(n) = built else {
-        let refusal = refusals::of_written(built);
-        return lines::put_refused(out, b"dag", refusal.number, refusal.place);
+    let Ok(n) = built else {
+        return lines::put_refused(out, b"dag", built.unwrap_err());
     };
     put_graph(out, &graph[..n])
 }
+
+// The refusal of more bytes than are taken.
+const TOO_MANY_BYTES: Refusal = Refusal {
+    reason: Reason::WrongLength,
+    place: 0,
+};
 
 // What bytes print: the sheet that is read from them.
 fn put_bytes(out: &mut Out, bytes: &[u8])
@@ -183,13 +182,12 @@ fn put_bytes(out: &mut Out, bytes: &[u8])
     ensures { Writes out.old (sheetlist prime bytes.now) out.new }
 {
     if 4096 < bytes.len() {
-        return lines::put_refused(out, b"read", 1, 0);
+        return lines::put_refused(out, b"read", TOO_MANY_BYTES);
     }
     let mut sheet = [0u32; 1016];
     let read = block_reader::read_blocks(bytes, &mut sheet);
-    let Written::Words(n) = read else {
-        let refusal = refusals::of_written(read);
-        return lines::put_refused(out, b"read", refusal.number, refusal.place);
+    let Ok(n) = read else {
+        return lines::put_refused(out, b"read", read.unwrap_err());
     };
     put_sheet(out, &sheet[..n])
 }
@@ -201,7 +199,7 @@ pub fn list_sheet(bytes: &[u8], out: &mut [u8; 65536]) -> usize
     let mut text = Out::new(out);
     put_bytes(&mut text, bytes);
     let printed = text.count();
-    slices::zero_bytes_from(out, printed);
+    slices::fill_from(out, printed, 0);
     printed
 }
 

@@ -17,24 +17,24 @@ returns-then-bytes-gt4096 c = puts_is c.put_refused.ensures (sym (too_many prime
 pub put_refused-requires-in_default : goal.put_refused-requires-in_default
 put_refused-requires-in_default c =
     room_is c.args.out.now
-    (read_refused c.args.bytes.now c.if-bytes-gt4096.false _ _ c.read_blocks-read.ensures _ _ c.in_default.is c.of_written-refusal.ensures) c.requires
+    (read_refused c.args.bytes.now c.if-bytes-gt4096.false _ _ c.read_blocks-read.ensures _ c.unwrap_err.ensures) c.requires
 
 pub returns-in_default : goal.returns-in_default
 returns-in_default c =
     puts_is c.put_refused-in_default.ensures
-    (read_refused c.args.bytes.now c.if-bytes-gt4096.false _ _ c.read_blocks-read.ensures _ _ c.in_default.is c.of_written-refusal.ensures)
+    (read_refused c.args.bytes.now c.if-bytes-gt4096.false _ _ c.read_blocks-read.ensures _ c.unwrap_err.ensures)
 
 pub slice_bounds-sheet-end : goal.slice_bounds-sheet-end
-slice_bounds-sheet-end c = (sheet_read c.args.bytes.now c.if-bytes-gt4096.false _ _ c.read_blocks-read.ensures _ c.in-Words.is).0
+slice_bounds-sheet-end c = (sheet_read c.args.bytes.now c.if-bytes-gt4096.false _ _ c.read_blocks-read.ensures _ c.in-Ok.is).0
 
 pub slice_bounds-put_sheet-end : goal.slice_bounds-put_sheet-end
 slice_bounds-put_sheet-end c =
     let v = c.read_blocks-read in
-    omega (arith, (sheet_read c.args.bytes.now c.if-bytes-gt4096.false v.result v.new.out v.ensures c.in-Words.n c.in-Words.is).0, length-take c.in-Words.n v.new.out)
+    omega (arith, (sheet_read c.args.bytes.now c.if-bytes-gt4096.false v.result v.new.out v.ensures c.in-Ok.n c.in-Ok.is).0, length-take c.in-Ok.n v.new.out)
 
 pub put_sheet-requires : goal.put_sheet-requires
 put_sheet-requires c =
-    room_is c.args.out.now (sheet_read c.args.bytes.now c.if-bytes-gt4096.false _ _ c.read_blocks-read.ensures _ c.in-Words.is).1 c.requires
+    room_is c.args.out.now (sheet_read c.args.bytes.now c.if-bytes-gt4096.false _ _ c.read_blocks-read.ensures _ c.in-Ok.is).1 c.requires
 
 pub returns : goal.returns
-returns c = puts_is c.put_sheet.ensures (sheet_read c.args.bytes.now c.if-bytes-gt4096.false _ _ c.read_blocks-read.ensures _ c.in-Words.is).1
+returns c = puts_is c.put_sheet.ensures (sheet_read c.args.bytes.now c.if-bytes-gt4096.false _ _ c.read_blocks-read.ensures _ c.in-Ok.is).1

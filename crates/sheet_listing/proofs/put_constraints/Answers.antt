@@ -6,24 +6,24 @@ use Rattle.sheet_listing.proofs.put_constraints.Goals as goal
 pub put_refused-requires : goal.put_refused-requires
 put_refused-requires c =
     room_is c.args.out.now
-    (constraints_refused c.args.graph.now _ _ _ _ _ _ c.expand_constraints-lists.ensures _ _ c.in_default.is c.of_constraints-refusal.ensures) c.requires
+    (constraints_refused c.args.graph.now _ _ _ _ _ _ c.expand_constraints-lists.ensures _ c.unwrap_err.ensures) c.requires
 
 pub returns-in_default : goal.returns-in_default
 returns-in_default c =
     puts_is c.put_refused.ensures
-    (constraints_refused c.args.graph.now _ _ _ _ _ _ c.expand_constraints-lists.ensures _ _ c.in_default.is c.of_constraints-refusal.ensures)
+    (constraints_refused c.args.graph.now _ _ _ _ _ _ c.expand_constraints-lists.ensures _ c.unwrap_err.ensures)
 
 pub put_lists-requires : goal.put_lists-requires
 put_lists-requires c =
-    let written = constraints_written c.args.graph.now _ _ _ _ _ _ c.expand_constraints-lists.ensures _ c.in-Written.is in
+    let written = constraints_written c.args.graph.now _ _ _ _ _ _ c.expand_constraints-lists.ensures _ c.in-Ok.is in
     (written.0, room_front c.args.out.now _ _ written.1 c.requires)
 
 pub put_interactions-requires : goal.put_interactions-requires
 put_interactions-requires c =
-    let written = constraints_written c.args.graph.now _ _ _ _ _ _ c.expand_constraints-lists.ensures _ c.in-Written.is in
+    let written = constraints_written c.args.graph.now _ _ _ _ _ _ c.expand_constraints-lists.ensures _ c.in-Ok.is in
     room_next c.put_lists.ensures _ written.1 c.requires
 
 pub returns : goal.returns
 returns c =
-    let written = constraints_written c.args.graph.now _ _ _ _ _ _ c.expand_constraints-lists.ensures _ c.in-Written.is in
+    let written = constraints_written c.args.graph.now _ _ _ _ _ _ c.expand_constraints-lists.ensures _ c.in-Ok.is in
     puts_next c.put_lists.ensures _ written.1 c.requires c.put_interactions.ensures
