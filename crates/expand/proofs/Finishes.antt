@@ -1,12 +1,12 @@
 -- The list of a record from its children's lists in the pool, by the record's kind.
 use mathlib.Core.Path.{◌≡◌, refl, sym, ap, subst, ◌∙◌}
-use mathlib.Core.Bool.{Bool, true, false}
+use mathlib.Core.Bool.{false}
 use mathlib.Core.List.{List, [], ◌∷◌, ◌++◌, map}
 use Prim.Native.Nat.{ℕ, ◌+◌, ◌*◌, ◌≤◌, ◌<◌}
 use native.Mathlib.Omega.{arith}
 use lib.Dec.{eqb}
 use lib.ListN.{length, get_or}
-use borrow.Author.Tests.{eqb-true, eqb-false, eq-eqb, ne_eqb}
+use borrow.Author.Tests.{eqb-true, eq-eqb, ne_eqb}
 use Rattle.semantics.specs.Arithmetic.{prime}
 use Rattle.semantics.specs.Answer.{good}
 use Rattle.semantics.specs.Sheet.{Record, GoodRecord}
@@ -18,23 +18,23 @@ use Rattle.semantics.specs.Monomial.{Monomial, neg_monomial, products, combine, 
 use Rattle.semantics.specs.Expand.{work_fault, record_fault}
 use Rattle.semantics.proofs.Basics.{by_test, cond_true}
 use Rattle.semantics.proofs.Expansions.{list_at_lem}
+use Rattle.std.specs.Prelude.{Result, Ok, Err}
+use Rattle.answers.specs.declared.Reason.{Reason}
+use Rattle.answers.specs.declared.Refusal.{Refusal}
 use Rattle.records.specs.declared.Record as declared
 use Rattle.records.specs.Access.{five_words, node_in, records_of}
 use Rattle.records.specs.Orders.{Order}
 use Rattle.records.proofs.Steps.{lows}
 use Rattle.records.proofs.Visits.{record_good, kind_limits, is, kind_is, a_is, b_is, has_a, has_b}
-use Rattle.monomial.specs.Words.{held, list_in, negated_if, ListFits, Stored}
+use Rattle.monomial.specs.Words.{held, list_in, ListFits, Stored}
 use Rattle.expand.specs.Making.{Makes, ListStands}
-use Rattle.expand.specs.Walking.{PoolHolds, Expands, refused_by, Storing, Stores, Finishing}
-use Rattle.expand.specs.declared.kinds.Made.{Made}
-use Rattle.expand.specs.declared.kinds.Made.TheVariants.{Held, Fault}
+use Rattle.expand.specs.Walking.{PoolHolds, Expands, Storing, Stores, Finishing}
 use Rattle.expand.specs.declared.kinds.PoolList.{PoolList}
-use Rattle.expand.specs.declared.Expanded.{Expanded}
 use Rattle.monomial.proofs.ListLaws.{list_fits_at}
 use Rattle.expand.proofs.Leaves.{flat_list, flat_fault}
 use Rattle.expand.proofs.Storing.{expand_fault, storing, stored}
 
-makes_same : (work : List ℕ) (u : Made) (f g : ℕ) (l m : List Monomial) → f ≡ g → l ≡ m → Makes work u f l → Makes work u g m
+makes_same : (work : List ℕ) (u : Result ℕ Reason) (f g : ℕ) (l m : List Monomial) → f ≡ g → l ≡ m → Makes work u f l → Makes work u g m
 makes_same work u f g l m e d h = subst (λ (n : ℕ). Makes work u n m) e (subst (Makes work u f) d h)
 
 -- The kinds with children.
@@ -132,7 +132,7 @@ module _ {ws : List ℕ} {r : ℕ} {work pool : List ℕ} {used : ℕ} (p : Fini
     pub leaf_good : GoodRecord prime r (five_words q)
     leaf_good = subst (GoodRecord prime r) (sym words) (record_good ws checked r l)
 
-    pub finishes_leaf : q.kind < 6 → (work' : List ℕ) (u : Made) → Makes work' u (pack_fault (five_words q)) (record_list prime (five_words q) (λ c. []))
+    pub finishes_leaf : q.kind < 6 → (work' : List ℕ) (u : Result ℕ Reason) → Makes work' u (pack_fault (five_words q)) (record_list prime (five_words q) (λ c. []))
         → Makes work' u (record_fault prime (records_of ws) r) (lists r)
     unfolding record_fault
     finishes_leaf h work' u m =
@@ -175,7 +175,7 @@ module _ {ws : List ℕ} {r : ℕ} {work pool : List ℕ} {used : ℕ} {q : decl
   pub left_fits : ListStands pool x
   left_fits = child_fits p₁ h.child left_in x h.reads
 
-  pub finishes_neg : q.kind ≡ 8 → (work' : List ℕ) (u : Made) → Makes work' u (work_fault (map (neg_monomial prime) X)) (map (neg_monomial prime) X)
+  pub finishes_neg : q.kind ≡ 8 → (work' : List ℕ) (u : Result ℕ Reason) → Makes work' u (work_fault (map (neg_monomial prime) X)) (map (neg_monomial prime) X)
       → Makes work' u (record_fault prime (records_of ws) r) (list_at prime (records_of ws) r)
   unfolding working finished
   finishes_neg k work' u m =
@@ -207,12 +207,12 @@ module _ {ws : List ℕ} {r : ℕ} {work pool : List ℕ} {used : ℕ} {q : decl
   worked k = working prime (record_at (records_of ws) r) k (list_at prime (records_of ws))
 
   made_as : (k : Node) → node_of (record_at (records_of ws) r) ≡ k → (made : List Monomial) → made ≡ worked k → combine prime (worked k) ≡ finished prime k (worked k)
-      → (work' : List ℕ) (u : Made) → Makes work' u (work_fault made) (combine prime made) → Makes work' u (record_fault prime (records_of ws) r) (list_at prime (records_of ws) r)
+      → (work' : List ℕ) (u : Result ℕ Reason) → Makes work' u (work_fault made) (combine prime made) → Makes work' u (record_fault prime (records_of ws) r) (list_at prime (records_of ws) r)
   made_as k n made same all work' u m =
       makes_same work' u _ _ _ _ (ap work_fault same ∙ fault_is p₂ k n (plain p₂ q h.left.words_are h.left.parent))
       (ap (combine prime) same ∙ all ∙ list_is p₂ k n) m
 
-  pub finishes_mul : q.kind ≡ 9 → (work' : List ℕ) (u : Made) → Makes work' u (work_fault (products prime (X h.left) Y)) (combine prime (products prime (X h.left) Y))
+  pub finishes_mul : q.kind ≡ 9 → (work' : List ℕ) (u : Result ℕ Reason) → Makes work' u (work_fault (products prime (X h.left) Y)) (combine prime (products prime (X h.left) Y))
       → Makes work' u (record_fault prime (records_of ws) r) (list_at prime (records_of ws) r)
   unfolding working finished
   finishes_mul k work' u m =
@@ -220,38 +220,38 @@ module _ {ws : List ℕ} {r : ℕ} {work pool : List ℕ} {used : ℕ} {q : decl
       made_as (mul R.a R.b) (mul_node R (sym (kind p₂ q h.left.words_are) ∙ k)) (products prime (X h.left) Y)
       (λ i. products prime (left_list h.left i) (right_list i)) refl work' u m
 
-  pub finishes_sum : (q.kind ≡ 9 → ⊥) → (b : Bool) → b ≡ eqb q.kind 7 → (work' : List ℕ) (u : Made)
-      → Makes work' u (work_fault (X h.left ++ negated_if b Y)) (combine prime (X h.left ++ negated_if b Y))
+  pub finishes_add : q.kind ≡ 6 → (work' : List ℕ) (u : Result ℕ Reason) → Makes work' u (work_fault (X h.left ++ Y)) (combine prime (X h.left ++ Y))
       → Makes work' u (record_fault prime (records_of ws) r) (list_at prime (records_of ws) r)
   unfolding working finished
-  finishes_sum k₉ b eb work' u m = go b (sym eb) m
-    where
-      go : (s : Bool) → eqb q.kind 7 ≡ s → Makes work' u (work_fault (X h.left ++ negated_if s Y)) (combine prime (X h.left ++ negated_if s Y))
-          → Makes work' u (record_fault prime (records_of ws) r) (list_at prime (records_of ws) r)
-      go true z m' =
-          let R = record_at (records_of ws) r in
-          made_as (sub R.a R.b) (sub_node R (sym (kind p₂ q h.left.words_are) ∙ eqb-true q.kind 7 z)) (X h.left ++ map (neg_monomial prime) Y)
-          (λ i. left_list h.left i ++ map (neg_monomial prime) (right_list i)) refl work' u m'
-      go false z m' =
-          let R = record_at (records_of ws) r in
-          let six : R.kind ≡ 6 = omega (arith, kind p₂ q h.left.words_are, h.left.parent, kind_limits ws (checked p₂) r (l p₂), eqb-false q.kind 7 z, h.two, k₉) in
-          made_as (add R.a R.b) (add_node R six) (X h.left ++ Y) (λ i. left_list h.left i ++ right_list i) refl work' u m'
+  finishes_add k work' u m =
+      let R = record_at (records_of ws) r in
+      made_as (add R.a R.b) (add_node R (sym (kind p₂ q h.left.words_are) ∙ k)) (X h.left ++ Y) (λ i. left_list h.left i ++ right_list i) refl work' u m
+
+  pub finishes_sub : q.kind ≡ 7 → (work' : List ℕ) (u : Result ℕ Reason)
+      → Makes work' u (work_fault (X h.left ++ map (neg_monomial prime) Y)) (combine prime (X h.left ++ map (neg_monomial prime) Y))
+      → Makes work' u (record_fault prime (records_of ws) r) (list_at prime (records_of ws) r)
+  unfolding working finished
+  finishes_sub k work' u m =
+      let R = record_at (records_of ws) r in
+      made_as (sub R.a R.b) (sub_node R (sym (kind p₂ q h.left.words_are) ∙ k)) (X h.left ++ map (neg_monomial prime) Y)
+      (λ i. left_list h.left i ++ map (neg_monomial prime) (right_list i)) refl work' u m
+
+  pub kind_nine : (q.kind ≡ 6 → ⊥) → (q.kind ≡ 7 → ⊥) → q.kind ≡ 9
+  kind_nine n₆ n₇ = omega (arith, kind p₂ q h.left.words_are, h.left.parent, kind_limits ws (checked p₂) r (l p₂), n₆, n₇, h.two)
 
 -- A record whose list was not made.
 pub finish_refused : {ws done pool : List ℕ} {used : ℕ} → PoolHolds ws done pool used → (r : ℕ)
-    → (work : List ℕ) (u : Made) → Makes work u (record_fault prime (records_of ws) r) (list_at prime (records_of ws) r)
-    → {f : ℕ} → u ≡ Fault f → {a : Expanded} → a ≡ refused_by u r → Expands ws pool a (r ∷ done)
-finish_refused {ws} {done} {pool} {used} h r work u m {f} e ea =
-    let t : Makes work (Fault f) (record_fault prime (records_of ws) r) (list_at prime (records_of ws) r) =
-    subst (λ (x : Made). Makes work x (record_fault prime (records_of ws) r) (list_at prime (records_of ws) r)) e m in
-    subst (λ (x : Expanded). Expands ws pool x (r ∷ done)) (sym (ea ∙ ap (λ (x : Made). refused_by x r) e))
-    (expand_fault ws done (length pool) r used h.used_is f t.0 t.1)
+    → (work : List ℕ) (u : Result ℕ Reason) → Makes work u (record_fault prime (records_of ws) r) (list_at prime (records_of ws) r)
+    → {f : Reason} → u ≡ Err f → Expands ws pool (Err (record { reason = f; place = r })) (r ∷ done)
+finish_refused {ws} {done} {pool} {used} h r work u m {f} e =
+    expand_fault ws done (length pool) r used h.used_is f
+    (subst (λ (x : Result ℕ Reason). Makes work x (record_fault prime (records_of ws) r) (list_at prime (records_of ws) r)) e m)
 
 -- A record whose list was made: what storing it asks, and what it comes to.
-module _ {ws : List ℕ} {r : ℕ} {work pool : List ℕ} {used : ℕ} (p : Finishing ws r work pool used) (work' : List ℕ) (u : Made)
-    (m : Makes work' u (record_fault prime (records_of ws) r) (list_at prime (records_of ws) r)) {n : ℕ} (e : u ≡ Held n) where
-  made : Makes work' (Held n) (record_fault prime (records_of ws) r) (list_at prime (records_of ws) r)
-  made = subst (λ (x : Made). Makes work' x (record_fault prime (records_of ws) r) (list_at prime (records_of ws) r)) e m
+module _ {ws : List ℕ} {r : ℕ} {work pool : List ℕ} {used : ℕ} (p : Finishing ws r work pool used) (work' : List ℕ) (u : Result ℕ Reason)
+    (m : Makes work' u (record_fault prime (records_of ws) r) (list_at prime (records_of ws) r)) {n : ℕ} (e : u ≡ Ok n) where
+  made : Makes work' (Ok n) (record_fault prime (records_of ws) r) (list_at prime (records_of ws) r)
+  made = subst (λ (x : Result ℕ Reason). Makes work' x (record_fault prime (records_of ws) r) (list_at prime (records_of ws) r)) e m
 
   pub finish_storing : length work' ≡ length work → Storing work' n pool r used
   finish_storing lw =
@@ -259,7 +259,7 @@ module _ {ws : List ℕ} {r : ℕ} {work pool : List ℕ} {used : ℕ} (p : Fini
       storing ws w.done pool used w.holds w.order r p.ready.inside p.new w.checked work' n made.1 made.2 made.3
       (subst (λ (k : ℕ). 4096 ≤ k) (sym lw) w.room)
 
-  pub finish_stored : (pool' : List ℕ) → length pool' ≡ length pool → (a : Expanded) → Stores pool pool' r used (held n work') a
+  pub finish_stored : (pool' : List ℕ) → length pool' ≡ length pool → (a : Result ℕ Refusal) → Stores pool pool' r used (held n work') a
       → (done : List ℕ) → Order ws done → member r done ≡ false → PoolHolds ws done pool used → Expands ws pool' a (r ∷ done)
   finish_stored pool' lp a s done o new h =
       stored ws done pool used h o r p.ready.inside new p.ready.walking.checked work' n made.1 made.2 made.3 made.0 pool' lp a s

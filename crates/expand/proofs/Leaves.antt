@@ -19,15 +19,13 @@ use Rattle.semantics.specs.Expand.{longer, work_fault}
 use Rattle.semantics.specs.Lists.{All, Sorted}
 use Rattle.semantics.proofs.Basics.{by_test, and_true, true_and}
 use Rattle.semantics.proofs.Records.{fits_row, is_kind, kind_good, words_fit}
-use Rattle.packed_var.specs.declared.Packed.{Packed}
-use Rattle.packed_var.specs.declared.Packed.TheVariants.{Var, Refused}
 use Rattle.packed_var.specs.declared.PackedVar.{PackedVar}
 use Rattle.answers.specs.declared.Refusal.{Refusal}
 use Rattle.packed_var.specs.Packed.{packed_outcome}
 use Rattle.packed_var.proofs.Answers.{packed_answer, answer_is}
+use Rattle.std.specs.Prelude.{Result, Ok, Err}
 use Rattle.monomial.specs.Words.{held, Fits}
-use Rattle.expand.specs.Making.{single, constant_monomial, fault_of, Makes}
-use Rattle.expand.specs.declared.kinds.Made.TheVariants.{Held, Fault}
+use Rattle.expand.specs.Making.{single, constant_monomial, Makes}
 use Rattle.monomial.proofs.Sizes.{held_zero}
 
 -- A scan of words that pass goes through.
@@ -65,7 +63,7 @@ one_fits m l s c = (record { few = omega arith; sorted = s; small = c }, tt)
 
 -- A list of one monomial in the work.
 one_made : (work work₁ : List ℕ) (m : Monomial) (fault : ℕ) (list : List Monomial) → held (0 + 1) work₁ ≡ held 0 work ++ (m ∷ []) → fault ≡ 0 → list ≡ m ∷ []
-    → All Fits (m ∷ []) → Makes work₁ (Held 1) fault list
+    → All Fits (m ∷ []) → Makes work₁ (Ok 1) fault list
 one_made work work₁ m fault list h f e k =
     (f, h ∙ ap (λ (l : List Monomial). l ++ (m ∷ [])) (held_zero work) ∙ sym e, omega arith, subst (All Fits) (sym e) k)
 
@@ -112,26 +110,23 @@ module _ (own : ℕ) (r : Record) (ok : GoodRecord prime own r) where
   -- What `expand_leaf` hands back.
   module _ (work work₁ : List ℕ) (f : ℕ → List Monomial) where
     pub constant_made : r.kind ≡ 5 → (m : Monomial) → m ≡ constant_monomial r.a → held (0 + 1) work₁ ≡ held 0 work ++ (m ∷ [])
-        → Makes work₁ (Held 1) (pack_fault r) (record_list prime r f)
+        → Makes work₁ (Ok 1) (pack_fault r) (record_list prime r f)
     unfolding pack_fault
     constant_made e m em h =
         one_made work work₁ (constant_monomial r.a) (pack_fault r) (record_list prime r f) (h ∙ ap (λ (x : Monomial). held 0 work ++ (x ∷ [])) em) (rw e)
         (constant_list r e f) (one_fits (constant_monomial r.a) (omega arith) tt (constant_small e))
 
-    module _ (low : r.kind ≤ 4) (u : Packed) (e : packed_outcome u ≡ pack_call r) where
-      said : Told (pack_fault r) (packed r) (packed_answer u)
+    module _ (low : r.kind ≤ 4) (u : Result PackedVar Refusal) (e : packed_outcome u ≡ pack_call r) where
+      said : {x : Result PackedVar Refusal} → u ≡ x → Told (pack_fault r) (packed r) (packed_answer x)
       unfolding pack_call
-      said = subst (Told (pack_fault r) (packed r)) (sym (answer_is u e ∙ pack_good low)) (record_told r)
+      said q = subst (Told (pack_fault r) (packed r)) (sym (answer_is u e ∙ pack_good low) ∙ ap packed_answer q) (record_told r)
 
-      pub single_made : (v : PackedVar) → u ≡ Var v → (m : Monomial) → m ≡ single v.0 → held (0 + 1) work₁ ≡ held 0 work ++ (m ∷ [])
-          → Makes work₁ (Held 1) (pack_fault r) (record_list prime r f)
-      single_made v q m em h =
-          let t : Told (pack_fault r) (packed r) (good v.0) = subst (λ (x : Packed). Told (pack_fault r) (packed r) (packed_answer x)) q said in
+      pub single_made : {v : PackedVar} → u ≡ Ok v → (m : Monomial) → m ≡ single v.0 → held (0 + 1) work₁ ≡ held 0 work ++ (m ∷ [])
+          → Makes work₁ (Ok 1) (pack_fault r) (record_list prime r f)
+      single_made {v} q m em h =
+          let t = said q in
           one_made work work₁ (single v.0) (pack_fault r) (record_list prime r f) (h ∙ ap (λ (x : Monomial). held 0 work ++ (x ∷ [])) em) t.0
           (leaf_list r low f ∙ ap (λ (n : ℕ). single n ∷ []) t.1) (one_fits (single v.0) (omega arith) (tt, tt) (omega arith))
 
-      pub leaf_refused : (w : Refusal) → u ≡ Refused w → (n : ℕ) → n ≡ fault_of u → Makes work (Fault n) (pack_fault r) (record_list prime r f)
-      leaf_refused w q n en =
-          let t : Told (pack_fault r) (packed r) (refused w.number w.place) = subst (λ (x : Packed). Told (pack_fault r) (packed r) (packed_answer x)) q said in
-          let k : n ≡ w.number = en ∙ ap fault_of q in
-          (t.0 ∙ sym k, λ z. t.1 (sym k ∙ z))
+      pub leaf_refused : {w : Refusal} → u ≡ Err w → Makes work (Err w.reason) (pack_fault r) (record_list prime r f)
+      leaf_refused q = (said q).0

@@ -19,13 +19,16 @@ use Rattle.semantics.specs.Lists.{All}
 use Rattle.semantics.proofs.Basics.{by_test, not_both}
 use Rattle.semantics.proofs.Members.{mem_cases}
 use Rattle.semantics.proofs.Orders.{distinct_length}
+use Rattle.std.specs.Prelude.{Result, Ok, Err}
+use Rattle.answers.specs.declared.Refusal.{Refusal}
+use Rattle.answers.specs.declared.Reason.{Reason}
+use Rattle.answers.specs.declared.Reason.TheVariants as reason
+use Rattle.answers.specs.Replies.{number_of}
 use Rattle.records.specs.Access.{records_of}
 use Rattle.records.specs.Orders.{Order}
 use Rattle.records.proofs.Steps.{few_records}
 use Rattle.monomial.specs.Words.{held, list_words, Fits, Stored}
 use Rattle.expand.specs.Walking.{PoolHolds, Expands, with_list, Storing, Stores}
-use Rattle.expand.specs.declared.Expanded.{Expanded}
-use Rattle.expand.specs.declared.Expanded.TheVariants.{Used, Refused}
 use Rattle.monomial.proofs.ListLaws.{size_nil, size_cons, words_length}
 use Rattle.monomial.proofs.Rows.{held_length}
 
@@ -104,15 +107,35 @@ module _ (P : List ℕ) (r used : ℕ) (l : List Monomial) (head : 2 * r + 2 ≤
 
 -- ---- the walk with one record more
 
+-- No reason has the number 0.
+number_not_0 : (f : Reason) → number_of f ≡ 0 → ⊥
+number_not_0 reason.WrongLength e = omega arith
+number_not_0 reason.WrongCheck e = omega arith
+number_not_0 reason.WrongHead e = omega arith
+number_not_0 reason.PastEnd e = omega arith
+number_not_0 reason.WrongRecord e = omega arith
+number_not_0 reason.WrongName e = omega arith
+number_not_0 reason.WrongSpare e = omega arith
+number_not_0 reason.ColumnTooLarge e = omega arith
+number_not_0 reason.ChallengeRefused e = omega arith
+number_not_0 reason.PartTooLarge e = omega arith
+number_not_0 reason.OffsetTooLarge e = omega arith
+number_not_0 reason.ListTooLong e = omega arith
+number_not_0 reason.ProductTooLong e = omega arith
+number_not_0 reason.ScratchTooShort e = omega arith
+number_not_0 reason.OutputTooShort e = omega arith
+number_not_0 reason.PoolTooShort e = omega arith
+number_not_0 reason.SliceTooShort e = omega arith
+
 module _ (ws done : List ℕ) (pool r used : ℕ) (e : expand_all prime (records_of ws) pool done ≡ good used) where
   expand_more : record_fault prime (records_of ws) r ≡ 0 → used + list_size (list_at prime (records_of ws) r) ≤ pool
       → expand_all prime (records_of ws) pool (r ∷ done) ≡ good (used + list_size (list_at prime (records_of ws) r))
   unfolding expand_all and_then expand_record
   expand_more f l = rw (e, eq-eqb (record_fault prime (records_of ws) r) 0 f, le-leb (used + list_size (list_at prime (records_of ws) r)) pool l)
 
-  pub expand_fault : (f : ℕ) → record_fault prime (records_of ws) r ≡ f → (f ≡ 0 → ⊥) → expand_all prime (records_of ws) pool (r ∷ done) ≡ refused f r
+  pub expand_fault : (f : Reason) → record_fault prime (records_of ws) r ≡ number_of f → expand_all prime (records_of ws) pool (r ∷ done) ≡ refused (number_of f) r
   unfolding expand_all and_then expand_record
-  expand_fault f q n = rw (e, ne_eqb (record_fault prime (records_of ws) r) 0 (λ z. n (sym q ∙ z))) (ap (λ (k : ℕ). refused k r) q)
+  expand_fault f q = rw (e, ne_eqb (record_fault prime (records_of ws) r) 0 (λ z. number_not_0 f (sym q ∙ z))) (ap (λ (k : ℕ). refused k r) q)
 
   expand_full : record_fault prime (records_of ws) r ≡ 0 → pool < used + list_size (list_at prime (records_of ws) r) → expand_all prime (records_of ws) pool (r ∷ done) ≡ refused 16 r
   unfolding expand_all and_then expand_record
@@ -226,14 +249,14 @@ module _ (ws done pool : List ℕ) (used : ℕ) (h : PoolHolds ws done pool used
       small = omega (arith, used_small);
     }
 
-    pub stored : record_fault prime (records_of ws) r ≡ 0 → (pool' : List ℕ) → length pool' ≡ length pool → (u : Expanded) → Stores pool pool' r used (held n work) u
+    pub stored : record_fault prime (records_of ws) r ≡ 0 → (pool' : List ℕ) → length pool' ≡ length pool → (u : Result ℕ Refusal) → Stores pool pool' r used (held n work) u
         → Expands ws pool' u (r ∷ done)
-    stored fine pool' lp (Used u) s =
-        let t : Stores pool pool' r used L (Used u) = subst (λ (l : List Monomial). Stores pool pool' r used l (Used u)) is s in
+    stored fine pool' lp (Ok u) s =
+        let t : Stores pool pool' r used L (Ok u) = subst (λ (l : List Monomial). Stores pool pool' r used l (Ok u)) is s in
         let c : length L ≤ 256 = omega (arith, ap length is, held_length n work) in
         subst (λ (q : List ℕ). PoolHolds ws (r ∷ done) q u) (sym t.2)
         (subst (PoolHolds ws (r ∷ done) (with_list pool r used L)) (sym t.0) (holds_more fine c fit (omega arith) (omega (arith, used_small, size_small L fit))))
-    stored fine pool' lp (Refused q) s =
-        let t : Stores pool pool' r used L (Refused q) = subst (λ (l : List Monomial). Stores pool pool' r used l (Refused q)) is s in
-        subst (λ (k : ℕ). expand_all prime (records_of ws) k (r ∷ done) ≡ refused q.number q.place) (sym lp)
-        (expand_full ws done (length pool) r used h.used_is fine t.2 ∙ λ i. refused (sym t.0 i) (sym t.1 i))
+    stored fine pool' lp (Err q) s =
+        let t : Stores pool pool' r used L (Err q) = subst (λ (l : List Monomial). Stores pool pool' r used l (Err q)) is s in
+        subst (λ (k : ℕ). expand_all prime (records_of ws) k (r ∷ done) ≡ refused (number_of q.reason) q.place) (sym lp)
+        (expand_full ws done (length pool) r used h.used_is fine t.2 ∙ λ i. refused (number_of (sym t.0 i)) (sym t.1 i))

@@ -12,9 +12,10 @@ use Rattle.semantics.specs.Monomial.{Asc, Monomial, neg_monomial, mul_monomial, 
 use Rattle.semantics.specs.Expand.{longer, work_fault}
 use Rattle.semantics.specs.Lists.{All}
 use Rattle.semantics.proofs.Sorting.{all_append, all_map}
+use Rattle.std.specs.Prelude.{Ok, Err}
+use Rattle.answers.specs.declared.Reason.TheVariants.{ListTooLong, ProductTooLong}
 use Rattle.monomial.specs.Words.{held, list_in, read_list, longest_of, insert_all, negated_if, Fits, ListFits, Summed}
 use Rattle.expand.specs.Making.{Makes}
-use Rattle.expand.specs.declared.kinds.Made.TheVariants.{Held, Fault}
 use Rattle.monomial.proofs.Canons.{sum_append, sum_combine, fits_sum, asc_sum, fits_negative, sort_length, small_of_fits}
 use Rattle.monomial.proofs.ListLaws.{list_zero, list_suc}
 use Rattle.monomial.proofs.Sizes.{held_zero, longest_cons, longest_nil}
@@ -43,12 +44,12 @@ work_long : (ms : List Monomial) → length ms ≤ 256 → longer 14 ms ≡ true
 unfolding work_fault
 work_long ms l k = rw (le-ltb 256 (length ms) l, k)
 
-twelve : (ms list : List Monomial) (work : List ℕ) → 256 < length ms → Makes work (Fault 12) (work_fault ms) list
-twelve ms list work l = (work_many ms l, λ z. omega arith)
+twelve : (ms list : List Monomial) (work : List ℕ) → 256 < length ms → Makes work (Err ListTooLong) (work_fault ms) list
+twelve ms list work l = work_many ms l
 
 -- A list that was summed from nothing.
 summed_made : (ms : List Monomial) (work : List ℕ) (n : ℕ) → length ms ≤ 256 → All Fits ms → n ≤ 256 → held n work ≡ insert_all ms []
-    → Makes work (Held n) (work_fault ms) (combine prime ms)
+    → Makes work (Ok n) (work_fault ms) (combine prime ms)
 summed_made ms work n l k few h =
     let e = sum_combine ms (small_of_fits ms k) in
     (work_fine ms l k, h ∙ e, few, subst (All Fits) e (fits_sum ms [] k tt))
@@ -56,7 +57,7 @@ summed_made ms work n l k few h =
 -- ---- Neg
 
 pub neg_made : (pool : List ℕ) (at n : ℕ) (work : List ℕ) → n ≤ 256 → ListFits pool at n → held n work ≡ map (neg_monomial prime) (list_in pool at n)
-    → Makes work (Held n) (work_fault (map (neg_monomial prime) (list_in pool at n))) (map (neg_monomial prime) (list_in pool at n))
+    → Makes work (Ok n) (work_fault (map (neg_monomial prime) (list_in pool at n))) (map (neg_monomial prime) (list_in pool at n))
 neg_made pool at n work l k h =
     let ms : List Monomial = map (neg_monomial prime) (list_in pool at n) in
     let f : All Fits ms = all_map Fits Fits (neg_monomial prime) fits_negative (list_in pool at n) k.fit in
@@ -83,7 +84,7 @@ module _ {pool : List ℕ} {la n ra m : ℕ} (b : Bool) (fl : ListFits pool la n
   both_length : length (L ++ R) ≡ n + m
   both_length = length-append L R ∙ omega (arith, read_length n (drop la pool), signed_length b (list_in pool ra m), read_length m (drop ra pool))
 
-  pub sum_many : (work : List ℕ) → 256 < n + m → Makes work (Fault 12) (work_fault (L ++ R)) (combine prime (L ++ R))
+  pub sum_many : (work : List ℕ) → 256 < n + m → Makes work (Err ListTooLong) (work_fault (L ++ R)) (combine prime (L ++ R))
   sum_many work l = twelve (L ++ R) (combine prime (L ++ R)) work (omega (arith, both_length))
 
   module _ (work work₁ : List ℕ) (one : ℕ) (room : 4096 ≤ length work) (lw : length work₁ ≡ length work) (h : held one work₁ ≡ insert_all L (held 0 work)) where
@@ -102,7 +103,7 @@ module _ {pool : List ℕ} {la n ra m : ℕ} (b : Bool) (fl : ListFits pool la n
     )
 
     pub sum_made : (work₂ : List ℕ) (two : ℕ) → one ≤ 0 + n → n + m ≤ 256 → two ≤ one + m → held two work₂ ≡ insert_all R (held one work₁)
-        → Makes work₂ (Held two) (work_fault (L ++ R)) (combine prime (L ++ R))
+        → Makes work₂ (Ok two) (work_fault (L ++ R)) (combine prime (L ++ R))
     sum_made work₂ two l k k₂ h₂ =
         summed_made (L ++ R) work₂ two (omega (arith, both_length)) (all_append Fits L R fl.fit (fits_signed b (list_in pool ra m) fr.fit)) (omega arith)
         (h₂ ∙ ap (insert_all R) first_is ∙ sym (sum_append L R []))
@@ -184,15 +185,15 @@ module _ {pool : List ℕ} {la n ra m : ℕ} (fl : ListFits pool la n) (fr : Lis
   all_length : length W ≡ n * m
   all_length = products_length X Y ∙ (λ i. read_length n (drop la pool) i * read_length m (drop ra pool) i)
 
-  pub product_many : (work : List ℕ) → 256 < n * m → Makes work (Fault 12) (work_fault W) (combine prime W)
+  pub product_many : (work : List ℕ) → 256 < n * m → Makes work (Err ListTooLong) (work_fault W) (combine prime W)
   product_many work l = twelve W (combine prime W) work (omega (arith, all_length))
 
   pub longest_small : (longest_of X ≤ 14) × (longest_of Y ≤ 14)
   longest_small = (longest_few X fl.fit, longest_few Y fr.fit)
 
-  pub product_long : (work : List ℕ) (x y : ℕ) → n * m ≤ 256 → x ≡ longest_of X → y ≡ longest_of Y → 14 < x + y → Makes work (Fault 13) (work_fault W) (combine prime W)
-  product_long work x y l ex ey k = (work_long W (omega (arith, all_length)) (products_long X Y fl.fit fr.fit (omega arith)), λ z. omega arith)
+  pub product_long : (work : List ℕ) (x y : ℕ) → n * m ≤ 256 → x ≡ longest_of X → y ≡ longest_of Y → 14 < x + y → Makes work (Err ProductTooLong) (work_fault W) (combine prime W)
+  product_long work x y l ex ey k = work_long W (omega (arith, all_length)) (products_long X Y fl.fit fr.fit (omega arith))
 
   pub product_made : (work : List ℕ) (r x y : ℕ) → n * m ≤ 256 → x ≡ longest_of X → y ≡ longest_of Y → x + y ≤ 14 → r ≤ n * m → held r work ≡ insert_all W []
-      → Makes work (Held r) (work_fault W) (combine prime W)
+      → Makes work (Ok r) (work_fault W) (combine prime W)
   product_made work r x y l ex ey k few h = summed_made W work r (omega (arith, all_length)) (products_fit X Y (omega arith)) (omega arith) h

@@ -1,18 +1,17 @@
 -- What the pool holds while an expansion walks, for the records expanded so far.
-use Rattle.std.specs.Prelude.{◌≡◌, true, false, List, ◌++◌, ℕ, ◌+◌, ◌*◌, ◌≤◌, ◌<◌, length, get_or, set, take, drop}
+use Rattle.std.specs.Prelude.{◌≡◌, true, false, List, ◌++◌, ℕ, ◌+◌, ◌*◌, ◌≤◌, ◌<◌, length, get_or, set, take, drop, Result, Ok, Err}
 use Rattle.semantics.specs.Answer.{good, refused}
 use Rattle.semantics.specs.Check.{prime_of}
 use Rattle.semantics.specs.Walk.{member}
 use Rattle.semantics.specs.Monomial.{Monomial, list_at}
 use Rattle.semantics.specs.Expand.{list_size, expand_all}
 use Rattle.semantics.specs.Lists.{All}
+use Rattle.answers.specs.declared.Reason.TheVariants.{PoolTooShort}
+use Rattle.answers.specs.declared.Refusal.{Refusal}
+use Rattle.answers.specs.Replies.{number_of}
 use Rattle.records.specs.Access.{IsSheet, records_of}
 use Rattle.records.specs.Orders.{Order, There}
 use Rattle.monomial.specs.Words.{held, list_words, Fits, Stored}
-use Rattle.expand.specs.declared.kinds.Made.{Made}
-use Rattle.expand.specs.declared.kinds.Made.TheVariants.{Held, Fault}
-use Rattle.expand.specs.declared.Expanded.{Expanded}
-use Rattle.expand.specs.declared.Expanded.TheVariants.{Used, Refused}
 
 -- The walk accepted the records `done`, newest first, and `used` words of the pool are taken: a record that is not among them has
 -- 0 for its start, and one that is has its list, behind the two words of each record and before what is free. A list takes at most sixteen
@@ -28,23 +27,18 @@ pub record PoolHolds (ws done pool : List ℕ) (used : ℕ) : Type 0 where
   pub before : (i : ℕ) → member i done ≡ true → get_or pool (2 * i) 0 + list_size (list_at (prime_of ws) (records_of ws) i) ≤ used
 
 -- What an answer says of the records that were to be expanded: the words taken, or the refusal.
-abbrev pub Expands : (ws pool : List ℕ) → Expanded → (done : List ℕ) → Type 0
-Expands ws pool (Used u) done = PoolHolds ws done pool u
-Expands ws pool (Refused q) done = expand_all (prime_of ws) (records_of ws) (length pool) done ≡ refused q.number q.place
-
--- The refusal of record r, where its list was not made.
-abbrev pub refused_by : Made → (r : ℕ) → Expanded
-refused_by (Held n) r = Refused (record { number = 0; place = r })
-refused_by (Fault f) r = Refused (record { number = f; place = r })
+abbrev pub Expands : (ws pool : List ℕ) → Result ℕ Refusal → (done : List ℕ) → Type 0
+Expands ws pool (Ok u) done = PoolHolds ws done pool u
+Expands ws pool (Err q) done = expand_all (prime_of ws) (records_of ws) (length pool) done ≡ refused (number_of q.reason) q.place
 
 -- The pool with a list stored for record r: its words behind those that are taken, and its place in the record's two words.
 abbrev pub with_list : (pool : List ℕ) (r used : ℕ) → List Monomial → List ℕ
 with_list pool r used l = set (set (take used pool ++ (list_words l ++ drop (used + list_size l) pool)) (2 * r) used) (2 * r + 1) (length l)
 
 -- What storing comes to: the list is stored, or there is no room for it.
-abbrev pub Stores : (pool pool' : List ℕ) (r used : ℕ) → List Monomial → Expanded → Type 0
-Stores pool pool' r used l (Used u) = (u ≡ used + list_size l) × (u ≤ length pool) × (pool' ≡ with_list pool r used l)
-Stores pool pool' r used l (Refused q) = (q.number ≡ 16) × (q.place ≡ r) × (length pool < used + list_size l)
+abbrev pub Stores : (pool pool' : List ℕ) (r used : ℕ) → List Monomial → Result ℕ Refusal → Type 0
+Stores pool pool' r used l (Ok u) = (u ≡ used + list_size l) × (u ≤ length pool) × (pool' ≡ with_list pool r used l)
+Stores pool pool' r used l (Err q) = (q.reason ≡ PoolTooShort) × (q.place ≡ r) × (length pool < used + list_size l)
 
 -- What storing asks: a list that may be held, room for the record's two words, and words that are taken before what is free.
 pub record Storing (work : List ℕ) (count : ℕ) (pool : List ℕ) (r used : ℕ) : Type 0 where

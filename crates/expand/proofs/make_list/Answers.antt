@@ -3,14 +3,13 @@ use mathlib.Core.Path.{◌≡◌, refl}
 use mathlib.Core.List.{List}
 use Prim.Native.Nat.{ℕ, ◌≤◌}
 use native.Mathlib.Omega.{arith}
-use lib.Dec.{eqb}
 use Rattle.records.specs.declared.Record as declared
 use Rattle.records.specs.Access.{five_words, node_in}
 use Rattle.records.proofs.Visits.{record_inside}
 use Rattle.expand.specs.Walking.{Finishing}
 use Rattle.expand.specs.declared.kinds.PoolList.{PoolList}
 use Rattle.expand.proofs.Finishes.{Reads, LeftList, BothLists}
-use Rattle.expand.proofs.Finishes.{leaf_good, finishes_leaf, left_head, left_fits, finishes_neg, right_head, both_fit, finishes_mul, finishes_sum}
+use Rattle.expand.proofs.Finishes.{leaf_good, finishes_leaf, left_head, left_fits, finishes_neg, right_head, both_fit, finishes_mul, finishes_add, finishes_sub, kind_nine}
 use Rattle.expand.proofs.make_list.Goals as goal
 
 -- The left child's list is read, and then the right one's.
@@ -35,47 +34,61 @@ returns-then-q-lt6 c =
     let v = c.expand_leaf in
     finishes_leaf c.requires.1 c.record_at-q.result c.record_at-q.ensures c.if-q-lt6.true v.new.work v.result v.ensures
 
-pub list_of-left-requires : goal.list_of-left-requires
-list_of-left-requires c = left_head c.requires.1 c.record_at-q.result c.record_at-q.ensures (omega arith) c.wide.ensures
+pub of_record-left-requires : goal.of_record-left-requires
+of_record-left-requires c = left_head c.requires.1 c.record_at-q.result c.record_at-q.ensures (omega arith) refl
 
 pub expand_neg-requires : goal.expand_neg-requires
 expand_neg-requires c =
-    let l = left c.requires.1 c.record_at-q.result c.record_at-q.ensures (omega arith) c.wide.ensures c.list_of-left.result c.list_of-left.ensures in
+    let l = left c.requires.1 c.record_at-q.result c.record_at-q.ensures (omega arith) refl c.of_record-left.result c.of_record-left.ensures in
     (c.requires.1.ready.walking.room, left_fits l)
 
 pub returns-then-q-eq8 : goal.returns-then-q-eq8
 returns-then-q-eq8 c =
-    let l = left c.requires.1 c.record_at-q.result c.record_at-q.ensures (omega arith) c.wide.ensures c.list_of-left.result c.list_of-left.ensures in
+    let l = left c.requires.1 c.record_at-q.result c.record_at-q.ensures (omega arith) refl c.of_record-left.result c.of_record-left.ensures in
     let v = c.expand_neg in
     finishes_neg l c.if-q-eq8.true v.new.work v.result v.ensures
 
-pub list_of-right-requires : goal.list_of-right-requires
-list_of-right-requires c = right_head c.requires.1 c.record_at-q.result c.record_at-q.ensures (omega arith) c.if-q-eq8.false c.wide-2.ensures
-
-pub expand_product-requires : goal.expand_product-requires
-expand_product-requires c =
-    let l = left c.requires.1 c.record_at-q.result c.record_at-q.ensures (omega arith) c.wide.ensures c.list_of-left.result c.list_of-left.ensures in
-    let g = both l c.if-q-eq8.false c.wide-2.ensures c.list_of-right.result c.list_of-right.ensures in
-    let f = both_fit g in
-    (c.requires.1.ready.walking.room, f.0, f.1)
-
-pub returns-then-q-eq9 : goal.returns-then-q-eq9
-returns-then-q-eq9 c =
-    let l = left c.requires.1 c.record_at-q.result c.record_at-q.ensures (omega arith) c.wide.ensures c.list_of-left.result c.list_of-left.ensures in
-    let g = both l c.if-q-eq8.false c.wide-2.ensures c.list_of-right.result c.list_of-right.ensures in
-    let v = c.expand_product in
-    finishes_mul g c.if-q-eq9.true v.new.work v.result v.ensures
+pub of_record-right-requires : goal.of_record-right-requires
+of_record-right-requires c = right_head c.requires.1 c.record_at-q.result c.record_at-q.ensures (omega arith) c.if-q-eq8.false refl
 
 pub expand_sum-requires : goal.expand_sum-requires
 expand_sum-requires c =
-    let l = left c.requires.1 c.record_at-q.result c.record_at-q.ensures (omega arith) c.wide.ensures c.list_of-left.result c.list_of-left.ensures in
-    let g = both l c.if-q-eq8.false c.wide-2.ensures c.list_of-right.result c.list_of-right.ensures in
+    let l = left c.requires.1 c.record_at-q.result c.record_at-q.ensures (omega arith) refl c.of_record-left.result c.of_record-left.ensures in
+    let g = both l c.if-q-eq8.false refl c.of_record-right.result c.of_record-right.ensures in
     let f = both_fit g in
     (c.requires.1.ready.walking.room, f.0, f.1)
 
-pub returns : goal.returns
-returns c =
-    let l = left c.requires.1 c.record_at-q.result c.record_at-q.ensures (omega arith) c.wide.ensures c.list_of-left.result c.list_of-left.ensures in
-    let g = both l c.if-q-eq8.false c.wide-2.ensures c.list_of-right.result c.list_of-right.ensures in
+pub returns-in-6 : goal.returns-in-6
+returns-in-6 c =
+    let l = left c.requires.1 c.record_at-q.result c.record_at-q.ensures (omega arith) refl c.of_record-left.result c.of_record-left.ensures in
+    let g = both l c.if-q-eq8.false refl c.of_record-right.result c.of_record-right.ensures in
     let v = c.expand_sum in
-    finishes_sum g c.if-q-eq9.false (eqb c.record_at-q.result.kind 7) refl v.new.work v.result v.ensures
+    finishes_add g c.in-6.is v.new.work v.result v.ensures
+
+pub expand_sum-requires-in-7 : goal.expand_sum-requires-in-7
+expand_sum-requires-in-7 c =
+    let l = left c.requires.1 c.record_at-q.result c.record_at-q.ensures (omega arith) refl c.of_record-left.result c.of_record-left.ensures in
+    let g = both l c.if-q-eq8.false refl c.of_record-right.result c.of_record-right.ensures in
+    let f = both_fit g in
+    (c.requires.1.ready.walking.room, f.0, f.1)
+
+pub returns-in-7 : goal.returns-in-7
+returns-in-7 c =
+    let l = left c.requires.1 c.record_at-q.result c.record_at-q.ensures (omega arith) refl c.of_record-left.result c.of_record-left.ensures in
+    let g = both l c.if-q-eq8.false refl c.of_record-right.result c.of_record-right.ensures in
+    let v = c.expand_sum-in-7 in
+    finishes_sub g c.in-7.is v.new.work v.result v.ensures
+
+pub expand_product-requires : goal.expand_product-requires
+expand_product-requires c =
+    let l = left c.requires.1 c.record_at-q.result c.record_at-q.ensures (omega arith) refl c.of_record-left.result c.of_record-left.ensures in
+    let g = both l c.if-q-eq8.false refl c.of_record-right.result c.of_record-right.ensures in
+    let f = both_fit g in
+    (c.requires.1.ready.walking.room, f.0, f.1)
+
+pub returns-in_default : goal.returns-in_default
+returns-in_default c =
+    let l = left c.requires.1 c.record_at-q.result c.record_at-q.ensures (omega arith) refl c.of_record-left.result c.of_record-left.ensures in
+    let g = both l c.if-q-eq8.false refl c.of_record-right.result c.of_record-right.ensures in
+    let v = c.expand_product in
+    finishes_mul g (kind_nine g (omega arith) (omega arith)) v.new.work v.result v.ensures
