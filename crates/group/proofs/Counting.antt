@@ -18,8 +18,8 @@ use Rattle.semantics.specs.Call.{zeros}
 use Rattle.semantics.specs.Lists.{All}
 use Rattle.semantics.proofs.Sorting.{all_within}
 use Rattle.semantics.proofs.Order.{before_vars_trans, before_vars_total}
-use Rattle.monomial.specs.declared.vars.Order.{Order}
-use Rattle.monomial.specs.declared.vars.Order.TheVariants.{Before, Same, After}
+use Rattle.std.specs.declared.cmp.Ordering.{Ordering}
+use Rattle.std.specs.declared.cmp.Ordering.TheVariants.{Less, Equal, Greater}
 use Rattle.std.specs.Prelude.{Some}
 use Rattle.std.specs.Prelude.{Ok, Err}
 use Rattle.monomial.specs.Words.{read_monomial}
@@ -29,21 +29,21 @@ use Rattle.group.proofs.Tallies.{once, again, tally_nil, tally_less, tally_more,
 use Rattle.group.proofs.Headers.{tallied_length, tallied_at, vars_at_lem, count_at, total_at}
 
 -- What an order says.
-abbrev pub Told : (v w : List ℕ) → Order → Type 0
-Told v w Before = before_vars v w ≡ true
-Told v w After = before_vars w v ≡ true
-Told v w Same = w ≡ v
+abbrev pub Told : (v w : List ℕ) → Ordering → Type 0
+Told v w Less = before_vars v w ≡ true
+Told v w Greater = before_vars w v ≡ true
+Told v w Equal = w ≡ v
 
-pub order_told : (v w : List ℕ) (o : Order) → o ≡ order_of v w → Told v w o
+pub order_told : (v w : List ℕ) (o : Ordering) → o ≡ order_of v w → Told v w o
 unfolding order_of
 order_told v w o e = subst (Told v w) (sym e) (go (before_vars v w) (before_vars w v) refl refl)
   where
-    go : (s t : Bool) → before_vars v w ≡ s → before_vars w v ≡ t → Told v w (chosen s Before (chosen t After Same))
+    go : (s t : Bool) → before_vars v w ≡ s → before_vars w v ≡ t → Told v w (chosen s Less (chosen t Greater Equal))
     go true t d e = d
     go false true d e = e
     go false false d e = sym (before_vars_total v w d e)
 
-pub told_at : (n k : ℕ) (H P v : List ℕ) (o p : Order) → k < n → o ≡ order_of v (take (get_or H (4 * k + 2) 0) (drop (get_or H (4 * k) 0 + 2) P)) → o ≡ p
+pub told_at : (n k : ℕ) (H P v : List ℕ) (o p : Ordering) → k < n → o ≡ order_of v (take (get_or H (4 * k + 2) 0) (drop (get_or H (4 * k) 0 + 2) P)) → o ≡ p
     → Told v (get_or (tallied n H P) k none).vars p
 told_at n k H P v o p h e q =
     subst (Told v (get_or (tallied n H P) k none).vars) q

@@ -14,15 +14,15 @@ use Rattle.semantics.specs.Monomial.{before_vars}
 use Rattle.semantics.specs.Lists.{All}
 use Rattle.semantics.proofs.Order.{before_vars_trans, before_vars_irrefl}
 use Rattle.semantics.proofs.Sorting.{all_within}
-use Rattle.monomial.specs.declared.vars.Order.{Order}
-use Rattle.monomial.specs.declared.vars.Order.TheVariants.{After}
+use Rattle.std.specs.declared.cmp.Ordering.{Ordering}
+use Rattle.std.specs.declared.cmp.Ordering.TheVariants.{Greater}
 use Rattle.monomial.specs.Orders.{order_of}
 use Rattle.std.specs.Prelude.{Ok, Err}
 use Rattle.group.specs.Grouped.{Tally, tally, tally_all, tallied, none, Ascends, Rows, Spot}
 use Rattle.group.specs.declared.pending.Waiting.{Waiting}
 use Rattle.group.specs.Waiting.{PlaceInside, pool_vars, nobody, waiting_vars, Pending, Batch, batched, MayFollow}
 use Rattle.group.proofs.Tallies.{once, again, tally_more, tally_all_tally, tally_all_append, above_tally}
-use Rattle.group.proofs.Counting.{Told, order_told, tally_there, tally_missing, count_more, read_vars}
+use Rattle.group.proofs.Counting.{Told, order_told, tally_there, tally_missing, count_more}
 
 -- Every tally stands behind v.
 abbrev Above : (v : List ℕ) (gs : List Tally) → Type 0
@@ -168,15 +168,14 @@ module _ {b : ℕ} {waits : List Waiting} {pool : List ℕ} {gs : List Tally} (p
   length_waiting = length_from b 0 (omega arith)
 
 -- A monomial that comes after the last of those that wait may follow them.
-pub follows_last : (P : List ℕ) (ws : List Waiting) (b at : ℕ) (o : Order)
-    → (let l = (get_or ws (b - 1) nobody).place in o ≡ order_of (take (get_or P at 0) (drop (at + 2) P)) (take (get_or P l 0) (drop (l + 2) P))) → o ≡ After
+pub follows_last : (P : List ℕ) (ws : List Waiting) (b at : ℕ) (o : Ordering)
+    → o ≡ order_of (pool_vars P at) (waiting_vars P (get_or ws (b - 1) nobody)) → o ≡ Greater
     → (j : ℕ) → suc j ≡ b → before_vars (waiting_vars P (get_or ws j nobody)) (pool_vars P at) ≡ true
 follows_last P ws b at o e q j h =
     let l : ℕ = (get_or ws (b - 1) nobody).place in
     let d : b - 1 ≡ j = omega arith in
-    let r : o ≡ order_of (pool_vars P at) (pool_vars P l) = e ∙ (λ i. order_of (sym (read_vars P at) i) (sym (read_vars P l) i)) in
     subst (λ (i : ℕ). before_vars (waiting_vars P (get_or ws i nobody)) (pool_vars P at) ≡ true) d
-    (subst (Told (pool_vars P at) (pool_vars P l)) q (order_told (pool_vars P at) (pool_vars P l) o r))
+    (subst (Told (pool_vars P at) (pool_vars P l)) q (order_told (pool_vars P at) (pool_vars P l) o e))
 
 -- Nothing waits.
 pub batch_none : (n : ℕ) (H P : List ℕ) (ws : List Waiting) → Rows n H P → 0 < length ws → Batch n 0 H P ws

@@ -6,7 +6,7 @@ ghost use Rattle.group.specs.Waiting.{nobody, PlaceInside, pool_vars, Batch, bat
 
 use crate::search;
 use monomial::vars;
-use monomial::vars::Order;
+use std::cmp::Ordering;
 
 // A monomial that waits: where it stands in the pool, and the row that it goes in front of.
 #[derive(Clone, Copy, Debug, Default, PartialEq, Eq)]
@@ -54,15 +54,8 @@ fn may_follow(waits: &[Waiting], b: usize, pool: &[u32], at: usize) -> bool
         return false;
     }
     let last = waits[b - 1].place;
-    let order = vars::order_at(
-        pool,
-        at + 2,
-        pool[at] as usize,
-        pool,
-        last + 2,
-        pool[last] as usize,
-    );
-    matches!(order, Order::After)
+    let order = vars::compare(search::vars_at(pool, at), search::vars_at(pool, last));
+    matches!(order, Ordering::Greater)
 }
 
 // Counts the monomial that stands at `at`, or has it wait. None: those that wait come first.

@@ -5,23 +5,35 @@ ghost use Rattle.group.specs.Grouped.{Rows, tallied, row_place, row_size, row_va
 ghost use Rattle.group.specs.Waiting.{pool_vars};
 
 use monomial::vars;
-use monomial::vars::Order;
+use std::cmp::Ordering;
+
+// The variables of the monomial that stands at `at`.
+#[tactic(auto, using(crate::proofs::Counting::read_vars))]
+pub fn vars_at(pool: &[u32], at: usize) -> &[u32]
+    requires { MonomialInside pool.now at }
+    ensures { result.now ≡ pool_vars pool.now at }
+{
+    let from = at + 2;
+    &pool[from..from + pool[at] as usize]
+}
+
+// The variables of row i.
+fn row_vars<'a>(headers: &[u32], i: usize, pool: &'a [u32]) -> &'a [u32]
+    requires { (4 * i + 4 ≤ length headers.now) × (row_place headers.now i + 2 + row_size headers.now i ≤ length pool.now) }
+    ensures { result.now ≡ row_vars headers.now pool.now i }
+{
+    let row = 4 * i;
+    let from = headers[row] as usize + 2;
+    &pool[from..from + headers[row + 2] as usize]
+}
 
 // Where the monomial that stands at `at` is in the order, seen from row i.
-fn order_of_row(headers: &[u32], i: usize, pool: &[u32], at: usize) -> Order
+fn order_of_row(headers: &[u32], i: usize, pool: &[u32], at: usize) -> Ordering
     requires { (4 * i + 4 ≤ length headers.now) × (row_place headers.now i + 2 + row_size headers.now i ≤ length pool.now)
         × MonomialInside pool.now at }
     ensures { result ≡ order_of (pool_vars pool.now at) (row_vars headers.now pool.now i) }
 {
-    let row = 4 * i;
-    vars::order_at(
-        pool,
-        at + 2,
-        pool[at] as usize,
-        pool,
-        headers[row] as usize + 2,
-        headers[row + 2] as usize,
-    )
+    vars::compare(vars_at(pool, at), row_vars(headers, i, pool))
 }
 
 // Searches the rows between two: those below `from` stand before the monomial's variables, those from `to` on behind them. Ok: the row that has them,
@@ -45,9 +57,9 @@ fn search_rows(
         let mid = low + (high - low) / 2;
         let order = order_of_row(headers, mid, pool, at);
         match order {
-            Order::Same => return Ok(mid),
-            Order::Before => high = mid,
-            Order::After => low = mid + 1,
+            Ordering::Equal => return Ok(mid),
+            Ordering::Less => high = mid,
+            Ordering::Greater => low = mid + 1,
         }
     }
     Err(low)
@@ -72,9 +84,9 @@ fn search_on(
         let k = low + step;
         let order = order_of_row(headers, k, pool, at);
         match order {
-            Order::Same => return Ok(k),
-            Order::Before => return search_rows(headers, n, low, k, pool, at),
-            Order::After => {
+            Ordering::Equal => return Ok(k),
+            Ordering::Less => return search_rows(headers, n, low, k, pool, at),
+            Ordering::Greater => {
                 low = k + 1;
                 step = 2 * step;
             }
@@ -100,8 +112,8 @@ pub fn find_near(
     }
     let order = order_of_row(headers, near, pool, at);
     match order {
-        Order::Same => Ok(near),
-        Order::Before => search_rows(headers, n, 0, near, pool, at),
-        Order::After => search_on(headers, n, near + 1, pool, at),
+        Ordering::Equal => Ok(near),
+        Ordering::Less => search_rows(headers, n, 0, near, pool, at),
+        Ordering::Greater => search_on(headers, n, near + 1, pool, at),
     }
 }

@@ -1,11 +1,16 @@
 -- With none waiting any monomial may wait, with no room left none may; else its variables are compared with those of the last that waits (`follows_last`).
+use mathlib.Core.Path.{◌∙◌}
 use native.Mathlib.Omega.{arith}
+use Rattle.monomial.specs.Orders.{order_of}
 use Rattle.group.proofs.Waits.{follows_last}
 use Rattle.group.proofs.pending.may_follow.Goals as goal
 
-pub returns-in-After : goal.returns-in-After
-returns-in-After c =
+pub returns-in-Greater : goal.returns-in-Greater
+returns-in-Greater c =
     let a = c.args in
     let l = c.if-waits-b.false in
-    let o = c.order_at-order in
-    (omega arith, follows_last a.pool.now a.waits.now a.b a.at o.result o.ensures c.in-After.is)
+    let o = c.compare-order in (
+      omega arith,
+      follows_last a.pool.now a.waits.now a.b a.at o.result
+          (o.ensures ∙ (λ i. order_of (c.vars_at.ensures i) (c.vars_at-2.ensures i))) c.in-Greater.is,
+    )
