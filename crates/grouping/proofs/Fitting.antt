@@ -1,6 +1,5 @@
 -- A family of roots, from counting to the finished slices: what its groups are, and the first slice that is too short.
 use mathlib.Core.Path.{◌≡◌, refl, sym, ap, subst, ◌∙◌}
-use mathlib.Core.Logic.{◌⊎◌, inl, inr}
 use mathlib.Core.List.{List, [], ◌∷◌, ◌++◌, map, flat_map}
 use Prim.Native.Nat.{ℕ, ◌+◌, ◌*◌, ◌-◌, ◌≤◌, ◌<◌}
 use native.Mathlib.Omega.{arith}
@@ -25,12 +24,12 @@ use Rattle.semantics.proofs.RecordLists.{lists_ascend}
 use Rattle.records.specs.Access.{records_of}
 use Rattle.records.proofs.Steps.{inside}
 use Rattle.monomial.specs.Words.{Stored}
-use Rattle.std.specs.Prelude.{Option, Some, None}
-use Rattle.grouping.specs.declared.families.Family.{Family}
-use Rattle.grouping.specs.declared.families.Family.TheVariants.{Constraints, Counts, Fields}
+use Rattle.std.specs.Prelude.{Option, Some, None, Result, Ok, Err}
+use Rattle.grouping.specs.declared.Family.{Family}
+use Rattle.grouping.specs.declared.Family.TheVariants.{Constraints, Counts, Fields}
 use Rattle.grouping.specs.declared.Lengths.{Lengths}
-use Rattle.grouping.specs.declared.Grouped.{Grouped}
-use Rattle.grouping.specs.declared.Grouped.TheVariants.{Written, Short}
+use Rattle.grouping.specs.declared.Short.{Short}
+use Rattle.grouping.specs.declared.Short.TheVariants.{Headers, Variables, Terms}
 use Rattle.group.specs.declared.place.Form.{Form}
 use Rattle.group.specs.declared.place.Form.TheVariants.{Constraint, Interaction}
 use Rattle.group.specs.Grouped.{Tally, tally_all, tallied_total, tallied, Rows, CountedMore, select, tallied_count, placed, RoomForTerms, column, sum, list_of, InPool, vars_named, term_of}
@@ -126,7 +125,7 @@ pub record Rowed (ws P : List ℕ) (roots : List Root) (n : ℕ) (H : List ℕ) 
 -- There is room for all.
 pub record Fits (ws P : List ℕ) (roots : List Root) (b : Form) (n : ℕ) (H W T : List ℕ) (c : Lengths) : Type 0 where
   pub rowed : Rowed ws P roots n H
-  pub measured : Measured n (term_width b) (sum (column 2 n H)) (sum (column 3 n H)) (length W) (length T) (Written c)
+  pub measured : Measured n (term_width b) (sum (column 2 n H)) (sum (column 3 n H)) (length W) (length T) (Ok c)
 
 -- Headers and terms are ready for the terms of the roots.
 pub record Started (ws P : List ℕ) (roots : List Root) (b : Form) (n : ℕ) (H W T : List ℕ) (c : Lengths) (H₁ T₁ : List ℕ) : Type 0 where
@@ -201,11 +200,11 @@ module _ {ws P : List ℕ} {roots : List Root} (f : Known ws P roots) {H referen
 
 -- What counting answers.
 module _ {ws P : List ℕ} {roots : List Root} (f : Known ws P roots) (H : List ℕ) (u : Option ℕ) (c : CountedMore H P (tally_all (vars_named P (nodes_of roots)) []) u) where
-  pub fit_full : u ≡ None → (b : Form) (W T : List ℕ) → Laid (term_of b) (groups_of ws roots) H W T (Short 1)
+  pub fit_full : u ≡ None → (b : Form) (W T : List ℕ) → Laid (term_of b) (groups_of ws roots) H W T (Err Headers)
   fit_full e b W T =
       let d = subst (CountedMore H P (tally_all (vars_named P (nodes_of roots)) [])) e c in
       let s = headers_size f in
-      (short_one (term_of b) (groups_of ws roots) (length H) (length W) (length T) (omega arith), λ z. absurd (omega arith))
+      short_one (term_of b) (groups_of ws roots) (length H) (length W) (length T) (omega arith)
 
   pub fit_rows : {n : ℕ} → u ≡ Some n → Rowed ws P roots n H
   fit_rows {n} e =
@@ -239,34 +238,27 @@ module _ {ws P : List ℕ} {roots : List Root} {n : ℕ} {H : List ℕ} (r : Row
             ∙ ap (λ (k : ℕ). term_width b * k) (sym (total_is n H P r.rows_are)),
       )
 
-  module _ (b : Form) {w : ℕ} (q : w ≡ term_width b) (W T : List ℕ) (u : Grouped) (m : Measured n w (sum (column 2 n H)) (sum (column 3 n H)) (length W) (length T) u) where
-    measured_as : {v : Grouped} → u ≡ v → Measured n (term_width b) (sum (column 2 n H)) (sum (column 3 n H)) (length W) (length T) v
-    measured_as {v} e =
-        subst (λ (w : ℕ). Measured n w (sum (column 2 n H)) (sum (column 3 n H)) (length W) (length T) v) q
-        (subst (Measured n w (sum (column 2 n H)) (sum (column 3 n H)) (length W) (length T)) e m)
+  module _ (b : Form) {w : ℕ} (q : w ≡ term_width b) (W T : List ℕ) where
+    abbrev Measures : ℕ → Result Lengths Short → Type 0
+    Measures w u = Measured n w (sum (column 2 n H)) (sum (column 3 n H)) (length W) (length T) u
 
-    pub fit_fits : {c : Lengths} → u ≡ Written c → Fits ws P roots b n H W T c
-    fit_fits e = record { rowed = r; measured = measured_as e }
+    pub fit_fits : {c : Lengths} → Measures w (Ok c) → Fits ws P roots b n H W T c
+    fit_fits {c} m = record { rowed = r; measured = subst (λ (w : ℕ). Measures w (Ok c)) q m }
 
     -- Variables or terms have no room.
-    pub fit_short : {k : ℕ} → u ≡ Short k → Laid (term_of b) (groups_of ws roots) H W T u
-    fit_short {k} e = subst (Laid (term_of b) (groups_of ws roots) H W T) (sym e) (go (measured_as e))
+    pub fit_short : (k : Short) → Measures w (Err k) → Laid (term_of b) (groups_of ws roots) H W T (Err k)
+    fit_short k m = go k (subst (λ (w : ℕ). Measures w (Err k)) q m)
       where
-        go : ((k ≡ 2) × (length W < sum (column 2 n H))) ⊎ ((k ≡ 3) × (sum (column 2 n H) ≤ length W) × (length T < term_width b * sum (column 3 n H)))
-            → Laid (term_of b) (groups_of ws roots) H W T (Short k)
-        go (inl h) =
+        go : (k : Short) → Measures (term_width b) (Err k) → Laid (term_of b) (groups_of ws roots) H W T (Err k)
+        go Headers m = absurd m
+        go Variables m =
             let s = sizes b in
-            let o = r.rows_are.room in (
-              short_two (term_of b) (groups_of ws roots) (length H) (length W) (length T) (omega (arith, s.0)) (omega (arith, s.1, h.1)) ∙ sym h.0,
-              λ z. absurd (omega (arith, h.0)),
-            )
-        go (inr h) =
+            let o = r.rows_are.room in
+            short_two (term_of b) (groups_of ws roots) (length H) (length W) (length T) (omega (arith, s.0)) (omega (arith, s.1, m))
+        go Terms m =
             let s = sizes b in
-            let o = r.rows_are.room in (
-              short_three (term_of b) (groups_of ws roots) (length H) (length W) (length T) (omega (arith, s.0)) (omega (arith, s.1, h.1)) (omega (arith, s.2, h.2))
-                  ∙ sym h.0,
-              λ z. absurd (omega (arith, h.0)),
-            )
+            let o = r.rows_are.room in
+            short_three (term_of b) (groups_of ws roots) (length H) (length W) (length T) (omega (arith, s.0)) (omega (arith, s.1, m.0)) (omega (arith, s.2, m.1))
 
 pub fit_terms : {ws P : List ℕ} {roots : List Root} {b : Form} {n : ℕ} {H W T : List ℕ} {c : Lengths} → Fits ws P roots b n H W T c
     → term_width b * tallied_total (tallied n H P) ≤ length T
@@ -302,7 +294,7 @@ module _ {ws P : List ℕ} {roots : List Root} {b : Form} {n : ℕ} {H W T : Lis
 
     -- All is written.
     pub fit_written : (H₃ W₃ : List ℕ) → length H₃ ≡ length H → length W₃ ≡ length W → length T₂ ≡ length T
-        → Front (tallied_headers 0 0 (tallied n H₂ P)) H₃ → Front (vars_in (tallied n H₂ P)) W₃ → Laid (term_of b) (groups_of ws roots) H₃ W₃ T₂ (Written c)
+        → Front (tallied_headers 0 0 (tallied n H₂ P)) H₃ → Front (vars_in (tallied n H₂ P)) W₃ → Laid (term_of b) (groups_of ws roots) H₃ W₃ T₂ (Ok c)
     fit_written H₃ W₃ lh lv lt x y =
         let s = sizes r b in
         let o = r.rows_are.room in

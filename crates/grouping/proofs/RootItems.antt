@@ -21,8 +21,8 @@ use Rattle.records.proofs.Reading.{interactions_inside, counts_are, fields_are}
 use Rattle.semantics.proofs.Demands as demands
 use Rattle.group.specs.declared.place.Form.{Form}
 use Rattle.group.specs.Grouped.{RoomForTerms, list_of, InPool, items_at, Placing, ToPlace, Places, vars_named}
-use Rattle.grouping.specs.declared.families.Family.{Family}
-use Rattle.grouping.specs.declared.families.Family.TheVariants.{Constraints, Counts, Fields}
+use Rattle.grouping.specs.declared.Family.{Family}
+use Rattle.grouping.specs.declared.Family.TheVariants.{Constraints, Counts, Fields}
 use Rattle.grouping.specs.Families.{roots_of, nodes_of, constraint_root, field_root, interaction_in, each_roots, count_root_at, field_roots_at, ToPlaceRoots}
 use Rattle.group.proofs.Tallies.{vars_of}
 use Rattle.group.proofs.Placements.{room_front}

@@ -2,11 +2,23 @@
 use mathlib.Core.Path.{◌≡◌, refl, ap, ◌∙◌}
 use mathlib.Core.Bool.{Bool, true, false, cond}
 use mathlib.Core.List.{List, [], ◌∷◌, ◌++◌}
-use Prim.Native.Nat.{ℕ, suc, ◌+◌}
+use Prim.Native.Nat.{ℕ, suc, ◌+◌, ◌≤◌, ◌<◌}
 use native.Mathlib.Omega.{arith}
 use lib.Dec.{leb}
 use lib.ListN.{length}
 use Rattle.semantics.specs.Call.{first_short}
+use Rattle.grouping.specs.declared.Short.{Short}
+use Rattle.grouping.specs.declared.Short.TheVariants.{Headers, Variables, Terms}
+use Rattle.grouping.specs.Families.{short_number}
+
+-- A slice's number is from 1 to 3.
+pub short_number_bounds : (s : Short) → (0 < short_number s) × (short_number s ≤ 3)
+short_number_bounds Headers = (omega arith, omega arith)
+short_number_bounds Variables = (omega arith, omega arith)
+short_number_bounds Terms = (omega arith, omega arith)
+
+pub short_number_some : (s : Short) → short_number s ≡ 0 → ⊥
+short_number_some s e = let b = short_number_bounds s in omega arith
 
 -- Counted from a later number: 0 stays, and another number grows by the difference.
 module _ (d : ℕ) where

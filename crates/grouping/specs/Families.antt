@@ -1,5 +1,5 @@
 -- The families of roots as a sheet's words name them: what counting their lists and placing their terms asks and does.
-use Rattle.std.specs.Prelude.{◌≡◌, ◌⊎◌, List, [], ◌∷◌, ◌++◌, map, ℕ, zero, suc, ◌+◌, ◌*◌, ◌≤◌, ◌<◌, length, get_or, take}
+use Rattle.std.specs.Prelude.{◌≡◌, Result, Ok, Err, List, [], ◌∷◌, ◌++◌, map, ℕ, zero, suc, ◌+◌, ◌*◌, ◌≤◌, ◌<◌, length, get_or, take}
 use Rattle.semantics.specs.Sheet.{Sheet}
 use Rattle.semantics.specs.Check.{prime_of}
 use Rattle.semantics.specs.Monomial.{list_at}
@@ -9,10 +9,11 @@ use Rattle.semantics.specs.Lists.{All}
 use Rattle.records.specs.declared.Interaction as places
 use Rattle.records.specs.Access.{IsSheet, records_of, message_length, interaction_from, fields_at}
 use Rattle.monomial.specs.Words.{Stored}
-use Rattle.grouping.specs.declared.Grouped.{Grouped}
-use Rattle.grouping.specs.declared.Grouped.TheVariants.{Written, Short}
-use Rattle.grouping.specs.declared.families.Family.{Family}
-use Rattle.grouping.specs.declared.families.Family.TheVariants.{Constraints, Counts, Fields}
+use Rattle.grouping.specs.declared.Lengths.{Lengths}
+use Rattle.grouping.specs.declared.Short.{Short}
+use Rattle.grouping.specs.declared.Short.TheVariants.{Headers, Variables, Terms}
+use Rattle.grouping.specs.declared.Family.{Family}
+use Rattle.grouping.specs.declared.Family.TheVariants.{Constraints, Counts, Fields}
 use Rattle.group.specs.declared.place.Form.{Form}
 use Rattle.group.specs.declared.place.Form.TheVariants.{Constraint, Interaction}
 use Rattle.group.specs.Grouped.{Tally, tallied_total, tallied, Rows, list_of, InPool, term_width, Placing, ToPlace}
@@ -90,11 +91,19 @@ pub record Grouping (ws pool : List ℕ) (roots : List Root) : Type 0 where
 abbrev pub groups_of : (ws : List ℕ) → List Root → List Group
 groups_of ws roots = groups (list_at (prime_of ws) (records_of ws)) roots
 
+-- The number of a slice among the three.
+abbrev pub short_number : Short → ℕ
+short_number Headers = 1
+short_number Variables = 2
+short_number Terms = 3
+
 -- How many words n rows take with v variables and t terms, and that there is room for them; or which slice is too short.
-abbrev pub Measured : (n width v t variables terms : ℕ) → Grouped → Type 0
-Measured n width v t variables terms (Written c) =
+abbrev pub Measured : (n width v t variables terms : ℕ) → Result Lengths Short → Type 0
+Measured n width v t variables terms (Ok c) =
     (c.headers ≡ 4 * n) × (c.variables ≡ v) × (c.terms ≡ width * t) × (v ≤ variables) × (width * t ≤ terms)
-Measured n width v t variables terms (Short k) = ((k ≡ 2) × (variables < v)) ⊎ ((k ≡ 3) × (v ≤ variables) × (terms < width * t))
+Measured n width v t variables terms (Err Headers) = ⊥
+Measured n width v t variables terms (Err Variables) = variables < v
+Measured n width v t variables terms (Err Terms) = (v ≤ variables) × (terms < width * t)
 
 -- Words in front of a slice.
 abbrev pub Front : (words slice : List ℕ) → Type 0
@@ -102,9 +111,9 @@ Front words slice = (length words ≤ length slice) × (take (length words) slic
 
 -- The lists of a family stand in front of the three slices; or the first slice that is too short (01: "17: a finished list exceeds its
 -- output slice. Place: the first such slice").
-abbrev pub Laid : (term : Item → List ℕ) → List Group → (hs vs ts : List ℕ) → Grouped → Type 0
-Laid term gs hs vs ts (Written c) =
+abbrev pub Laid : (term : Item → List ℕ) → List Group → (hs vs ts : List ℕ) → Result Lengths Short → Type 0
+Laid term gs hs vs ts (Ok c) =
     (first_short 1 (layout term gs) (length hs ∷ length vs ∷ length ts ∷ []) ≡ 0)
     × Front (headers 0 0 gs) hs × Front (variables gs) vs × Front (terms term gs) ts
     × (c.headers ≡ length (headers 0 0 gs)) × (c.variables ≡ length (variables gs)) × (c.terms ≡ length (terms term gs))
-Laid term gs hs vs ts (Short k) = (first_short 1 (layout term gs) (length hs ∷ length vs ∷ length ts ∷ []) ≡ k) × (k ≡ 0 → ⊥)
+Laid term gs hs vs ts (Err short) = first_short 1 (layout term gs) (length hs ∷ length vs ∷ length ts ∷ []) ≡ short_number short

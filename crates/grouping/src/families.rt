@@ -5,30 +5,12 @@ ghost use Rattle.semantics.specs.Group.{labelled, items};
 ghost use Rattle.semantics.specs.Call.{zeros};
 ghost use Rattle.records.specs.Access.{IsSheet, words_from, count_words, field_words, AllRootsInside};
 ghost use Rattle.group.specs.declared.place.Form.TheVariants.{Constraint, Interaction};
-ghost use Rattle.group.specs.Grouped.{tally_all, tallied, CountedMore, list_of, vars_named, term_width, Places};
+ghost use Rattle.group.specs.Grouped.{tally_all, tallied, CountedMore, list_of, vars_named, Places};
 ghost use Rattle.grouping.specs.Families.{ToTally, constraint_root, field_root, count_roots_from, field_roots_from, ToPlaceRoots, Grouping, roots_of, form_of, nodes_of};
 
+use crate::Family;
 use group::place;
 use group::place::{Form, Label};
-
-// Which records of a sheet are grouped: its constraints, the counts of its interactions, or their fields.
-#[derive(Clone, Copy)]
-pub enum Family {
-    Constraints,
-    Counts,
-    Fields,
-}
-
-// How many words a family's terms have.
-pub fn width_of(family: Family) -> usize
-    ensures { result ≡ term_width (form_of family) }
-{
-    match family {
-        Family::Constraints => 2,
-        Family::Counts => 3,
-        Family::Fields => 3,
-    }
-}
 
 // Counts the lists of the records that the words from `at` on name.
 fn tally_references(
@@ -47,7 +29,7 @@ fn tally_references(
     let mut rows = n;
     let mut j: usize = 0;
     while j < count {
-        let r = answers::wide(sheet[at + j]);
+        let r = sheet[at + j] as usize;
         rows = group::tally_root(headers, rows, pool, r)?;
         j += 1;
     }
@@ -126,7 +108,7 @@ fn place_constraints(
 {
     let mut j: usize = 0;
     while j < count {
-        let r = answers::wide(sheet[at + j]);
+        let r = sheet[at + j] as usize;
         let label = Label {
             form: Form::Constraint,
             index: j as u32,
@@ -156,7 +138,7 @@ fn place_references(
 {
     let mut j: usize = 0;
     while j < count {
-        let r = answers::wide(sheet[at + j]);
+        let r = sheet[at + j] as usize;
         let label = Label {
             form: Form::Interaction,
             index: index,

@@ -18,10 +18,10 @@ pub returns : goal.returns
 returns c =
     let a = c.args in
     let begin = c.start_terms in
-    let zero = c.zero_all in
-    let T = zero.new.s in
+    let zero = c.fill in
+    let T = zero.new.self in
     let small = c.requires.1 in
     λ b h.
-    let room = subst (λ (k : ℕ). term_width b * tallied_total (tallied c.args.n c.args.headers.now c.args.pool.now) ≤ k) (sym zero.auto.s) h in
+    let room = subst (λ (k : ℕ). term_width b * tallied_total (tallied c.args.n c.args.headers.now c.args.pool.now) ≤ k) (sym zero.auto.self) h in
     placing_start b a.n a.headers.now begin.new.headers a.pool.now T c.requires.0 begin.ensures.0 begin.ensures.1 begin.auto.headers
-    (vacant_terms b (tallied c.args.n c.args.headers.now c.args.pool.now) T (zeros_again T (length a.terms.now) zero.ensures) room) (omega arith)
+    (vacant_terms b (tallied c.args.n c.args.headers.now c.args.pool.now) T (zeros_again T (length a.terms.now) (zero.ensures.after (λ y h. h))) room) (omega arith)
