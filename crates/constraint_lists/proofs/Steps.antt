@@ -1,9 +1,9 @@
 -- The steps of an expansion, in the order of its refusals.
 use mathlib.Core.Path.{◌≡◌, refl, sym, ap, subst, ◌∙◌}
 use mathlib.Core.List.{List, [], ◌∷◌, map}
-use Prim.Native.Nat.{ℕ, suc, ◌+◌, ◌*◌, ◌≤◌, ◌<◌}
+use Prim.Native.Nat.{ℕ, ◌+◌, ◌*◌, ◌≤◌, ◌<◌}
 use native.Mathlib.Omega.{arith}
-use lib.Dec.{eqb, leb}
+use lib.Dec.{eqb}
 use lib.ListN.{length, take}
 use borrow.Author.Tests.{eq-eqb, ne_eqb}
 use Rattle.semantics.specs.Arithmetic.{prime}
@@ -13,47 +13,30 @@ use Rattle.semantics.specs.Check.{read_sheet}
 use Rattle.semantics.specs.Walk.{order}
 use Rattle.semantics.specs.Expand.{expand_all}
 use Rattle.semantics.specs.Group.{Root, Item, Group, constraint_roots, constraint_term, headers, variables, terms, layout}
-use Rattle.semantics.specs.Call.{Result, needs, result, fitted, first_short, family, constraint_outputs, expansion_of, constraints_of}
-use Rattle.semantics.proofs.Basics.{cond_true, cond_false, by_test}
+use Rattle.semantics.specs.Call.{Result as Made, needs, result, fitted, first_short, family, constraint_outputs, expansion_of, constraints_of}
+use Rattle.semantics.proofs.Basics.{cond_true, cond_false}
 use Rattle.semantics.proofs.Calls.{needs_met, needs_short}
 use Rattle.semantics.proofs.Demands.{constraint_nodes}
 use Rattle.records.specs.Access.{records_of}
+use Rattle.std.specs.Prelude.{Result, Ok, Err}
 use Rattle.answers.specs.declared.Refusal.{Refusal}
-use Rattle.expand.specs.declared.Expanded.{Expanded}
-use Rattle.expand.specs.declared.Expanded.TheVariants as expanded
+use Rattle.answers.specs.Replies.{number_of}
 use Rattle.expand.specs.Walking.{PoolHolds, Expands}
-use Rattle.grouping.specs.declared.Grouped.{Grouped}
 use Rattle.grouping.specs.declared.Lengths.{Lengths}
-use Rattle.grouping.specs.declared.Grouped.TheVariants as grouped
-use Rattle.constraint_lists.specs.declared.ConstraintLists.{ConstraintLists}
-use Rattle.constraint_lists.specs.declared.ConstraintLists.TheVariants.{Refused}
-use Rattle.grouping.specs.Families.{groups_of, Front, Laid}
-use Rattle.constraint_lists.specs.Lists.{expanded_refusal, ListsFit, constraint_answer, constraints_in, ShortFew, Fit}
-
--- There are three slices.
-first_bound : (k : ℕ) (ws : List (List ℕ)) (ns : List ℕ) → first_short (suc k) ws ns ≤ k + length ws
-unfolding first_short
-first_bound k [] ns = omega arith
-first_bound k (w ∷ ws) [] = omega arith
-first_bound k (w ∷ ws) (n ∷ ns) =
-    let ih = first_bound (suc k) ws ns in
-    by_test (λ (x : ℕ). x ≤ k + suc (length ws)) (leb (length w) n) (λ e. omega (arith, ih)) (λ e. omega arith)
-
-pub short_few : (term : Item → List ℕ) (gs : List Group) (h v t : List ℕ) (g : Grouped) → Laid term gs h v t g → ShortFew g
-unfolding layout
-short_few term gs h v t (grouped.Written c) l = tt
-short_few term gs h v t (grouped.Short k) l =
-    omega (arith, first_bound 0 (layout term gs) (length h ∷ length v ∷ length t ∷ []), l.0)
+use Rattle.grouping.specs.Families.{short_number, groups_of, Front, Laid}
+use Rattle.grouping.specs.declared.Short.{Short}
+use Rattle.grouping.specs.declared.Short.TheVariants.{Headers, Variables, Terms}
+use Rattle.constraint_lists.specs.Lists.{ListsFit, constraint_answer, constraints_in, Fit}
 
 module _ (work pool : ℕ) (lent : List ℕ) (roots : Sheet → List Root) (outputs : Sheet → List (List ℕ)) (numbers : Sheet → List ℕ)
     (s : Sheet) where
-  abbrev whole : Answer Result
+  abbrev whole : Answer Made
   whole = expansion_of prime (work ∷ pool ∷ lent) roots outputs numbers s
 
   abbrev walk : Answer ℕ
   walk = expand_all prime s.records pool (order s.records (map (λ (r : Root). r.node) (roots s)))
 
-  abbrev ends : Answer ℕ → Answer Result
+  abbrev ends : Answer ℕ → Answer Made
   ends a = and_then a (λ used. fitted (outputs s) lent (numbers s))
 
   pub work_short : work < 4096 → refused 14 4096 ≡ whole
@@ -101,29 +84,37 @@ front_take k words slice f e = ap (λ (n : ℕ). take n slice) e ∙ f.1
 
 -- Lists that are written stand inside their slices.
 pub written_inside : (term : Item → List ℕ) (gs : List Group) (h v t : List ℕ) (a : Lengths)
-    → Laid term gs h v t (grouped.Written a) → Fit a h v t
+    → Laid term gs h v t (Ok a) → Fit a h v t
 written_inside term gs h v t a (z, fh, fv, ft, eh, ev, et) = (
   subst (λ (n : ℕ). n ≤ length h) (sym eh) fh.0,
   subst (λ (n : ℕ). n ≤ length v) (sym ev) fv.0,
   subst (λ (n : ℕ). n ≤ length t) (sym et) ft.0,
 )
 
+-- The first slice that is too short has a number.
+pub numbered : (s : Short) → short_number s ≡ 0 → ⊥
+numbered Headers e = absurd (omega (arith, e))
+numbered Variables e = absurd (omega (arith, e))
+numbered Terms e = absurd (omega (arith, e))
+
 module _ (gs : List Group) (h v t : List ℕ) where
-  pub laid_constraints : (g : Grouped) → Laid constraint_term gs h v t g
+  pub laid_constraints : (g : Result Lengths Short) → Laid constraint_term gs h v t g
       → constraint_answer (constraints_in g) h v t ≡ fitted (layout constraint_term gs) (length h ∷ length v ∷ length t ∷ []) []
   unfolding layout
-  laid_constraints (grouped.Written c) (z, fh, fv, ft, eh, ev, et) =
+  laid_constraints (Ok c) (z, fh, fv, ft, eh, ev, et) =
       (λ i. good (record {
         outputs = front_take c.headers (headers 0 0 gs) h fh eh i ∷ front_take c.variables (variables gs) v fv ev i
             ∷ front_take c.terms (terms constraint_term gs) t ft et i ∷ [];
         numbers = [];
       }))
       ∙ fits (layout constraint_term gs) (length h ∷ length v ∷ length t ∷ []) [] z
-  laid_constraints (grouped.Short k) (e, n) = short (layout constraint_term gs) (length h ∷ length v ∷ length t ∷ []) [] k e n
+  laid_constraints (Err s) e =
+      let z : 0 + short_number s ≡ short_number s = omega arith in
+      ap (refused 17) z ∙ short (layout constraint_term gs) (length h ∷ length v ∷ length t ∷ []) [] (short_number s) e (numbered s)
 
-  pub laid_inside : (g : Grouped) → Laid constraint_term gs h v t g → ListsFit (constraints_in g) h v t
-  laid_inside (grouped.Written c) l = written_inside constraint_term gs h v t c l
-  laid_inside (grouped.Short k) l = tt
+  pub laid_inside : (g : Result Lengths Short) → Laid constraint_term gs h v t g → ListsFit (constraints_in g) h v t
+  laid_inside (Ok c) l = written_inside constraint_term gs h v t c l
+  laid_inside (Err s) l = tt
 
 -- Three slices have the lengths that were lent.
 pub record Kept (lh lv lt : ℕ) (h v t : List ℕ) : Type 0 where
@@ -142,7 +133,7 @@ module _ (ws : List ℕ) (work pool : ℕ) {h v t : List ℕ} {lh lv lt : ℕ} (
   abbrev s : Sheet
   s = read_sheet ws
 
-  abbrev call : Answer Result
+  abbrev call : Answer Made
   call = constraints_of prime (work ∷ pool ∷ lh ∷ lv ∷ lt ∷ []) s
 
   abbrev reached : List ℕ
@@ -153,27 +144,25 @@ module _ (ws : List ℕ) (work pool : ℕ) {h v t : List ℕ} {lh lv lt : ℕ} (
   walks = ap (λ (l : List ℕ). expand_all prime s.records pool (order s.records l)) (sym (constraint_nodes s))
 
   module _ (enough : 4096 ≤ work) (room : 2 * length s.records ≤ pool) where
-    pub constraints_refused : (w : Expanded) (q v₁ : Refusal) (pool' : List ℕ) → length pool' ≡ pool → Expands ws pool' w reached
-        → w ≡ expanded.Refused v₁ → q ≡ expanded_refusal w → constraint_answer (Refused q) h v t ≡ call
-    constraints_refused w q v₁ pool' e f g r =
-        let x : expand_all prime (records_of ws) (length pool') reached ≡ refused v₁.number v₁.place =
-        subst (λ (u : Expanded). Expands ws pool' u reached) g f in
-        let y : q ≡ v₁ = r ∙ ap expanded_refusal g in
-        (λ i. refused (y i).number (y i).place)
-        ∙ walk_refused work pool (lh ∷ lv ∷ lt ∷ []) constraint_roots (constraint_outputs prime) (λ x. []) s enough room
-        v₁.number v₁.place
-        (sym walks ∙ subst (λ (n : ℕ). expand_all prime (records_of ws) n reached ≡ refused v₁.number v₁.place) e x)
+    pub constraints_refused : (w : Result ℕ Refusal) {q : Refusal} (pool' : List ℕ) → length pool' ≡ pool → Expands ws pool' w reached
+        → w ≡ Err q → constraint_answer (Err q) h v t ≡ call
+    constraints_refused w {q} pool' e f g =
+        let x : expand_all prime (records_of ws) (length pool') reached ≡ refused (number_of q.reason) q.place =
+        subst (λ (u : Result ℕ Refusal). Expands ws pool' u reached) g f in
+        walk_refused work pool (lh ∷ lv ∷ lt ∷ []) constraint_roots (constraint_outputs prime) (λ x. []) s enough room
+        (number_of q.reason) q.place
+        (sym walks ∙ subst (λ (n : ℕ). expand_all prime (records_of ws) n reached ≡ refused (number_of q.reason) q.place) e x)
 
     pub constraints_grouped : (used : ℕ) (pool' : List ℕ) → length pool' ≡ pool → PoolHolds ws reached pool' used
-        → (g : Grouped) → Laid constraint_term (groups_of ws (constraint_roots s)) h v t g → (r : ConstraintLists) → r ≡ constraints_in g
+        → (g : Result Lengths Short) → Laid constraint_term (groups_of ws (constraint_roots s)) h v t g → (r : Result Lengths Refusal) → r ≡ constraints_in g
         → (constraint_answer r h v t ≡ call) × ListsFit r h v t
     unfolding constraint_outputs family
     constraints_grouped used pool' e holds g l r q =
         let x : expand_all prime (records_of ws) pool reached ≡ good used =
         subst (λ (n : ℕ). expand_all prime (records_of ws) n reached ≡ good used) e holds.used_is in (
-          ap (λ (a : ConstraintLists). constraint_answer a h v t) q
+          ap (λ (a : Result Lengths Refusal). constraint_answer a h v t) q
               ∙ laid_constraints (groups_of ws (constraint_roots s)) h v t g l
               ∙ (λ i. fitted (constraint_outputs prime s) (kept.headers_long i ∷ kept.variables_long i ∷ kept.terms_long_lem i ∷ []) [])
               ∙ walk_done work pool (lh ∷ lv ∷ lt ∷ []) constraint_roots (constraint_outputs prime) (λ x. []) s enough room used (sym walks ∙ x),
-          subst (λ (a : ConstraintLists). ListsFit a h v t) (sym q) (laid_inside (groups_of ws (constraint_roots s)) h v t g l),
+          subst (λ (a : Result Lengths Refusal). ListsFit a h v t) (sym q) (laid_inside (groups_of ws (constraint_roots s)) h v t g l),
         )

@@ -15,15 +15,13 @@ use Rattle.semantics.proofs.Members.{mem_here, mem_there}
 use Rattle.semantics.proofs.Orders.{order_roots}
 use Rattle.semantics.proofs.GraphSheets.{named_below}
 use Rattle.semantics.proofs.Demands.{constraint_nodes}
-use Rattle.records.specs.Access.{records_of, words_from, constraints_at, ReferencesInside}
+use Rattle.records.specs.Access.{records_of}
 use Rattle.records.specs.Orders.{Visiting}
-use Rattle.records.proofs.Reading.{constraints_are, constraints_inside}
 use Rattle.records.proofs.Steps.{inside, lows}
-use Rattle.expand.specs.declared.Expanded.{Expanded}
-use Rattle.expand.specs.declared.Expanded.TheVariants.{Used}
 use Rattle.expand.specs.Walking.{PoolHolds, Expands, ExpandWalking}
 use Rattle.expand.proofs.Roots.{start_walking, all_expanded}
-use Rattle.constraint_lists.specs.Lists.{CheckedSheet}
+use Rattle.std.specs.Prelude.{Result, Ok}
+use Rattle.answers.specs.declared.Refusal.{Refusal}
 use Rattle.monomial.specs.Words.{Stored}
 use Rattle.grouping.specs.Families.{Grouping}
 
@@ -44,25 +42,15 @@ module _ (ws : List ℕ) (records : ℕ) (are : records ≡ length (records_of w
   walk_starts checked work l =
       subst (λ (k : ℕ). ExpandWalking ws work (z ++ rest) (2 * k)) (sym are) (start_walking ws (z ++ rest) room clear checked work l)
 
-  pub walk_ends : (roots pool' : List ℕ) (u : Expanded) → Visiting ws roots (λ (d : List ℕ). PoolHolds ws d (z ++ rest) (2 * records)) (Expands ws pool' u)
+  pub walk_ends : (roots pool' : List ℕ) (u : Result ℕ Refusal) → Visiting ws roots (λ (d : List ℕ). PoolHolds ws d (z ++ rest) (2 * records)) (Expands ws pool' u)
       → Expands ws pool' u (order (records_of ws) roots)
   walk_ends roots pool' u f =
       all_expanded ws (z ++ rest) room clear roots pool' u
       (subst (λ (k : ℕ). Visiting ws roots (λ (d : List ℕ). PoolHolds ws d (z ++ rest) (2 * k)) (Expands ws pool' u)) are f)
 
-module _ (ws : List ℕ) (records constraints interactions : ℕ) (h : CheckedSheet ws records constraints interactions) where
-  pub references_there : (at : ℕ) → at ≡ constraints_at ws → ReferencesInside ws at constraints
-  references_there at e =
-      subst (λ (a : ℕ). ReferencesInside ws a constraints) (sym e)
-      (subst (ReferencesInside ws (constraints_at ws)) (sym h.constraints_are) (constraints_inside ws h.checked))
-
-  pub references_are : (at : ℕ) → at ≡ constraints_at ws → words_from at constraints ws ≡ (read_sheet ws).constraints
-  references_are at e =
-      ap (λ (a : ℕ). words_from a constraints ws) e ∙ ap (λ (c : ℕ). words_from (constraints_at ws) c ws) h.constraints_are ∙ constraints_are ws h.checked
-
 -- All that was to be expanded stands in the pool.
-pub all_held : (ws pool done : List ℕ) {u : Expanded} {used : ℕ} → u ≡ Used used → Expands ws pool u done → PoolHolds ws done pool used
-all_held ws pool done = subst (λ (u : Expanded). Expands ws pool u done)
+pub all_held : (ws pool done : List ℕ) {u : Result ℕ Refusal} {used : ℕ} → u ≡ Ok used → Expands ws pool u done → PoolHolds ws done pool used
+all_held ws pool done = subst (λ (u : Result ℕ Refusal). Expands ws pool u done)
 
 -- Every root, where every record that one names.
 all_nodes : (P : ℕ → Type 0) (roots : List Root) → ((i : ℕ) → Mem i (map (λ (r : Root). r.node) roots) → P i) → All (λ (r : Root). P r.node) roots

@@ -10,8 +10,10 @@ use Rattle.semantics.specs.Answer.{Answer, good, refused}
 use Rattle.semantics.specs.Sheet.{Sheet}
 use Rattle.semantics.specs.Check.{read_sheet, check}
 use Rattle.semantics.specs.Call.{Result as Made, zeros, padded, padded_all, outcome, on_sheet, check_call, expansion, constraints_of, constraint_call, interactions_of, interaction_call}
+use Rattle.records.specs.Access.{IsSheet, records_of}
 use Rattle.records.proofs.Reading.{read_found}
 use Rattle.std.specs.Prelude.{Result, Ok, Err}
+use Rattle.std.specs.Result.{result_unwrap_or}
 use Rattle.answers.specs.declared.Refusal.{Refusal}
 use Rattle.answers.specs.Replies.{number_of}
 use Rattle.sheet.specs.declared.Head.{Head}
@@ -19,10 +21,23 @@ use Rattle.sheet.specs.Replies.{checked_outcome}
 use Rattle.sheet.proofs.Answers.{found, on_found, on_refused}
 use Rattle.grouping.specs.declared.Lengths.{Lengths}
 use Rattle.interaction_lists.specs.declared.InteractionLengths.{InteractionLengths}
-use Rattle.constraint_lists.specs.Lists.{constraint_answer, ListsFit, CheckedSheet}
+use Rattle.constraint_lists.specs.Lists.{constraint_answer, ListsFit}
 use Rattle.constraint_lists.proofs.Steps.{Kept}
 use Rattle.interaction_lists.specs.Lists.{interaction_answer, BothInside}
-use Rattle.expansion.specs.Answers.{constraint_outcome, lengths_of, cut, interaction_outcome, both_lengths}
+use Rattle.expansion.specs.Answers.{constraint_outcome, cut, interaction_outcome}
+
+-- No words stay after a refusal.
+abbrev pub nothing : Lengths
+nothing = record { headers = 0; variables = 0; terms = 0 }
+
+abbrev pub nothing_of_both : InteractionLengths
+nothing_of_both = record { numerators = nothing; denominators = nothing; num_interactions = 0; max_fields_len = 0 }
+
+abbrev lengths_of : Result Lengths Refusal → Lengths
+lengths_of r = result_unwrap_or r nothing
+
+abbrev both_lengths : Result InteractionLengths Refusal → InteractionLengths
+both_lengths r = result_unwrap_or r nothing_of_both
 
 -- Words that stay, and zeros behind them.
 pub kept_padded : (k : ℕ) (o : List ℕ) → cut k o ≡ padded (take k o) (length o)
@@ -39,16 +54,11 @@ unfolding zeros
 cut_none o = ap (λ (n : ℕ). replicate n 0) (sub-zero (length o))
 
 pub sheet_found : (ws : List ℕ) {r : Result Head Refusal} {h : Head} → checked_outcome r ≡ check_call prime ws → r ≡ Ok h
-    → CheckedSheet ws h.records h.constraints h.interactions
+    → IsSheet ws × (h.records ≡ length (records_of ws))
 sheet_found ws e q =
     let t = found prime ws e q in
     let s = read_found ws t.0 t.1 in
-    record {
-      checked = t.1 ∙ ap good s;
-      records_are = ap (λ (h : Head). h.records) t.2 ∙ ap (λ (x : Sheet). length x.records) s;
-      constraints_are = ap (λ (h : Head). h.constraints) t.2 ∙ ap (λ (x : Sheet). length x.constraints) s;
-      interactions_are = ap (λ (h : Head). h.interactions) t.2 ∙ ap (λ (x : Sheet). length x.interactions) s;
-    }
+    (t.1 ∙ ap good s, ap (λ (h : Head). h.records) t.2 ∙ ap (λ (x : Sheet). length x.records) s)
 
 -- A refused sheet ends the call, and another goes on.
 module _ (ws : List ℕ) (rest : Sheet → Answer Made) where

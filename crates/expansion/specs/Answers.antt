@@ -1,5 +1,5 @@
 -- What the answers of the expansions stand for (01, "What each call hands back").
-use Rattle.std.specs.Prelude.{List, [], ◌∷◌, ◌++◌, ℕ, ◌-◌, length, take, replicate, ◌≡◌, Result, Ok, Err}
+use Rattle.std.specs.Prelude.{List, [], ◌∷◌, ◌++◌, ℕ, ◌-◌, length, take, replicate, ◌≡◌, Result}
 use Rattle.slices.specs.Lent.{Lent, old, new}
 use Rattle.semantics.specs.Call.{Reply, Outcome, accepted_with}
 use Rattle.answers.specs.Replies.{reply_of}
@@ -15,14 +15,6 @@ constraint_reply = reply_of (λ (n : Lengths). accepted_with (n.headers ∷ n.va
 abbrev pub constraint_outcome : Result Lengths Refusal → (work pool headers variables terms : List ℕ) → Outcome
 constraint_outcome r work pool headers variables terms =
     record { reply = constraint_reply r; slices = work ∷ pool ∷ headers ∷ variables ∷ terms ∷ [] }
-
--- How many words of each output stay: none after a refusal.
-abbrev pub nothing : Lengths
-nothing = record { headers = 0; variables = 0; terms = 0 }
-
-abbrev pub lengths_of : Result Lengths Refusal → Lengths
-lengths_of (Ok n) = n
-lengths_of (Err r) = nothing
 
 -- The first k words of an output, and zeros behind them.
 abbrev pub cut : ℕ → List ℕ → List ℕ
@@ -42,7 +34,3 @@ interaction_reply = reply_of (λ (n : InteractionLengths).
 abbrev pub interaction_outcome : Result InteractionLengths Refusal → (work pool h v t h' v' t' : List ℕ) → Outcome
 interaction_outcome r work pool h v t h' v' t' =
     record { reply = interaction_reply r; slices = work ∷ pool ∷ h ∷ v ∷ t ∷ h' ∷ v' ∷ t' ∷ [] }
-
-abbrev pub both_lengths : Result InteractionLengths Refusal → InteractionLengths
-both_lengths (Ok n) = n
-both_lengths (Err r) = record { numerators = nothing; denominators = nothing; num_interactions = 0; max_fields_len = 0 }

@@ -27,16 +27,7 @@ fn expand_sheet(
     let Ok(head) = checked else {
         return Err(checked.unwrap_err());
     };
-    constraint_lists::expand_checked(
-        s,
-        head.records,
-        head.constraints,
-        work,
-        pool,
-        headers,
-        variables,
-        terms,
-    )
+    constraint_lists::expand_checked(s, head.records, work, pool, headers, variables, terms)
 }
 
 // No words: what stays of three outputs after a refusal, and of six.
@@ -105,8 +96,6 @@ fn expand_sheet_interactions(
     interaction_lists::expand_checked(
         s,
         head.records,
-        head.constraints,
-        head.interactions,
         work,
         pool,
         headers,

@@ -11,22 +11,20 @@ use Rattle.semantics.specs.Check.{read_sheet}
 use Rattle.semantics.specs.Walk.{order}
 use Rattle.semantics.specs.Expand.{expand_all}
 use Rattle.semantics.specs.Group.{Root, Group, count_roots, field_roots, interaction_term, headers, variables, terms, layout}
-use Rattle.semantics.specs.Call.{Result, fitted, first_short, family, interaction_outputs, max_fields_len_of, interaction_numbers, expansion_of}
+use Rattle.semantics.specs.Call.{Result as Made, fitted, first_short, family, interaction_outputs, max_fields_len_of, interaction_numbers, expansion_of}
 use Rattle.semantics.proofs.Demands.{count_nodes, field_nodes}
 use Rattle.records.specs.Access.{counts_of, fields_of, records_of}
+use Rattle.std.specs.Prelude.{Result, Ok, Err}
 use Rattle.answers.specs.declared.Refusal.{Refusal}
-use Rattle.expand.specs.declared.Expanded.{Expanded}
-use Rattle.expand.specs.declared.Expanded.TheVariants as expanded
+use Rattle.answers.specs.Replies.{number_of}
+use Rattle.interaction_lists.specs.declared.InteractionLengths.{InteractionLengths}
 use Rattle.expand.specs.Walking.{PoolHolds, Expands}
-use Rattle.grouping.specs.declared.Grouped.{Grouped}
-use Rattle.grouping.specs.declared.Grouped.TheVariants as grouped
-use Rattle.grouping.specs.Families.{groups_of, Laid}
-use Rattle.constraint_lists.proofs.Steps.{Kept, work_short, pool_short, walk_refused, walk_done, fits, short, front_take, written_inside}
-use Rattle.interaction_lists.specs.declared.InteractionLists.{InteractionLists}
-use Rattle.interaction_lists.specs.declared.InteractionLists.TheVariants as interaction
+use Rattle.grouping.specs.Families.{short_number, groups_of, Laid}
+use Rattle.grouping.specs.declared.Short.{Short}
+use Rattle.constraint_lists.proofs.Steps.{Kept, numbered, work_short, pool_short, walk_refused, walk_done, fits, short, front_take, written_inside}
 use Rattle.grouping.proofs.Slices.{later_none, later_short, first_none, first_short_lem}
 use Rattle.grouping.specs.declared.Lengths.{Lengths}
-use Rattle.constraint_lists.specs.Lists.{too_short, expanded_refusal, short_of}
+use Rattle.constraint_lists.specs.Lists.{short_of}
 use Rattle.interaction_lists.specs.Lists.{interaction_answer, BothInside}
 
 -- Both families of the interactions.
@@ -43,37 +41,37 @@ module _ (gs ks : List Group) (h v t h₂ v₂ t₂ : List ℕ) where
   abbrev both : List (List ℕ)
   both = layout interaction_term gs ++ layout interaction_term ks
 
-  pub counts_short : (g : Grouped) (k : ℕ) → Laid interaction_term gs h v t g → g ≡ grouped.Short k → (numbers : List ℕ)
-      → refused 17 k ≡ fitted both lent numbers
+  pub counts_short : (g : Result Lengths Short) (k : Short) → Laid interaction_term gs h v t g → g ≡ Err k → (numbers : List ℕ)
+      → refused 17 (short_number k) ≡ fitted both lent numbers
   unfolding layout
   counts_short g k l e numbers =
       let m = subst (Laid interaction_term gs h v t) e l in
-      let n : first_short 1 (layout interaction_term gs) lent_first ≡ 0 → ⊥ = λ z. m.1 (sym m.0 ∙ z) in
-      short both lent numbers k
-      (first_short_lem 0 (layout interaction_term gs) (layout interaction_term ks) lent_first lent_second refl n ∙ m.0) m.1
+      let n : first_short 1 (layout interaction_term gs) lent_first ≡ 0 → ⊥ = λ z. numbered k (sym m ∙ z) in
+      short both lent numbers (short_number k)
+      (first_short_lem 0 (layout interaction_term gs) (layout interaction_term ks) lent_first lent_second refl n ∙ m) (numbered k)
 
-  module _ (g : Grouped) (a : Lengths) (l : Laid interaction_term gs h v t g) (e : g ≡ grouped.Written a) where
-    first : Laid interaction_term gs h v t (grouped.Written a)
+  module _ (g : Result Lengths Short) (a : Lengths) (l : Laid interaction_term gs h v t g) (e : g ≡ Ok a) where
+    first : Laid interaction_term gs h v t (Ok a)
     first = subst (Laid interaction_term gs h v t) e l
 
     goes_on : first_short 1 both lent ≡ first_short 4 (layout interaction_term ks) lent_second
     unfolding layout
     goes_on = first_none 0 (layout interaction_term gs) (layout interaction_term ks) lent_first lent_second refl first.0
 
-    pub fields_short : (g₂ : Grouped) (k : ℕ) → Laid interaction_term ks h₂ v₂ t₂ g₂ → g₂ ≡ grouped.Short k → (numbers : List ℕ)
-        → refused 17 (3 + k) ≡ fitted both lent numbers
+    pub fields_short : (g₂ : Result Lengths Short) (k : Short) → Laid interaction_term ks h₂ v₂ t₂ g₂ → g₂ ≡ Err k → (numbers : List ℕ)
+        → refused 17 (3 + short_number k) ≡ fitted both lent numbers
     fields_short g₂ k l₂ e₂ numbers =
         let m = subst (Laid interaction_term ks h₂ v₂ t₂) e₂ l₂ in
-        let n : first_short 1 (layout interaction_term ks) lent_second ≡ 0 → ⊥ = λ z. m.1 (sym m.0 ∙ z) in
-        short both lent numbers (3 + k)
-        (goes_on ∙ later_short 3 0 (layout interaction_term ks) lent_second n ∙ ap (λ (x : ℕ). 3 + x) m.0)
+        let n : first_short 1 (layout interaction_term ks) lent_second ≡ 0 → ⊥ = λ z. numbered k (sym m ∙ z) in
+        short both lent numbers (3 + short_number k)
+        (goes_on ∙ later_short 3 0 (layout interaction_term ks) lent_second n ∙ ap (λ (x : ℕ). 3 + x) m)
         (λ z. absurd (omega (arith, z)))
 
-    module _ (g₂ : Grouped) (b : Lengths) (l₂ : Laid interaction_term ks h₂ v₂ t₂ g₂) (e₂ : g₂ ≡ grouped.Written b) (ni mf : ℕ) where
-      abbrev answer : InteractionLists
-      answer = interaction.Written (record { numerators = a; denominators = b; num_interactions = ni; max_fields_len = mf })
+    module _ (g₂ : Result Lengths Short) (b : Lengths) (l₂ : Laid interaction_term ks h₂ v₂ t₂ g₂) (e₂ : g₂ ≡ Ok b) (ni mf : ℕ) where
+      abbrev answer : Result InteractionLengths Refusal
+      answer = Ok (record { numerators = a; denominators = b; num_interactions = ni; max_fields_len = mf })
 
-      second : Laid interaction_term ks h₂ v₂ t₂ (grouped.Written b)
+      second : Laid interaction_term ks h₂ v₂ t₂ (Ok b)
       second = subst (Laid interaction_term ks h₂ v₂ t₂) e₂ l₂
 
       pub both_fit : (interaction_answer answer h v t h₂ v₂ t₂ ≡ fitted both lent (ni ∷ mf ∷ [])) × BothInside answer h v t h₂ v₂ t₂
@@ -111,7 +109,7 @@ module _ (ws : List ℕ) {lh lv lt lh₂ lv₂ lt₂ : ℕ} {h v t h₂ v₂ t�
   abbrev outputs_of : List (List ℕ)
   outputs_of = layout interaction_term g_c ++ layout interaction_term g_f
 
-  abbrev lists : Answer Result
+  abbrev lists : Answer Made
   lists = fitted (interaction_outputs prime sheet) (lh ∷ lv ∷ lt ∷ lh₂ ∷ lv₂ ∷ lt₂ ∷ []) numbers_of
 
   lent_is : fitted outputs_of (length h ∷ length v ∷ length t ∷ length h₂ ∷ length v₂ ∷ length t₂ ∷ []) numbers_of ≡ lists
@@ -122,32 +120,30 @@ module _ (ws : List ℕ) {lh lv lt lh₂ lv₂ lt₂ : ℕ} {h v t h₂ v₂ t�
       ∷ denominators.headers_long i ∷ denominators.variables_long i ∷ denominators.terms_long_lem i ∷ [])
       numbers_of
 
-  pub counts_refused : (g : Grouped) (q : Refusal) → Laid interaction_term g_c h v t g → (k : ℕ) → g ≡ grouped.Short k → q ≡ short_of g 0
-      → (interaction_answer (interaction.Refused q) h v t h₂ v₂ t₂ ≡ lists) × BothInside (interaction.Refused q) h v t h₂ v₂ t₂
-  counts_refused g q l k e r =
-      let y : q ≡ too_short (0 + k) = r ∙ ap (λ (z : Grouped). short_of z 0) e in
-      let z : 0 + k ≡ k = omega arith in
-      ((λ i. refused (y i).number (y i).place) ∙ ap (refused 17) z ∙ counts_short g_c g_f h v t h₂ v₂ t₂ g k l e numbers_of ∙ lent_is, tt)
+  pub counts_refused : (g : Result Lengths Short) (q : Refusal) → Laid interaction_term g_c h v t g → (k : Short) → g ≡ Err k → q ≡ short_of k 0
+      → (interaction_answer (Err q) h v t h₂ v₂ t₂ ≡ lists) × BothInside (Err q) h v t h₂ v₂ t₂
+  counts_refused g q l k e y =
+      let z : 0 + short_number k ≡ short_number k = omega arith in
+      ((λ i. refused (number_of (y i).reason) (y i).place) ∙ ap (refused 17) z ∙ counts_short g_c g_f h v t h₂ v₂ t₂ g k l e numbers_of ∙ lent_is, tt)
 
-  module _ (g : Grouped) (a : Lengths) (l : Laid interaction_term g_c h v t g) (e : g ≡ grouped.Written a) where
-    pub fields_refused : (g₂ : Grouped) (q : Refusal) → Laid interaction_term g_f h₂ v₂ t₂ g₂ → (k : ℕ) → g₂ ≡ grouped.Short k
-        → q ≡ short_of g₂ 3
-        → (interaction_answer (interaction.Refused q) h v t h₂ v₂ t₂ ≡ lists) × BothInside (interaction.Refused q) h v t h₂ v₂ t₂
-    fields_refused g₂ q l₂ k e₂ r =
-        let y : q ≡ too_short (3 + k) = r ∙ ap (λ (z : Grouped). short_of z 3) e₂ in
-        ((λ i. refused (y i).number (y i).place) ∙ fields_short g_c g_f h v t h₂ v₂ t₂ g a l e g₂ k l₂ e₂ numbers_of ∙ lent_is, tt)
+  module _ (g : Result Lengths Short) (a : Lengths) (l : Laid interaction_term g_c h v t g) (e : g ≡ Ok a) where
+    pub fields_refused : (g₂ : Result Lengths Short) (q : Refusal) → Laid interaction_term g_f h₂ v₂ t₂ g₂ → (k : Short) → g₂ ≡ Err k
+        → q ≡ short_of k 3
+        → (interaction_answer (Err q) h v t h₂ v₂ t₂ ≡ lists) × BothInside (Err q) h v t h₂ v₂ t₂
+    fields_refused g₂ q l₂ k e₂ y =
+        ((λ i. refused (number_of (y i).reason) (y i).place) ∙ fields_short g_c g_f h v t h₂ v₂ t₂ g a l e g₂ k l₂ e₂ numbers_of ∙ lent_is, tt)
 
-    pub all_written : (g₂ : Grouped) (b : Lengths) → Laid interaction_term g_f h₂ v₂ t₂ g₂ → g₂ ≡ grouped.Written b
+    pub all_written : (g₂ : Result Lengths Short) (b : Lengths) → Laid interaction_term g_f h₂ v₂ t₂ g₂ → g₂ ≡ Ok b
         → (ni mf : ℕ) → ni ≡ length sheet.interactions → mf ≡ max_fields_len_of sheet
-        → (r : InteractionLists)
-        → r ≡ interaction.Written (record { numerators = a; denominators = b; num_interactions = ni; max_fields_len = mf })
+        → (r : Result InteractionLengths Refusal)
+        → r ≡ Ok (record { numerators = a; denominators = b; num_interactions = ni; max_fields_len = mf })
         → (interaction_answer r h v t h₂ v₂ t₂ ≡ lists) × BothInside r h v t h₂ v₂ t₂
     all_written g₂ b l₂ e₂ ni mf en em r er =
         let w = both_fit g_c g_f h v t h₂ v₂ t₂ g a l e g₂ b l₂ e₂ ni mf in (
-          ap (λ (x : InteractionLists). interaction_answer x h v t h₂ v₂ t₂) er ∙ w.0
+          ap (λ (x : Result InteractionLengths Refusal). interaction_answer x h v t h₂ v₂ t₂) er ∙ w.0
               ∙ (λ i. fitted outputs_of (length h ∷ length v ∷ length t ∷ length h₂ ∷ length v₂ ∷ length t₂ ∷ []) (en i ∷ em i ∷ []))
               ∙ lent_is,
-          subst (λ (x : InteractionLists). BothInside x h v t h₂ v₂ t₂) (sym er) w.1,
+          subst (λ (x : Result InteractionLengths Refusal). BothInside x h v t h₂ v₂ t₂) (sym er) w.1,
         )
 
 -- The refusals of the interaction call before its lists are grouped, and what it is once all is walked.
@@ -161,7 +157,7 @@ module _ (ws : List ℕ) (work pool : ℕ) (lent : List ℕ) where
   abbrev all : List ℕ
   all = order (records_of ws) (counts_of sh.interactions ++ fields_of sh.interactions)
 
-  abbrev whole_call : Answer Result
+  abbrev whole_call : Answer Made
   whole_call = expansion_of prime (work ∷ pool ∷ lent) roots_of (interaction_outputs prime) interaction_numbers sh
 
   pub work_refused : work < 4096 → refused 14 4096 ≡ whole_call
@@ -178,15 +174,13 @@ module _ (ws : List ℕ) (work pool : ℕ) (lent : List ℕ) where
     pool_refused = pool_short work pool lent roots_of (interaction_outputs prime) interaction_numbers sh enough
 
     module _ (room : 2 * length sh.records ≤ pool) where
-      pub interactions_refused : (w : Expanded) (q v₁ : Refusal) (pool' : List ℕ) → length pool' ≡ pool → Expands ws pool' w all
-          → w ≡ expanded.Refused v₁ → q ≡ expanded_refusal w → refused q.number q.place ≡ whole_call
-      interactions_refused w q v₁ pool' e f g r =
-          let x : expand_all prime (records_of ws) (length pool') all ≡ refused v₁.number v₁.place =
-          subst (λ (u : Expanded). Expands ws pool' u all) g f in
-          let y : q ≡ v₁ = r ∙ ap expanded_refusal g in
-          (λ i. refused (y i).number (y i).place)
-          ∙ walk_refused work pool lent roots_of (interaction_outputs prime) interaction_numbers sh enough room v₁.number v₁.place
-          (sym same_walk ∙ subst (λ (n : ℕ). expand_all prime (records_of ws) n all ≡ refused v₁.number v₁.place) e x)
+      pub interactions_refused : (w : Result ℕ Refusal) {q : Refusal} (pool' : List ℕ) → length pool' ≡ pool → Expands ws pool' w all
+          → w ≡ Err q → refused (number_of q.reason) q.place ≡ whole_call
+      interactions_refused w {q} pool' e f g =
+          let x : expand_all prime (records_of ws) (length pool') all ≡ refused (number_of q.reason) q.place =
+          subst (λ (u : Result ℕ Refusal). Expands ws pool' u all) g f in
+          walk_refused work pool lent roots_of (interaction_outputs prime) interaction_numbers sh enough room (number_of q.reason) q.place
+          (sym same_walk ∙ subst (λ (n : ℕ). expand_all prime (records_of ws) n all ≡ refused (number_of q.reason) q.place) e x)
 
       pub interactions_walked : (used : ℕ) (pool' : List ℕ) → length pool' ≡ pool → PoolHolds ws all pool' used
           → fitted (interaction_outputs prime sh) lent (interaction_numbers sh) ≡ whole_call

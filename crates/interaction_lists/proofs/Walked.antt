@@ -17,8 +17,7 @@ use Rattle.records.specs.Orders.{Visiting}
 use Rattle.records.proofs.Reading.{counts_are, fields_are, interactions_stand, interactions_inside}
 use Rattle.records.proofs.Rooting.{visiting_both}
 use Rattle.records.proofs.Steps.{inside}
-use Rattle.expand.specs.declared.Expanded.{Expanded}
-use Rattle.expand.specs.declared.Expanded.TheVariants.{Used, Refused}
+use Rattle.std.specs.Prelude.{Result, Ok, Err}
 use Rattle.answers.specs.declared.Refusal.{Refusal}
 use Rattle.expand.specs.Walking.{PoolHolds, Expands, ExpandWalking}
 use Rattle.expand.proofs.Far.{far_none, far_refused, far_more, far_walking}
@@ -61,21 +60,21 @@ module _ (ws : List ℕ) (checked : check prime ws ≡ good (read_sheet ws)) whe
 
   -- One list of roots after another.
   module _ (work pool : List ℕ) (used : ℕ) (p : ExpandWalking ws work pool used) (front-roots back-roots : List ℕ) (below : Below (length (records_of ws)) front-roots)
-      (work₁ pool₁ : List ℕ) (u : Expanded) (f : Visiting ws front-roots (λ (d : List ℕ). PoolHolds ws d pool used) (Expands ws pool₁ u)) where
-    pub first_refused : (v : Refusal) → u ≡ Refused v → Visiting ws (front-roots ++ back-roots) (λ (d : List ℕ). PoolHolds ws d pool used) (Expands ws pool₁ u)
+      (work₁ pool₁ : List ℕ) (u : Result ℕ Refusal) (f : Visiting ws front-roots (λ (d : List ℕ). PoolHolds ws d pool used) (Expands ws pool₁ u)) where
+    pub first_refused : (v : Refusal) → u ≡ Err v → Visiting ws (front-roots ++ back-roots) (λ (d : List ℕ). PoolHolds ws d pool used) (Expands ws pool₁ u)
     first_refused v e = far_refused ws work pool used p [] work pool used (far_none ws work pool used p) front-roots work₁ pool₁ u f v e back-roots (front-roots ++ back-roots) refl
 
-    module _ (n : ℕ) (e : u ≡ Used n) where
+    module _ (n : ℕ) (e : u ≡ Ok n) where
       pub second_walking : length work₁ ≡ length work → length pool₁ ≡ length pool → ExpandWalking ws work₁ pool₁ n
       second_walking lw lp =
           far_walking ws work pool used p front-roots work₁ pool₁ n
           (far_more ws work pool used p [] work pool used (far_none ws work pool used p) front-roots work₁ pool₁ u f below lw lp n e)
 
-      pub both_walked : (pool₂ : List ℕ) (u₂ : Expanded) → Visiting ws back-roots (λ (d : List ℕ). PoolHolds ws d pool₁ n) (Expands ws pool₂ u₂)
+      pub both_walked : (pool₂ : List ℕ) (u₂ : Result ℕ Refusal) → Visiting ws back-roots (λ (d : List ℕ). PoolHolds ws d pool₁ n) (Expands ws pool₂ u₂)
           → Visiting ws (front-roots ++ back-roots) (λ (d : List ℕ). PoolHolds ws d pool used) (Expands ws pool₂ u₂)
       both_walked pool₂ u₂ g =
           visiting_both ws checked front-roots back-roots below (λ (d : List ℕ). PoolHolds ws d pool used) (λ (d : List ℕ). PoolHolds ws d pool₁ n) (Expands ws pool₂ u₂)
-          (subst (λ (x : Expanded). Visiting ws front-roots (λ (d : List ℕ). PoolHolds ws d pool used) (Expands ws pool₁ x)) e f) g
+          (subst (λ (x : Result ℕ Refusal). Visiting ws front-roots (λ (d : List ℕ). PoolHolds ws d pool used) (Expands ws pool₁ x)) e f) g
 
   -- The lists of all counts and fields stand in the pool.
   module _ (pool : List ℕ) (used : ℕ) (holds : PoolHolds ws (order (records_of ws) (counts_of xs ++ fields_of xs)) pool used) where

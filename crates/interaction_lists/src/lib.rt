@@ -1,23 +1,23 @@
 // The lists of a checked sheet's interactions, and the two numbers.
 #![tactic(auto)]
 
-ghost use Rattle.std.specs.Prelude.{◌≡◌, [], ◌∷◌, ◌++◌, ℕ, ◌*◌, ◌≤◌, length};
+ghost use Rattle.std.specs.Prelude.{◌≡◌, [], ◌∷◌, ◌++◌, ◌*◌, ◌≤◌, length};
 ghost use Rattle.semantics.specs.Check.{read_sheet};
 ghost use Rattle.semantics.specs.Walk.{order};
 ghost use Rattle.semantics.specs.Group.{count_roots, field_roots};
 ghost use Rattle.semantics.specs.Call.{interactions_of};
-ghost use Rattle.records.specs.Access.{counts_of, fields_of, records_of, AllRootsInside};
+ghost use Rattle.records.specs.Access.{IsSheet, counts_of, fields_of, records_of, AllRootsInside};
 ghost use Rattle.expand.specs.Walking.{Expands};
 ghost use Rattle.grouping.specs.Families.{Grouping};
-ghost use Rattle.constraint_lists.specs.Lists.{CheckedSheet, on_read};
+ghost use Rattle.constraint_lists.specs.Lists.{on_read};
 ghost use Rattle.interaction_lists.specs.Lists.{longest_from, InteractionsAre, interactions_fitted};
 
-use answers::Refusal;
-use expand::Expanded;
-use grouping::{Grouped, Lengths};
+use answers::{Reason, Refusal};
+use grouping::{Family, Lengths};
+use records::Part;
 
 // How many words each list of the interactions takes, and the two numbers.
-#[derive(Clone, Copy)]
+#[derive(Clone, Copy, Debug, PartialEq, Eq)]
 pub struct InteractionLengths {
     pub numerators: Lengths,
     pub denominators: Lengths,
@@ -25,34 +25,27 @@ pub struct InteractionLengths {
     pub max_fields_len: usize,
 }
 
-#[derive(Clone, Copy)]
-pub enum InteractionLists {
-    Written(InteractionLengths),
-    Refused(Refusal),
-}
-
 // Expands the counts of all interactions of a checked sheet, then all fields.
 fn walk_interactions(
     s: &[u32],
     records: usize,
-    interactions: usize,
     work: &mut [u32],
     pool: &mut [u32],
-) -> Expanded
-    requires { ((constraints : ℕ) × CheckedSheet s.now records constraints interactions) × (4096 ≤ length work.old)
-        × (2 * records ≤ length pool.old) }
+) -> Result<usize, Refusal>
+    requires { IsSheet s.now × (records ≡ length (records_of s.now)) × (4096 ≤ length work.old) × (2 * records ≤ length pool.old) }
     ensures { Expands s.now pool.new result
         (order (records_of s.now)
         (counts_of (read_sheet s.now).interactions ++ fields_of (read_sheet s.now).interactions)) }
 {
     let heads = 2 * records;
-    slices::zero_all(&mut pool[..heads]);
+    pool[..heads].fill(0);
     let at = records::interactions_at(s);
-    let counted = expand::expand_counts(s, at, interactions, work, pool, heads);
-    let Expanded::Used(used) = counted else {
+    let interactions = records::num_interactions(s);
+    let counted = expand::expand_part(s, at, interactions, Part::Count, work, pool, heads);
+    let Ok(used) = counted else {
         return counted;
     };
-    expand::expand_fields(s, at, interactions, work, pool, used)
+    expand::expand_part(s, at, interactions, Part::Fields, work, pool, used)
 }
 
 // The largest message length of the interactions from `at` on.
@@ -60,14 +53,12 @@ fn max_fields_len(s: &[u32], at: usize, interactions: usize) -> usize
     requires { AllRootsInside s.now at interactions }
     ensures { result ≡ longest_from s.now at interactions }
 {
-    let mut most: usize = 0;
+    let mut most = 0;
     let mut from = at;
-    let mut i: usize = 0;
-    while i < interactions {
+    for _i in 0..interactions {
         let x = records::interaction_at(s, from);
-        most = answers::larger(most, x.message);
+        most = most.max(x.message);
         from = x.next;
-        i += 1;
     }
     most
 }
@@ -75,7 +66,6 @@ fn max_fields_len(s: &[u32], at: usize, interactions: usize) -> usize
 // Groups the counts and the fields of a checked sheet's interactions.
 fn group_interactions(
     s: &[u32],
-    interactions: usize,
     pool: &[u32],
     headers: &mut [u32],
     variables: &mut [u32],
@@ -83,26 +73,33 @@ fn group_interactions(
     denom_headers: &mut [u32],
     denom_variables: &mut [u32],
     denom_terms: &mut [u32],
-) -> InteractionLists
+) -> Result<InteractionLengths, Refusal>
     requires { Grouping s.now pool.now (count_roots (read_sheet s.now))
-        × Grouping s.now pool.now (field_roots (read_sheet s.now))
-        × (interactions ≡ length (read_sheet s.now).interactions) }
+        × Grouping s.now pool.now (field_roots (read_sheet s.now)) }
     ensures { InteractionsAre 0 result
         (headers ∷ variables ∷ terms ∷ denom_headers ∷ denom_variables ∷ denom_terms ∷ [])
         (on_read s.now interactions_fitted) }
 {
-    let counted = grouping::group_counts(s, pool, headers, variables, terms);
-    let Grouped::Written(numerators) = counted else {
-        return InteractionLists::Refused(constraint_lists::too_short(counted, 0));
+    let counted = grouping::group_family(s, pool, Family::Counts, headers, variables, terms);
+    let Ok(numerators) = counted else {
+        return Err(constraint_lists::too_short(counted.unwrap_err(), 0));
     };
-    let listed = grouping::group_fields(s, pool, denom_headers, denom_variables, denom_terms);
-    let Grouped::Written(denominators) = listed else {
-        return InteractionLists::Refused(constraint_lists::too_short(listed, 3));
+    let listed = grouping::group_family(
+        s,
+        pool,
+        Family::Fields,
+        denom_headers,
+        denom_variables,
+        denom_terms,
+    );
+    let Ok(denominators) = listed else {
+        return Err(constraint_lists::too_short(listed.unwrap_err(), 3));
     };
+    let interactions = records::num_interactions(s);
     let longest = max_fields_len(s, records::interactions_at(s), interactions);
-    InteractionLists::Written(InteractionLengths {
-        numerators: numerators,
-        denominators: denominators,
+    Ok(InteractionLengths {
+        numerators,
+        denominators,
         num_interactions: interactions,
         max_fields_len: longest,
     })
@@ -112,8 +109,6 @@ fn group_interactions(
 pub fn expand_checked(
     s: &[u32],
     records: usize,
-    constraints: usize,
-    interactions: usize,
     work: &mut [u32],
     pool: &mut [u32],
     headers: &mut [u32],
@@ -122,31 +117,30 @@ pub fn expand_checked(
     denom_headers: &mut [u32],
     denom_variables: &mut [u32],
     denom_terms: &mut [u32],
-) -> InteractionLists
-    requires { CheckedSheet s.now records constraints interactions }
+) -> Result<InteractionLengths, Refusal>
+    requires { IsSheet s.now × (records ≡ length (records_of s.now)) }
     ensures { InteractionsAre 2 result
         (work ∷ pool ∷ headers ∷ variables ∷ terms ∷ denom_headers ∷ denom_variables ∷ denom_terms ∷ [])
         (on_read s.now interactions_of) }
 {
     if work.len() < 4096 {
-        return InteractionLists::Refused(Refusal {
-            number: 14,
+        return Err(Refusal {
+            reason: Reason::ScratchTooShort,
             place: 4096,
         });
     }
     if pool.len() < 2 * records {
-        return InteractionLists::Refused(Refusal {
-            number: 14,
+        return Err(Refusal {
+            reason: Reason::ScratchTooShort,
             place: 2 * records,
         });
     }
-    let walked = walk_interactions(s, records, interactions, work, pool);
-    let Expanded::Used(_used) = walked else {
-        return InteractionLists::Refused(constraint_lists::refusal_of(walked));
+    let walked = walk_interactions(s, records, work, pool);
+    let Ok(_used) = walked else {
+        return Err(walked.unwrap_err());
     };
     group_interactions(
         s,
-        interactions,
         pool,
         headers,
         variables,

@@ -5,7 +5,6 @@ use Prim.Native.Nat.{ℕ}
 use lib.ListN.{length}
 use Rattle.semantics.specs.Arithmetic.{prime}
 use Rattle.semantics.specs.Call.{interactions_of}
-use Rattle.constraint_lists.specs.Lists.{CheckedSheet}
 use Rattle.expansion.proofs.Replies.{sheet_found, sheet_goes_on, sheet_refused}
 use Rattle.expansion.proofs.expand_sheet_interactions.Goals as goal
 
@@ -20,18 +19,16 @@ returns-in_default c = (
 
 pub expand_checked-requires : goal.expand_checked-requires
 expand_checked-requires c =
-    let sheet : let h = c.in-Ok.head in CheckedSheet c.args.s.now h.records h.constraints h.interactions =
-    sheet_found c.args.s.now c.check_sheet-checked.ensures c.in-Ok.is in
+    let sheet = sheet_found c.args.s.now c.check_sheet-checked.ensures c.in-Ok.is in
     sheet
 
 pub returns : goal.returns
 returns c =
-    let sheet : let h = c.in-Ok.head in CheckedSheet c.args.s.now h.records h.constraints h.interactions =
-    sheet_found c.args.s.now c.check_sheet-checked.ensures c.in-Ok.is in
+    let sheet = sheet_found c.args.s.now c.check_sheet-checked.ensures c.in-Ok.is in
     let x = c.expand_checked.ensures in (
       x.0 ∙ sheet_goes_on c.args.s.now (let a = c.args in
           interactions_of prime (map (λ (l : List ℕ). length l)
           (a.work.now ∷ a.pool.now ∷ a.headers.now ∷ a.variables.now ∷ a.terms.now
-          ∷ a.denom_headers.now ∷ a.denom_variables.now ∷ a.denom_terms.now ∷ []))) sheet.checked,
+          ∷ a.denom_headers.now ∷ a.denom_variables.now ∷ a.denom_terms.now ∷ []))) sheet.0,
       x.1,
     )

@@ -13,22 +13,22 @@ pub returns-then-work-lt4096 : goal.returns-then-work-lt4096
 returns-then-work-lt4096 c = (work_refused c.args.s.now _ _ _ c.if-work-lt4096.true, tt)
 
 pub overflow_mul-records : goal.overflow_mul-records
-overflow_mul-records c = omega (arith, (counts_small c.args.s.now c.requires.checked).0)
+overflow_mul-records c = omega (arith, c.requires.1, (counts_small c.args.s.now c.requires.0).0)
 
 pub overflow_mul-result : goal.overflow_mul-result
-overflow_mul-result c = omega (arith, (counts_small c.args.s.now c.requires.checked).0)
+overflow_mul-result c = omega (arith, c.requires.1, (counts_small c.args.s.now c.requires.0).0)
 
 pub returns-then-pool-records : goal.returns-then-pool-records
 returns-then-pool-records c = (
-  pool_refused c.args.s.now _ _ _ c.if-work-lt4096.false _ (ap (λ (n : ℕ). 2 * n) c.requires.records_are) c.if-pool-records.true,
+  pool_refused c.args.s.now _ _ _ c.if-work-lt4096.false _ (ap (λ (n : ℕ). 2 * n) c.requires.1) c.if-pool-records.true,
   tt,
 )
 
 pub returns-in_default : goal.returns-in_default
 returns-in_default c =
     let w = c.walk_interactions-walked in (
-      interactions_refused c.args.s.now _ _ _ c.if-work-lt4096.false (omega arith) _ _ _ _ w.auto.pool w.ensures
-          c.in_default.is c.refusal_of.ensures,
+      interactions_refused c.args.s.now _ _ _ c.if-work-lt4096.false (omega (arith, c.requires.1)) w.result _ w.auto.pool w.ensures
+          c.unwrap_err.ensures,
       tt,
     )
 
@@ -36,17 +36,16 @@ pub group_interactions-requires : goal.group_interactions-requires
 group_interactions-requires c =
     let ws = c.args.s.now in
     let pool = c.walk_interactions-walked.new.pool in
-    let held = all_held ws pool _ c.in-Used.is c.walk_interactions-walked.ensures in (
-      counts_grouping ws c.requires.checked pool c.in-Used._used held,
-      fields_grouping ws c.requires.checked pool c.in-Used._used held,
-      c.requires.interactions_are,
+    let held = all_held ws pool _ c.in-Ok.is c.walk_interactions-walked.ensures in (
+      counts_grouping ws c.requires.0 pool c.in-Ok._used held,
+      fields_grouping ws c.requires.0 pool c.in-Ok._used held,
     )
 
 pub returns : goal.returns
 returns c =
     let w = c.walk_interactions-walked in (
       c.group_interactions.ensures.0
-          ∙ interactions_walked c.args.s.now _ _ _ c.if-work-lt4096.false (omega arith) c.in-Used._used w.new.pool w.auto.pool
-          (all_held c.args.s.now w.new.pool _ c.in-Used.is w.ensures),
+          ∙ interactions_walked c.args.s.now _ _ _ c.if-work-lt4096.false (omega (arith, c.requires.1)) c.in-Ok._used w.new.pool w.auto.pool
+          (all_held c.args.s.now w.new.pool _ c.in-Ok.is w.ensures),
       c.group_interactions.ensures.1,
     )
