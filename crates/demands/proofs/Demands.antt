@@ -7,6 +7,8 @@ use Rattle.semantics.specs.Arithmetic.{prime}
 use Rattle.semantics.specs.Call.{Outcome, Accepted, handed_back, builder_call, constraint_call, interaction_call}
 use Rattle.semantics.specs.Demand.{GraphRule, ConstraintRule, InteractionRule, GraphConstraintRule, GraphInteractionRule}
 use Rattle.semantics.proofs.Demands.{demand_prime}
+use Rattle.std.specs.Prelude.{Result, Ok, Err}
+use Rattle.answers.specs.declared.Refusal.{Refusal}
 use Rattle.answers.specs.Replies.{count_of}
 use Rattle.dag.specs.Calls.{built_outcome}
 use Rattle.demands.specs.Demand.{GraphBuilt, ConstraintsExpanded, InteractionsExpanded, CallsDemand}
@@ -18,7 +20,7 @@ number_is e a = ap (λ (x : Outcome). x.reply.number) (sym e) ∙ a
 -- The words that `build` hands back are the front of its output.
 words_back : (r : Result ℕ Refusal) (scratch out : List ℕ) → handed_back 1 (built_outcome r scratch out) 0 ≡ take (count_of r) out
 unfolding handed_back
-words_back (Words n) scratch out = refl
+words_back (Ok n) scratch out = refl
 words_back (Err v) scratch out = refl
 
 pub build_demand : (ws : List ℕ) (scratch-lent out-lent : ℕ) (r : Result ℕ Refusal) (scratch out : List ℕ)

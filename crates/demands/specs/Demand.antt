@@ -1,11 +1,14 @@
 -- Demand 3, whole, as a caller has it of `build`, `expand_constraints` and `expand_interactions` (01, "For demand 3"): what holds of their
 -- answers and of the slices that they leave, and that it follows from their contracts.
-use Rattle.std.specs.Prelude.{◌≡◌, List, [], ◌∷◌, ℕ, take}
+use Rattle.std.specs.Prelude.{◌≡◌, List, [], ◌∷◌, ℕ, take, Result}
 use Rattle.semantics.specs.Answer.{good}
 use Rattle.semantics.specs.Sheet.{Sheet}
 use Rattle.semantics.specs.Check.{prime_of, check}
 use Rattle.semantics.specs.Call.{Outcome, Accepted, handed_back, builder_call, constraint_call, interaction_call}
 use Rattle.semantics.specs.Demand.{GraphRule, ConstraintRule, InteractionRule, GraphConstraintRule, GraphInteractionRule}
+use Rattle.answers.specs.declared.Refusal.{Refusal}
+use Rattle.grouping.specs.declared.Lengths.{Lengths}
+use Rattle.interaction_lists.specs.declared.InteractionLengths.{InteractionLengths}
 use Rattle.answers.specs.Replies.{written_reply, count_of}
 use Rattle.dag.specs.Calls.{built_outcome}
 use Rattle.expansion.specs.Answers.{constraint_outcome, interaction_outcome}
