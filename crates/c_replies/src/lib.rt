@@ -5,18 +5,15 @@ ghost use Rattle.std.specs.Prelude.{◌≡◌, ◌≤◌};
 ghost use Rattle.packed_var.specs.Packed.{packed_reply};
 ghost use Rattle.packing.specs.Leaves.{unpacked_reply};
 ghost use Rattle.block.specs.Checked.{block_reply};
-ghost use Rattle.answers.specs.Replies.{written_reply, counted_reply};
-ghost use Rattle.sheet.specs.Replies.{checked_reply};
-ghost use Rattle.c_replies.specs.Fields.{packed_fields, record_fields, block_fields, sheet_fields, number_fields, written_fields};
+ghost use Rattle.c_replies.specs.Fields.{packed_fields, record_fields, block_fields};
 
-use answers::{Counted, Written};
-use block::BlockChecked;
-use packed_var::Packed;
-use packing::Unpacked;
-use sheet::Checked;
+use answers::Refusal;
+use packed_var::PackedVar;
+use packing::Record;
+use sheet::Head;
 
 #[repr(C)]
-#[derive(Clone, Copy)]
+#[derive(Clone, Copy, Default)]
 pub struct SuhkelvaPacked {
     pub number: u32,
     pub place: u32,
@@ -24,7 +21,7 @@ pub struct SuhkelvaPacked {
 }
 
 #[repr(C)]
-#[derive(Clone, Copy)]
+#[derive(Clone, Copy, Default)]
 pub struct SuhkelvaRecord {
     pub number: u32,
     pub place: u32,
@@ -36,7 +33,7 @@ pub struct SuhkelvaRecord {
 }
 
 #[repr(C)]
-#[derive(Clone, Copy)]
+#[derive(Clone, Copy, Default)]
 pub struct SuhkelvaBlock {
     pub number: u32,
     pub place: u32,
@@ -44,7 +41,7 @@ pub struct SuhkelvaBlock {
 }
 
 #[repr(C)]
-#[derive(Clone, Copy)]
+#[derive(Clone, Copy, Default)]
 pub struct SuhkelvaSheet {
     pub number: u32,
     pub place: u64,
@@ -56,7 +53,7 @@ pub struct SuhkelvaSheet {
 }
 
 #[repr(C)]
-#[derive(Clone, Copy)]
+#[derive(Clone, Copy, Default)]
 pub struct SuhkelvaNumber {
     pub number: u32,
     pub place: u64,
@@ -64,135 +61,138 @@ pub struct SuhkelvaNumber {
 }
 
 #[repr(C)]
-#[derive(Clone, Copy)]
+#[derive(Clone, Copy, Default)]
 pub struct SuhkelvaWritten {
     pub number: u32,
     pub place: u64,
     pub count: u64,
 }
 
-pub fn packed_fields(packed: Packed) -> SuhkelvaPacked
+// Three replies have a place of 32 bits. The caller shows that it fits, which a `From` cannot ask.
+#[tactic(auto, unfolding(crate::specs::Fields::packed_fields))]
+pub fn packed_fields(packed: Result<PackedVar, Refusal>) -> SuhkelvaPacked
     requires { (packed_reply packed).place ≤ 4294967295 }
     ensures { result ≡ packed_fields (packed_reply packed) }
 {
     match packed {
-        Packed::Var(v) => SuhkelvaPacked {
-            number: 0,
-            place: 0,
+        Ok(v) => SuhkelvaPacked {
             packed: v.0,
+            ..Default::default()
         },
-        Packed::Refused(r) => SuhkelvaPacked {
-            number: r.number,
+        Err(r) => SuhkelvaPacked {
+            number: r.reason.number(),
             place: r.place as u32,
-            packed: 0,
+            ..Default::default()
         },
     }
 }
 
-pub fn record_fields(unpacked: Unpacked) -> SuhkelvaRecord
+#[tactic(auto, unfolding(crate::specs::Fields::record_fields))]
+pub fn record_fields(unpacked: Result<Record, Refusal>) -> SuhkelvaRecord
     requires { (unpacked_reply unpacked).place ≤ 4294967295 }
     ensures { result ≡ record_fields (unpacked_reply unpacked) }
 {
     match unpacked {
-        Unpacked::Words(w) => SuhkelvaRecord {
-            number: 0,
-            place: 0,
+        Ok(w) => SuhkelvaRecord {
             kind: w.kind,
             a: w.a,
             b: w.b,
             c: w.c,
             d: w.d,
+            ..Default::default()
         },
-        Unpacked::Refused(r) => SuhkelvaRecord {
-            number: r.number,
+        Err(r) => SuhkelvaRecord {
+            number: r.reason.number(),
             place: r.place as u32,
-            kind: 0,
-            a: 0,
-            b: 0,
-            c: 0,
-            d: 0,
+            ..Default::default()
         },
     }
 }
 
-pub fn block_fields(checked: BlockChecked) -> SuhkelvaBlock
+#[tactic(auto, unfolding(crate::specs::Fields::block_fields))]
+pub fn block_fields(checked: Result<bool, Refusal>) -> SuhkelvaBlock
     requires { (block_reply checked).place ≤ 4294967295 }
     ensures { result ≡ block_fields (block_reply checked) }
 {
     match checked {
-        BlockChecked::Yes => SuhkelvaBlock {
-            number: 0,
-            place: 0,
-            good: 1,
+        Ok(good) => SuhkelvaBlock {
+            good: good as u32,
+            ..Default::default()
         },
-        BlockChecked::No => SuhkelvaBlock {
-            number: 0,
-            place: 0,
-            good: 0,
-        },
-        BlockChecked::Refused(r) => SuhkelvaBlock {
-            number: r.number,
+        Err(r) => SuhkelvaBlock {
+            number: r.reason.number(),
             place: r.place as u32,
-            good: 0,
+            ..Default::default()
         },
     }
 }
 
-pub fn sheet_fields(checked: Checked) -> SuhkelvaSheet
-    ensures { result ≡ sheet_fields (checked_reply checked) }
-{
-    match checked {
-        Checked::Sheet(h) => SuhkelvaSheet {
-            number: 0,
-            place: 0,
-            records: h.records as u64,
-            constraints: h.constraints as u64,
-            interactions: h.interactions as u64,
-            words: h.words as u64,
-            start: h.start as u64,
-        },
-        Checked::Refused(r) => SuhkelvaSheet {
-            number: r.number,
-            place: r.place as u64,
-            records: 0,
-            constraints: 0,
-            interactions: 0,
-            words: 0,
-            start: 0,
-        },
+impl From<Result<Head, Refusal>> for SuhkelvaSheet {
+    ghost use Rattle.sheet.specs.Replies.{checked_reply};
+    ghost use Rattle.c_replies.specs.Fields.{sheet_fields};
+
+    ghost from_gives = { λ checked sheet. sheet ≡ sheet_fields (checked_reply checked) };
+
+    #[tactic(auto, unfolding(crate::specs::Fields::sheet_fields))]
+    fn from(checked: Result<Head, Refusal>) -> SuhkelvaSheet {
+        match checked {
+            Ok(h) => SuhkelvaSheet {
+                records: h.records as u64,
+                constraints: h.constraints as u64,
+                interactions: h.interactions as u64,
+                words: h.words as u64,
+                start: h.start as u64,
+                ..Default::default()
+            },
+            Err(r) => SuhkelvaSheet {
+                number: r.reason.number(),
+                place: r.place as u64,
+                ..Default::default()
+            },
+        }
     }
 }
 
-pub fn number_fields(counted: Counted) -> SuhkelvaNumber
-    ensures { result ≡ number_fields (counted_reply counted) }
-{
-    match counted {
-        Counted::Number(n) => SuhkelvaNumber {
-            number: 0,
-            place: 0,
-            value: n as u64,
-        },
-        Counted::Refused(r) => SuhkelvaNumber {
-            number: r.number,
-            place: r.place as u64,
-            value: 0,
-        },
+impl From<Result<usize, Refusal>> for SuhkelvaNumber {
+    ghost use Rattle.answers.specs.Replies.{counted_reply};
+    ghost use Rattle.c_replies.specs.Fields.{number_fields};
+
+    ghost from_gives = { λ counted number. number ≡ number_fields (counted_reply counted) };
+
+    #[tactic(auto, unfolding(crate::specs::Fields::number_fields))]
+    fn from(counted: Result<usize, Refusal>) -> SuhkelvaNumber {
+        match counted {
+            Ok(n) => SuhkelvaNumber {
+                value: n as u64,
+                ..Default::default()
+            },
+            Err(r) => SuhkelvaNumber {
+                number: r.reason.number(),
+                place: r.place as u64,
+                ..Default::default()
+            },
+        }
     }
 }
 
-pub fn written_fields(written: Written) -> SuhkelvaWritten
-    ensures { result ≡ written_fields (written_reply written) }
-{
-    match written {
-        Written::Words(n) => SuhkelvaWritten {
-            number: 0,
-            place: 0,
-            count: n as u64,
-        },
-        Written::Refused(r) => SuhkelvaWritten {
-            number: r.number,
-            place: r.place as u64,
-            count: 0,
-        },
+impl From<Result<usize, Refusal>> for SuhkelvaWritten {
+    ghost use Rattle.answers.specs.Replies.{written_reply};
+    ghost use Rattle.c_replies.specs.Fields.{written_fields};
+
+    ghost from_gives = { λ written count. count ≡ written_fields (written_reply written) };
+
+    #[tactic(auto, unfolding(crate::specs::Fields::written_fields))]
+    fn from(written: Result<usize, Refusal>) -> SuhkelvaWritten {
+        match written {
+            Ok(n) => SuhkelvaWritten {
+                count: n as u64,
+                ..Default::default()
+            },
+            Err(r) => SuhkelvaWritten {
+                number: r.reason.number(),
+                place: r.place as u64,
+                ..Default::default()
+            },
+        }
     }
 }

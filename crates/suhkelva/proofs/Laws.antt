@@ -1,4 +1,4 @@
--- What C gets from a call whose outcome is known by an equation: the reply's fields, and the slices.
+-- The place that C gets from a call whose outcome is known by an equation.
 use mathlib.Core.Path.{◌≡◌, ap}
 use mathlib.Core.List.{List}
 use Prim.Native.Nat.{ℕ, ◌≤◌}

@@ -40,49 +40,49 @@ pub extern "C" fn suhkelva_block_check(bytes: &[u8], number: u32) -> SuhkelvaBlo
 pub extern "C" fn suhkelva_check_sheet(s: &[u32]) -> SuhkelvaSheet
     ensures { Handed sheet_fields result [] (check_call (prime_of s.now) s.now) }
 {
-    c_replies::sheet_fields(sheet::check_sheet(s))
+    sheet::check_sheet(s).into()
 }
 
 #[unsafe(no_mangle)]
 pub extern "C" fn suhkelva_max_rotation(s: &[u32]) -> SuhkelvaNumber
     ensures { Handed number_fields result [] (max_rotation_call (prime_of s.now) s.now) }
 {
-    c_replies::number_fields(sheet_calls::max_rotation(s))
+    sheet_calls::max_rotation(s).into()
 }
 
 #[unsafe(no_mangle)]
 pub extern "C" fn suhkelva_num_constraints(s: &[u32]) -> SuhkelvaNumber
     ensures { Handed number_fields result [] (num_constraints_call (prime_of s.now) s.now) }
 {
-    c_replies::number_fields(sheet_calls::num_constraints(s))
+    sheet_calls::num_constraints(s).into()
 }
 
 #[unsafe(no_mangle)]
 pub extern "C" fn suhkelva_convert(s: &[u32], out: &mut [u32]) -> SuhkelvaWritten
     ensures { Returns written_fields result (out ∷ []) (conversion_call (prime_of s.now) s.now) }
 {
-    c_replies::written_fields(sheet_calls::convert(s, out))
+    sheet_calls::convert(s, out).into()
 }
 
 #[unsafe(no_mangle)]
 pub extern "C" fn suhkelva_read_blocks(bytes: &[u8], out: &mut [u32]) -> SuhkelvaWritten
     ensures { Returns written_fields result (out ∷ []) (reader_call bytes.now) }
 {
-    c_replies::written_fields(block_reader::read_blocks(bytes, out))
+    block_reader::read_blocks(bytes, out).into()
 }
 
 #[unsafe(no_mangle)]
 pub extern "C" fn suhkelva_write_blocks(s: &[u32], out: &mut [u8]) -> SuhkelvaWritten
     ensures { Returns written_fields result (out ∷ []) (writer_call (prime_of s.now) s.now) }
 {
-    c_replies::written_fields(block_writer::write_blocks(s, out))
+    block_writer::write_blocks(s, out).into()
 }
 
 #[unsafe(no_mangle)]
 pub extern "C" fn suhkelva_build(s: &[u32], scratch: &mut [u32], out: &mut [u32]) -> SuhkelvaWritten
     ensures { Returns written_fields result (scratch ∷ out ∷ []) (builder_call (prime_of s.now) s.now) }
 {
-    c_replies::written_fields(dag::build(s, scratch, out))
+    dag::build(s, scratch, out).into()
 }
 
 #[unsafe(no_mangle)]
@@ -97,8 +97,7 @@ pub extern "C" fn suhkelva_expand_constraints(
     ensures { Returns list_fields result (work ∷ pool ∷ headers ∷ variables ∷ terms ∷ [])
         (constraint_call (prime_of s.now) s.now) }
 {
-    let lists = expansion::expand_constraints(s, work, pool, headers, variables, terms);
-    c_list_replies::list_fields(lists)
+    expansion::expand_constraints(s, work, pool, headers, variables, terms).into()
 }
 
 #[unsafe(no_mangle)]
@@ -128,5 +127,5 @@ pub extern "C" fn suhkelva_expand_interactions(
         denom_variables,
         denom_terms,
     );
-    c_list_replies::interaction_list_fields(lists)
+    lists.into()
 }
