@@ -68,17 +68,13 @@ pub record LeftList (ws : List ℕ) (r : ℕ) (work pool : List ℕ) (used : ℕ
   pub finishing : Finishing ws r work pool used
   pub words_are : five_words q ≡ node_in ws r
   pub parent : 6 ≤ q.kind
-  pub child : ℕ
-  pub child_is : child ≡ q.a
-  pub reads : Reads pool child x
+  pub reads : Reads pool q.a x
 
 -- And its right child's list.
 pub record BothLists (ws : List ℕ) (r : ℕ) (work pool : List ℕ) (used : ℕ) (q : declared.Record) (x y : PoolList) : Type 0 where
   pub left : LeftList ws r work pool used q x
   pub two : q.kind ≡ 8 → ⊥
-  pub child : ℕ
-  pub child_is : child ≡ q.b
-  pub reads : Reads pool child y
+  pub reads : Reads pool q.b y
 
 module _ {ws : List ℕ} {r : ℕ} {work pool : List ℕ} {used : ℕ} (p : Finishing ws r work pool used) where
   abbrev checked : check prime ws ≡ good (read_sheet ws)
@@ -146,17 +142,11 @@ module _ {ws : List ℕ} {r : ℕ} {work pool : List ℕ} {used : ℕ} (p : Fini
       plain : pack_fault R ≡ 0
       plain = packs_none R (λ z. omega (arith, kind))
 
-      has_left : {c : ℕ} → c ≡ q.a → Mem c (children_at (records_of ws) r)
-      has_left ec = subst (λ (x : ℕ). Mem x (children_at (records_of ws) r)) (sym ec) (has_a ws checked r l q e k)
+      pub left_head : 2 * q.a + 1 < length pool
+      left_head = child_head q.a (has_a ws checked r l q e k)
 
-      has_right : (q.kind ≡ 8 → ⊥) → {c : ℕ} → c ≡ q.b → Mem c (children_at (records_of ws) r)
-      has_right n ec = subst (λ (x : ℕ). Mem x (children_at (records_of ws) r)) (sym ec) (has_b ws checked r l q e k n)
-
-      pub left_head : {c : ℕ} → c ≡ q.a → 2 * c + 1 < length pool
-      left_head {c} ec = child_head c (has_left ec)
-
-      pub right_head : (q.kind ≡ 8 → ⊥) → {c : ℕ} → c ≡ q.b → 2 * c + 1 < length pool
-      right_head n {c} ec = child_head c (has_right n ec)
+      pub right_head : (q.kind ≡ 8 → ⊥) → 2 * q.b + 1 < length pool
+      right_head n = child_head q.b (has_b ws checked r l q e k n)
 
 -- A Neg.
 module _ {ws : List ℕ} {r : ℕ} {work pool : List ℕ} {used : ℕ} {q : declared.Record} {x : PoolList} (h : LeftList ws r work pool used q x) where
@@ -166,14 +156,14 @@ module _ {ws : List ℕ} {r : ℕ} {work pool : List ℕ} {used : ℕ} {q : decl
   abbrev X : List Monomial
   X = list_in pool x.at x.count
 
-  left_in : Mem h.child (children_at (records_of ws) r)
-  left_in = has_left p₁ q h.words_are h.parent h.child_is
+  left_in : Mem q.a (children_at (records_of ws) r)
+  left_in = has_a ws (checked p₁) r (l p₁) q h.words_are h.parent
 
   left_list : X ≡ list_at prime (records_of ws) (record_at (records_of ws) r).a
-  left_list = child_list p₁ h.child left_in x h.reads ∙ ap (list_at prime (records_of ws)) (h.child_is ∙ a_is ws (checked p₁) r (l p₁) q h.words_are)
+  left_list = child_list p₁ q.a left_in x h.reads ∙ ap (list_at prime (records_of ws)) (a_is ws (checked p₁) r (l p₁) q h.words_are)
 
   pub left_fits : ListStands pool x
-  left_fits = child_fits p₁ h.child left_in x h.reads
+  left_fits = child_fits p₁ q.a left_in x h.reads
 
   pub finishes_neg : q.kind ≡ 8 → (work' : List ℕ) (u : Result ℕ Reason) → Makes work' u (work_fault (map (neg_monomial prime) X)) (map (neg_monomial prime) X)
       → Makes work' u (record_fault prime (records_of ws) r) (list_at prime (records_of ws) r)
@@ -193,14 +183,15 @@ module _ {ws : List ℕ} {r : ℕ} {work pool : List ℕ} {used : ℕ} {q : decl
   abbrev Y : List Monomial
   Y = list_in pool y.at y.count
 
-  right_in : Mem h.child (children_at (records_of ws) r)
-  right_in = has_right p₂ q h.left.words_are h.left.parent h.two h.child_is
+  right_in : Mem q.b (children_at (records_of ws) r)
+  right_in = has_b ws (checked p₂) r (l p₂) q h.left.words_are h.left.parent h.two
 
   right_list : Y ≡ list_at prime (records_of ws) (record_at (records_of ws) r).b
-  right_list = child_list p₂ h.child right_in y h.reads ∙ ap (list_at prime (records_of ws)) (h.child_is ∙ b_is ws (checked p₂) r (l p₂) q h.left.words_are)
+  right_list = child_list p₂ q.b right_in y h.reads ∙ ap (list_at prime (records_of ws)) (b_is ws (checked p₂) r (l p₂) q h.left.words_are)
 
-  pub both_fit : ListStands pool x × ListStands pool y
-  both_fit = (left_fits h.left, child_fits p₂ h.child right_in y h.reads)
+  -- What summing or multiplying the two asks.
+  pub both_ready : (4096 ≤ length work) × ListStands pool x × ListStands pool y
+  both_ready = (p₂.ready.walking.room, left_fits h.left, child_fits p₂ q.b right_in y h.reads)
 
   -- What is made from the children's lists as its working list is made from them.
   abbrev worked : Node → List Monomial

@@ -4,7 +4,6 @@ use mathlib.Core.List.{List, [], ◌∷◌, ◌++◌, append_assoc}
 use Prim.Native.Nat.{ℕ, suc, ◌+◌, ◌*◌, ◌-◌, ◌≤◌, ◌<◌}
 use native.Mathlib.Omega.{arith}
 use lib.ListN.{length, get_or, take, drop, take-append-drop}
-use lib.Seq.{take_all}
 use Rattle.semantics.specs.Arithmetic.{prime}
 use Rattle.semantics.specs.Answer.{good}
 use Rattle.semantics.specs.Check.{read_sheet, check}
@@ -32,9 +31,6 @@ module _ {ws names : List ℕ} {work₀ pool₀ : List ℕ} {used₀ : ℕ} (p :
   naming_none = record { far = far_none ws work₀ pool₀ used₀ p }
 
   module _ {work pool : List ℕ} {used j : ℕ} (h : Naming ws names work₀ pool₀ used₀ work pool used j) where
-    pub naming_done : length names ≤ j → Roots ws names pool₀ used₀ pool (Ok used)
-    naming_done l = subst (λ (xs : List ℕ). Roots ws xs pool₀ used₀ pool (Ok used)) (take_all j names l) h.far.walks
-
     module _ (l : j < length names) where
       abbrev r : ℕ
       r = get_or names j 0

@@ -22,7 +22,6 @@ use Rattle.semantics.proofs.Orders.{distinct_length}
 use Rattle.std.specs.Prelude.{Result, Ok, Err}
 use Rattle.answers.specs.declared.Refusal.{Refusal}
 use Rattle.answers.specs.declared.Reason.{Reason}
-use Rattle.answers.specs.declared.Reason.TheVariants as reason
 use Rattle.answers.specs.Replies.{number_of}
 use Rattle.records.specs.Access.{records_of}
 use Rattle.records.specs.Orders.{Order}
@@ -109,23 +108,7 @@ module _ (P : List ℕ) (r used : ℕ) (l : List Monomial) (head : 2 * r + 2 ≤
 
 -- No reason has the number 0.
 number_not_0 : (f : Reason) → number_of f ≡ 0 → ⊥
-number_not_0 reason.WrongLength e = omega arith
-number_not_0 reason.WrongCheck e = omega arith
-number_not_0 reason.WrongHead e = omega arith
-number_not_0 reason.PastEnd e = omega arith
-number_not_0 reason.WrongRecord e = omega arith
-number_not_0 reason.WrongName e = omega arith
-number_not_0 reason.WrongSpare e = omega arith
-number_not_0 reason.ColumnTooLarge e = omega arith
-number_not_0 reason.ChallengeRefused e = omega arith
-number_not_0 reason.PartTooLarge e = omega arith
-number_not_0 reason.OffsetTooLarge e = omega arith
-number_not_0 reason.ListTooLong e = omega arith
-number_not_0 reason.ProductTooLong e = omega arith
-number_not_0 reason.ScratchTooShort e = omega arith
-number_not_0 reason.OutputTooShort e = omega arith
-number_not_0 reason.PoolTooShort e = omega arith
-number_not_0 reason.SliceTooShort e = omega arith
+number_not_0 f e = grind arith
 
 module _ (ws done : List ℕ) (pool r used : ℕ) (e : expand_all prime (records_of ws) pool done ≡ good used) where
   expand_more : record_fault prime (records_of ws) r ≡ 0 → used + list_size (list_at prime (records_of ws) r) ≤ pool

@@ -20,6 +20,7 @@ use monomial::lists;
 use records::Part;
 
 // Makes the list of a record whose children are expanded, and hands back how many monomials it has.
+#[tactic(auto, using(records::proofs::Visits::record_inside))]
 fn make_list(sheet: &[u32], work: &mut [u32], pool: &[u32], r: usize) -> Result<usize, Reason>
     requires { (used : ℕ) × Finishing sheet.now r work.old pool.now used }
     ensures { Makes work.new result (record_fault (prime_of sheet.now) (records_of sheet.now) r)
@@ -89,6 +90,7 @@ fn finish_record(
 
 // Expands record r with all that it reaches, left child, right child, then itself. It recurses as deep as the longest chain of children,
 // so a level keeps one answer and no record: a word is read when it is needed.
+#[tactic(auto, using(records::proofs::Visits::record_inside))]
 fn expand_node(
     sheet: &[u32],
     work: &mut [u32],

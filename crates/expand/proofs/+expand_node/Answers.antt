@@ -2,7 +2,6 @@ use Rattle.std.proofs.Common.{◌≡◌, ◌*◌, ◌≤◌, ◌<◌, List, leng
 use Rattle.std.specs.Prelude.{Result, Ok}
 use Rattle.answers.specs.declared.Refusal.{Refusal}
 use Rattle.records.specs.Access.{node_in}
-use Rattle.records.proofs.Visits.{record_inside}
 use Rattle.expand.specs.Walking.{ExpandReady}
 use Rattle.expand.proofs.Expanding.{Visit, visits_seen, Fresh, finishing, visits, no_child, left_low, ready_left, Left, left_refused, one_child}
 use Rattle.expand.proofs.Expanding.{right_low, ready_right, Right, right_refused, two_children}
@@ -31,9 +30,6 @@ right l t k e work₂ pool₂ u w p v = record { left = l; taken = t; two = k; r
 pub returns-then-pool-r-ne0 : goal.returns-then-pool-r-ne0
 returns-then-pool-r-ne0 t c = visits_seen c.requires c.if-pool-r-ne0.true
 
-pub kind_at-requires : goal.kind_at-requires
-kind_at-requires t c = record_inside c.args.sheet.now c.requires.walking.checked c.args.r c.requires.inside
-
 pub finish_record-answer-requires : goal.finish_record-answer-requires
 finish_record-answer-requires t c =
     let f = fresh c.requires c.if-pool-r-ne0.false in
@@ -44,9 +40,6 @@ returns-then-kind_at-lt6 t c =
     let f = fresh c.requires c.if-pool-r-ne0.false in
     let u = c.finish_record-answer in
     visits f (no_child f (omega arith)) u.new.pool u.result u.ensures
-
-pub left_at-requires : goal.left_at-requires
-left_at-requires t c = record_inside c.args.sheet.now c.requires.walking.checked c.args.r c.requires.inside
 
 pub expand_node-answer-requires : goal.expand_node-answer-requires
 expand_node-answer-requires t c =
@@ -59,9 +52,6 @@ returns-in_default t c =
     let v = c.expand_node-answer in
     let l = left f (omega arith) c.left_at.ensures v.new.work v.new.pool v.result v.auto.work v.auto.pool v.ensures in
     left_refused l c.in_default.field-0 c.in_default.is
-
-pub kind_at-requires-2 : goal.kind_at-requires-2
-kind_at-requires-2 t c = record_inside c.args.sheet.now c.requires.walking.checked c.args.r c.requires.inside
 
 pub finish_record-answer-requires-then-kind_at-eq8 : goal.finish_record-answer-requires-then-kind_at-eq8
 finish_record-answer-requires-then-kind_at-eq8 t c =
@@ -77,9 +67,6 @@ returns-then-kind_at-eq8 t c =
     let l = left f (omega arith) c.left_at.ensures v.new.work v.new.pool v.result v.auto.work v.auto.pool v.ensures in
     let u = c.finish_record-answer-then-kind_at-eq8 in
     visits f (one_child l c.in-Ok.is (omega arith)) u.new.pool u.result u.ensures
-
-pub right_at-requires : goal.right_at-requires
-right_at-requires t c = record_inside c.args.sheet.now c.requires.walking.checked c.args.r c.requires.inside
 
 pub expand_node-answer-requires-2 : goal.expand_node-answer-requires-2
 expand_node-answer-requires-2 t c =
