@@ -135,9 +135,6 @@ module _ {names H₀ : List ℕ} {n : ℕ} {P H : List ℕ} {rows j : ℕ} (g : 
     abbrev rest : List ℕ
     rest = drop (j + 1) names
 
-    pub names_ready : ToTally rows H P (r ∷ [])
-    names_ready = references_next g.left (r ∷ []) rest (names_next names j h)
-
     module _ (H' : List ℕ) (u : Option ℕ) (c : CountedMore H' P (tally_all (non_zero (list_of P r)) (tallied rows H P)) u) where
       named : CountedMore H' P (tally_all (vars_named P (r ∷ [])) (tallied rows H P)) u
       named = subst (λ (v : List (List ℕ)). CountedMore H' P (tally_all v (tallied rows H P)) u) (sym (vars_one P r)) c
