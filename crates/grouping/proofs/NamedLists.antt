@@ -1,37 +1,25 @@
 -- Counting the lists of records that words name: what is left to count gives the whole.
-use mathlib.Core.Path.{◌≡◌, sym, ap, subst, ◌∙◌}
+use mathlib.Core.Path.{◌≡◌, refl, sym, ap, subst, ◌∙◌}
 use mathlib.Core.List.{List, [], ◌∷◌, ◌++◌, flat_map, append-nil}
 use Prim.Native.Nat.{ℕ, suc, ◌+◌, ◌*◌, ◌-◌, ◌≤◌, ◌<◌}
 use native.Mathlib.Omega.{arith}
-use lib.ListN.{length, get_or, take, drop, length-append}
+use native.Mathlib.Numerals.{add-one}
+use lib.ListN.{length, get_or, drop, length-append}
 use lib.Seq.{drop-cons}
 use Rattle.slices.proofs.Lists.{flat_append}
 use Rattle.semantics.specs.Lists.{All}
 use Rattle.semantics.proofs.Lists.{all_front, all_back}
-use Rattle.records.specs.declared.Interaction.{Interaction}
-use Rattle.records.specs.Access.{words_from, each_words, RootsInside, AllRootsInside}
-use Rattle.records.proofs.Takings.{Taken, taken_words, taken_references}
+use Rattle.records.specs.Access.{message_length, each_words, RootsInside, AllRootsInside}
+use Rattle.std.proofs.lemmas.List.{drop_all}
 use Rattle.std.specs.Prelude.{Option, Some, None}
 use Rattle.group.specs.Grouped.{tally_all, tallied_total, tallied, CountedMore, non_zero, list_of, InPool, vars_named}
-use Rattle.grouping.specs.Families.{ToTally, interaction_in}
+use Rattle.grouping.specs.Families.{ToTally}
 use Rattle.group.proofs.Tallies.{tally_all_append, tally_all_grows, total_all}
 use Rattle.group.proofs.PoolLists.{non_zero_length}
 
--- The next of the words that a loop goes through, and the end.
-pub part_next : (ws : List ℕ) (at count j : ℕ) → j < count → at + count ≤ length ws
-    → words_from (at + j) (count - j) ws ≡ get_or ws (at + j) 0 ∷ words_from (at + (j + 1)) (count - (j + 1)) ws
-part_next ws at count j h l =
-    let k : count - j ≡ suc (count - (j + 1)) = omega arith in
-    let e : suc (at + j) ≡ at + (j + 1) = omega arith in
-    ap (λ (n : ℕ). take n (drop (at + j) ws)) k
-    ∙ ap (take (suc (count - (j + 1)))) (drop-cons ws (at + j) 0 (omega arith))
-    ∙ ap (λ (n : ℕ). get_or ws (at + j) 0 ∷ take (count - (j + 1)) (drop n ws)) e
-
-pub part_one : (ws : List ℕ) (at : ℕ) → at < length ws → words_from at 1 ws ≡ get_or ws at 0 ∷ []
-part_one ws at h = ap (take 1) (drop-cons ws at 0 h)
-
-pub part_end : (ws : List ℕ) (at count j : ℕ) → count ≤ j → words_from (at + j) (count - j) ws ≡ []
-part_end ws at count j h = let z : count - j ≡ 0 = omega arith in ap (λ (n : ℕ). take n (drop (at + j) ws)) z
+-- The next of the names that a loop goes through.
+pub names_next : (names : List ℕ) (j : ℕ) → j < length names → drop j names ≡ get_or names j 0 ∷ drop (j + 1) names
+names_next names j h = drop-cons names j 0 h ∙ ap (λ (k : ℕ). get_or names j 0 ∷ drop k names) (sym (add-one j))
 
 -- The interactions that a loop has not passed yet: those from `from` on.
 pub record Rest (ws : List ℕ) (count from i : ℕ) : Type 0 where
@@ -45,14 +33,14 @@ module _ {ws : List ℕ} {count from i : ℕ} (g : Rest ws count from i) (h : i 
   pub rest_next : RootsInside ws from
   rest_next = now.0
 
-  pub rest_more : {from' : ℕ} → from' ≡ (interaction_in ws from).next → Rest ws count from' (i + 1)
+  pub rest_more : {from' : ℕ} → from' ≡ from + (4 + message_length ws from) → Rest ws count from' (i + 1)
   rest_more e = record {
     upto = omega arith;
     inside = subst (λ (a : ℕ). AllRootsInside ws a (count - (i + 1))) (sym e) now.1;
   }
 
 -- The references of the next interaction, and the end.
-pub each_next : (one : ℕ → List ℕ) (ws : List ℕ) (from count i from' : ℕ) → i < count → from' ≡ (interaction_in ws from).next
+pub each_next : (one : ℕ → List ℕ) (ws : List ℕ) (from count i from' : ℕ) → i < count → from' ≡ from + (4 + message_length ws from)
     → each_words one ws from (count - i) ≡ one from ++ each_words one ws from' (count - (i + 1))
 unfolding each_words
 each_next one ws from count i from' h e =
@@ -132,57 +120,71 @@ module _ {H₀ : List ℕ} {n : ℕ} {P references H : List ℕ} {rows : ℕ} {l
           let b = ap length both in
           subst (CountedMore H' P (tally_all (vars_named P references) (tallied n H₀ P))) (sym p) (omega arith)
 
--- The words from `at` on name the records; j of them are passed.
-pub record NamesAt (ws : List ℕ) (at count : ℕ) (H₀ : List ℕ) (n : ℕ) (P H : List ℕ) (rows j : ℕ) : Type 0 where
-  pub upto : j ≤ count
-  pub left : NamesLeft H₀ n P (words_from at count ws) H rows (words_from (at + j) (count - j) ws)
+-- The first j names are passed.
+pub record NamesPassed (names H₀ : List ℕ) (n : ℕ) (P H : List ℕ) (rows j : ℕ) : Type 0 where
+  pub left : NamesLeft H₀ n P names H rows (drop j names)
 
-module _ {ws : List ℕ} {at count : ℕ} {H₀ : List ℕ} {n : ℕ} {P H : List ℕ} {rows j : ℕ} (g : NamesAt ws at count H₀ n P H rows j) where
-  pub at_done : count ≤ j → CountedMore H P (tally_all (vars_named P (words_from at count ws)) (tallied n H₀ P)) (Some rows)
-  at_done h = references_done g.left (part_end ws at count j h)
+module _ {names H₀ : List ℕ} {n : ℕ} {P H : List ℕ} {rows j : ℕ} (g : NamesPassed names H₀ n P H rows j) where
+  pub names_done : length names ≤ j → CountedMore H P (tally_all (vars_named P names) (tallied n H₀ P)) (Some rows)
+  names_done h = references_done g.left (drop_all j names h)
 
-  module _ (h : j < count) (l : at + count ≤ length ws) {r : ℕ} (e : r ≡ get_or ws (at + j) 0) where
+  module _ (h : j < length names) where
+    abbrev r : ℕ
+    r = get_or names j 0
+
     abbrev rest : List ℕ
-    rest = words_from (at + (j + 1)) (count - (j + 1)) ws
-
-    next_is : words_from (at + j) (count - j) ws ≡ (r ∷ []) ++ rest
-    next_is = part_next ws at count j h l ∙ ap (λ (x : ℕ). x ∷ rest) (sym e)
+    rest = drop (j + 1) names
 
     module _ (H' : List ℕ) (u : Option ℕ) (c : CountedMore H' P (tally_all (non_zero (list_of P r)) (tallied rows H P)) u) where
       named : CountedMore H' P (tally_all (vars_named P (r ∷ [])) (tallied rows H P)) u
       named = subst (λ (v : List (List ℕ)). CountedMore H' P (tally_all v (tallied rows H P)) u) (sym (vars_one P r)) c
 
-      pub at_more : length H' ≡ length H → {k : ℕ} → u ≡ Some k → NamesAt ws at count H₀ n P H' k (j + 1)
-      at_more z q = record { upto = omega arith; left = references_more g.left (r ∷ []) rest next_is H' u named z q }
+      pub names_more : length H' ≡ length H → {k : ℕ} → u ≡ Some k → NamesPassed names H₀ n P H' k (j + 1)
+      names_more z q = record { left = references_more g.left (r ∷ []) rest (names_next names j h) H' u named z q }
 
-      pub at_full : u ≡ None → {v : Option ℕ} → v ≡ None → CountedMore H' P (tally_all (vars_named P (words_from at count ws)) (tallied n H₀ P)) v
-      at_full q = references_full g.left (r ∷ []) rest next_is H' u named q
+      pub names_full : u ≡ None → {v : Option ℕ} → v ≡ None → CountedMore H' P (tally_all (vars_named P names) (tallied n H₀ P)) v
+      names_full q = references_full g.left (r ∷ []) rest (names_next names j h) H' u named q
 
 -- The same for interactions: `one` is what is taken of each, and i of them are passed.
-pub record EachAt (one : ℕ → List ℕ) (ws : List ℕ) (at count : ℕ) (H₀ : List ℕ) (n : ℕ) (P H : List ℕ) (rows from i : ℕ) : Type 0 where
+pub record EachPassed (one : ℕ → List ℕ) (ws : List ℕ) (at count : ℕ) (H₀ : List ℕ) (n : ℕ) (P H : List ℕ) (rows from i : ℕ) : Type 0 where
   pub rest : Rest ws count from i
   pub left : NamesLeft H₀ n P (each_words one ws at count) H rows (each_words one ws from (count - i))
 
-module _ {one : ℕ → List ℕ} {ws : List ℕ} {at count : ℕ} {H₀ : List ℕ} {n : ℕ} {P H : List ℕ} {rows from i : ℕ} (g : EachAt one ws at count H₀ n P H rows from i) where
+pub each_none : (one : ℕ → List ℕ) (ws : List ℕ) (at count : ℕ) (H : List ℕ) (n : ℕ) (P : List ℕ) → AllRootsInside ws at count
+    → ToTally n H P (each_words one ws at count) → {from : ℕ} → from ≡ at → EachPassed one ws at count H n P H n from 0
+each_none one ws at count H n P h t {from} e =
+    let z : count ≡ count - 0 = omega arith in
+    subst (λ (a : ℕ). EachPassed one ws at count H n P H n a 0) (sym e)
+    (record {
+      rest = record { upto = omega arith; inside = subst (AllRootsInside ws at) z h };
+      left = subst (λ (k : ℕ). NamesLeft H n P (each_words one ws at count) H n (each_words one ws at k)) z (record { ready = t; long = refl; same = refl });
+    })
+
+module _ {one : ℕ → List ℕ} {ws : List ℕ} {at count : ℕ} {H₀ : List ℕ} {n : ℕ} {P H : List ℕ} {rows from i : ℕ}
+    (g : EachPassed one ws at count H₀ n P H rows from i) where
   pub each_done : count ≤ i → CountedMore H P (tally_all (vars_named P (each_words one ws at count)) (tallied n H₀ P)) (Some rows)
   each_done h = references_done g.left (each_end one ws from count i h)
 
-  module _ (h : i < count) {place size : Interaction → ℕ} (t : Taken one ws place size) {x : Interaction} (e : x ≡ interaction_in ws from) where
-    abbrev behind : List ℕ
-    behind = each_words one ws x.next (count - (i + 1))
+  module _ (h : i < count) {names : List ℕ} (e : names ≡ one from) where
+    -- What is taken of the next interaction.
+    pub each_ready : ToTally rows H P names
+    each_ready =
+        subst (ToTally rows H P) (sym e)
+        (references_next g.left (one from) (each_words one ws (from + (4 + message_length ws from)) (count - (i + 1)))
+        (each_next one ws from count i (from + (4 + message_length ws from)) h refl))
 
-    next_each : each_words one ws from (count - i) ≡ words_from (place x) (size x) ws ++ behind
-    next_each = each_next one ws from count i x.next h (ap (λ (y : Interaction). y.next) e) ∙ ap (λ (l : List ℕ). l ++ behind) (sym (taken_words t e))
+    module _ (H' : List ℕ) (u : Option ℕ) (c : CountedMore H' P (tally_all (vars_named P names) (tallied rows H P)) u) where
+      taken : CountedMore H' P (tally_all (vars_named P (one from)) (tallied rows H P)) u
+      taken = subst (λ (l : List ℕ). CountedMore H' P (tally_all (vars_named P l) (tallied rows H P)) u) e c
 
-    pub each_ready : (place x + size x ≤ length ws) × ToTally rows H P (words_from (place x) (size x) ws)
-    each_ready = ((taken_references t e (rest_next g.rest h)).inside, references_next g.left (words_from (place x) (size x) ws) behind next_each)
-
-    module _ (H' : List ℕ) (u : Option ℕ) (c : CountedMore H' P (tally_all (vars_named P (words_from (place x) (size x) ws)) (tallied rows H P)) u) where
-      pub each_more : length H' ≡ length H → {k : ℕ} → u ≡ Some k → EachAt one ws at count H₀ n P H' k x.next (i + 1)
-      each_more z q = record {
-        rest = rest_more g.rest h (ap (λ (y : Interaction). y.next) e);
-        left = references_more g.left (words_from (place x) (size x) ws) behind next_each H' u c z q;
+      pub each_more : length H' ≡ length H → {k : ℕ} → u ≡ Some k → {from' : ℕ} → from' ≡ from + (4 + message_length ws from)
+          → EachPassed one ws at count H₀ n P H' k from' (i + 1)
+      each_more z q {from'} d = record {
+        rest = rest_more g.rest h d;
+        left = references_more g.left (one from) (each_words one ws from' (count - (i + 1))) (each_next one ws from count i from' h d) H' u taken z q;
       }
 
       pub each_full : u ≡ None → {v : Option ℕ} → v ≡ None → CountedMore H' P (tally_all (vars_named P (each_words one ws at count)) (tallied n H₀ P)) v
-      each_full q = references_full g.left (words_from (place x) (size x) ws) behind next_each H' u c q
+      each_full q =
+          references_full g.left (one from) (each_words one ws (from + (4 + message_length ws from)) (count - (i + 1)))
+          (each_next one ws from count i (from + (4 + message_length ws from)) h refl) H' u taken q

@@ -1,19 +1,24 @@
 -- The families of roots as a sheet's words name them: what counting their lists and placing their terms asks and does.
-use Rattle.std.specs.Prelude.{◌≡◌, Result, Ok, Err, List, [], ◌∷◌, ◌++◌, map, ℕ, zero, suc, ◌+◌, ◌*◌, ◌≤◌, ◌<◌, length, get_or, take}
+use Rattle.std.specs.Prelude.{◌≡◌, Result, Ok, Err, List, [], ◌∷◌, ◌++◌, map, ℕ, zero, suc, ◌+◌, ◌*◌, ◌≤◌, ◌<◌, length, take}
 use Rattle.semantics.specs.Sheet.{Sheet}
 use Rattle.semantics.specs.Check.{prime_of}
 use Rattle.semantics.specs.Monomial.{list_at}
 use Rattle.semantics.specs.Group.{Root, labelled, constraint_roots, count_roots, field_roots, Item, items, Group, groups, headers, variables, terms, layout}
 use Rattle.semantics.specs.Call.{first_short}
 use Rattle.semantics.specs.Lists.{All}
-use Rattle.records.specs.declared.Interaction as places
-use Rattle.records.specs.Access.{IsSheet, records_of, message_length, interaction_from, fields_at}
+use Rattle.records.specs.declared.Part.{Part}
+use Rattle.records.specs.declared.Part.TheVariants.{Count, Fields}
+use Rattle.records.specs.Access.{IsSheet, records_of, message_length, part_at}
 use Rattle.monomial.specs.Words.{Stored}
 use Rattle.grouping.specs.declared.Lengths.{Lengths}
 use Rattle.grouping.specs.declared.Short.{Short}
 use Rattle.grouping.specs.declared.Short.TheVariants.{Headers, Variables, Terms}
 use Rattle.grouping.specs.declared.Family.{Family}
-use Rattle.grouping.specs.declared.Family.TheVariants.{Constraints, Counts, Fields}
+use Rattle.grouping.specs.declared.Family.TheVariants as fam
+use Rattle.grouping.specs.declared.Family.TheVariants.{Constraints, Counts}
+use Rattle.grouping.specs.declared.families.Numbering.{Numbering}
+use Rattle.grouping.specs.declared.families.Numbering.TheVariants.{ByIndex, ByField}
+use Rattle.group.specs.declared.place.Label.{Label}
 use Rattle.group.specs.declared.place.Form.{Form}
 use Rattle.group.specs.declared.place.Form.TheVariants.{Constraint, Interaction}
 use Rattle.group.specs.Grouped.{Tally, tallied_total, tallied, Rows, list_of, InPool, term_width, Placing, ToPlace}
@@ -22,12 +27,12 @@ use Rattle.group.specs.Grouped.{Tally, tallied_total, tallied, Rows, list_of, In
 abbrev pub roots_of : Family → Sheet → List Root
 roots_of Constraints s = constraint_roots s
 roots_of Counts s = count_roots s
-roots_of Fields s = field_roots s
+roots_of fam.Fields s = field_roots s
 
 abbrev pub form_of : Family → Form
 form_of Constraints = Constraint
 form_of Counts = Interaction
-form_of Fields = Interaction
+form_of fam.Fields = Interaction
 
 -- The records of roots.
 unfoldable pub nodes_of : List Root → List ℕ
@@ -46,28 +51,37 @@ constraint_root j c = record { node = c; index = j; field = 0 } ∷ []
 abbrev pub field_root : (i j c : ℕ) → List Root
 field_root i j c = record { node = c; index = i; field = j } ∷ []
 
--- Where the words of the interaction at `at` stand.
-abbrev pub interaction_in : (ws : List ℕ) (at : ℕ) → places.Interaction
-interaction_in ws at = interaction_from at (message_length ws at)
+-- The label of name j, the form of its terms, and the roots of some names from name j on.
+abbrev pub label_as : Numbering → (j : ℕ) → Label
+label_as ByIndex j = record { form = Constraint; index = j; field = 0 }
+label_as (ByField i) j = record { form = Interaction; index = i; field = j }
+
+abbrev pub form_as : Numbering → Form
+form_as ByIndex = Constraint
+form_as (ByField i) = Interaction
+
+abbrev pub root_as : Numbering → (j c : ℕ) → Root
+root_as k j c = record { node = c; index = (label_as k j).index; field = (label_as k j).field }
+
+abbrev pub named_roots : Numbering → (j : ℕ) → List ℕ → List Root
+named_roots k j names = labelled (λ (j c : ℕ). root_as k j c ∷ []) j names
 
 -- The roots of n interactions from `at` on, numbered from i; `one` gives those of each.
 unfoldable pub each_roots : (one : (i at : ℕ) → List Root) (ws : List ℕ) (i at n : ℕ) → List Root
 each_roots one ws i at zero = []
-each_roots one ws i at (suc n) = one i at ++ each_roots one ws (suc i) (interaction_in ws at).next n
+each_roots one ws i at (suc n) = one i at ++ each_roots one ws (suc i) (at + (4 + message_length ws at)) n
 
--- The root of a count, and of the fields.
-abbrev pub count_root_at : (ws : List ℕ) (i at : ℕ) → List Root
-count_root_at ws i at = record { node = get_or ws (interaction_in ws at).count 0; index = i; field = 0 } ∷ []
+-- Those of a part of each: of the counts, or of the fields.
+abbrev pub part_roots_at : Part → (ws : List ℕ) (i at : ℕ) → List Root
+part_roots_at part ws i at = labelled (field_root i) 0 (part_at part ws at)
 
-abbrev pub field_roots_at : (ws : List ℕ) (i at : ℕ) → List Root
-field_roots_at ws i at = labelled (field_root i) 0 (fields_at ws at)
+abbrev pub part_roots : Part → (ws : List ℕ) (i at n : ℕ) → List Root
+part_roots part ws i at n = each_roots (part_roots_at part ws) ws i at n
 
--- The roots of n interactions from `at` on: the counts, and the fields.
-abbrev pub count_roots_from : (ws : List ℕ) (at n : ℕ) → List Root
-count_roots_from ws at n = each_roots (count_root_at ws) ws 0 at n
-
-abbrev pub field_roots_from : (ws : List ℕ) (at n : ℕ) → List Root
-field_roots_from ws at n = each_roots (field_roots_at ws) ws 0 at n
+-- The family of a part.
+abbrev pub family_of : Part → Family
+family_of Count = Counts
+family_of Fields = fam.Fields
 
 -- The n rows count few enough terms for a word to hold where each goes.
 abbrev pub FewTerms : (n : ℕ) (headers pool : List ℕ) → Type 0

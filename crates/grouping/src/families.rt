@@ -1,207 +1,118 @@
-// The families of roots: the lists of the records that words name are counted, and their terms are placed under the roots' labels.
-ghost use Rattle.std.specs.Prelude.{◌≡◌, [], ◌+◌, ◌≤◌, length};
+// The families of roots: the lists of the records that are named are counted, and their terms are placed under the roots' labels.
+ghost use Rattle.std.specs.Prelude.{◌≡◌, [], ◌≤◌, length};
 ghost use Rattle.semantics.specs.Check.{read_sheet};
-ghost use Rattle.semantics.specs.Group.{labelled, items};
+ghost use Rattle.semantics.specs.Group.{items};
 ghost use Rattle.semantics.specs.Call.{zeros};
-ghost use Rattle.records.specs.Access.{IsSheet, words_from, count_words, field_words, AllRootsInside};
-ghost use Rattle.group.specs.declared.place.Form.TheVariants.{Constraint, Interaction};
+ghost use Rattle.records.specs.Access.{IsSheet, interactions_at, part_words};
+ghost use Rattle.group.specs.declared.place.Form.TheVariants.{Interaction};
 ghost use Rattle.group.specs.Grouped.{tally_all, tallied, CountedMore, list_of, vars_named, Places};
-ghost use Rattle.grouping.specs.Families.{ToTally, constraint_root, field_root, count_roots_from, field_roots_from, ToPlaceRoots, Grouping, roots_of, form_of, nodes_of};
+ghost use Rattle.grouping.specs.Families.{ToTally, label_as, form_as, named_roots, part_roots, ToPlaceRoots, Grouping, roots_of, form_of, nodes_of};
 
 use crate::Family;
 use group::place;
 use group::place::{Form, Label};
+use records::Part;
 
-// Counts the lists of the records that the words from `at` on name.
-fn tally_references(
-    sheet: &[u32],
-    at: usize,
-    count: usize,
-    headers: &mut [u32],
-    n: usize,
-    pool: &[u32],
-) -> Option<usize>
-    requires { (at + count ≤ length sheet.now) × ToTally n headers.old pool.now (words_from at count sheet.now) }
+// How records that are named are labelled, each by its place among the names: as a constraint, or as a field of an interaction.
+#[derive(Clone, Copy, Debug, PartialEq, Eq)]
+pub enum Numbering {
+    ByIndex,
+    ByField(u32),
+}
+
+impl Numbering {
+    // The label of name j.
+    fn label(self, j: u32) -> Label
+        ensures { result ≡ label_as self j }
+    {
+        match self {
+            Numbering::ByIndex => Label {
+                form: Form::Constraint,
+                index: j,
+                field: 0,
+            },
+            Numbering::ByField(i) => Label {
+                form: Form::Interaction,
+                index: i,
+                field: j,
+            },
+        }
+    }
+}
+
+// Counts the lists of the records that are named.
+fn tally_references(names: &[u32], headers: &mut [u32], n: usize, pool: &[u32]) -> Option<usize>
+    requires { ToTally n headers.old pool.now names.now }
     ensures { CountedMore headers.new pool.now
-        (tally_all (vars_named pool.now (words_from at count sheet.now))
-        (tallied n headers.old pool.now)) result }
+        (tally_all (vars_named pool.now names.now) (tallied n headers.old pool.now)) result }
 {
     let mut rows = n;
-    let mut j: usize = 0;
-    while j < count {
-        let r = sheet[at + j] as usize;
-        rows = group::tally_root(headers, rows, pool, r)?;
-        j += 1;
+    for r in names {
+        rows = group::tally_root(headers, rows, pool, *r as usize)?;
     }
     Some(rows)
 }
 
-// Counts the lists of the counts of the interactions from `at` on.
-fn tally_counts(
-    sheet: &[u32],
-    at: usize,
-    count: usize,
-    headers: &mut [u32],
-    n: usize,
-    pool: &[u32],
-) -> Option<usize>
-    requires { AllRootsInside sheet.now at count
-        × ToTally n headers.old pool.now (count_words sheet.now at count) }
+// Counts the lists of a part of every interaction.
+fn tally_parts(sheet: &[u32], part: Part, headers: &mut [u32], pool: &[u32]) -> Option<usize>
+    requires { IsSheet sheet.now
+        × ToTally 0 headers.old pool.now (part_words part sheet.now (interactions_at sheet.now) (length (read_sheet sheet.now).interactions)) }
     ensures { CountedMore headers.new pool.now
-        (tally_all (vars_named pool.now (count_words sheet.now at count))
-        (tallied n headers.old pool.now)) result }
+        (tally_all (vars_named pool.now (part_words part sheet.now (interactions_at sheet.now) (length (read_sheet sheet.now).interactions)))
+        (tallied 0 headers.old pool.now)) result }
 {
-    let mut rows = n;
-    let mut from = at;
-    let mut i: usize = 0;
-    while i < count {
-        let x = records::interaction_at(sheet, from);
-        rows = tally_references(sheet, x.count, 1, headers, rows, pool)?;
-        from = x.next;
-        i += 1;
+    let mut rows = 0;
+    let mut at = records::interactions_at(sheet);
+    let count = records::num_interactions(sheet);
+    for _ in 0..count {
+        let names = records::part_at(sheet, at, part);
+        rows = tally_references(names, headers, rows, pool)?;
+        at = records::interaction_at(sheet, at).next;
     }
     Some(rows)
 }
 
-// Counts the lists of the fields of the interactions from `at` on.
-fn tally_fields(
-    sheet: &[u32],
-    at: usize,
-    count: usize,
-    headers: &mut [u32],
-    n: usize,
-    pool: &[u32],
-) -> Option<usize>
-    requires { AllRootsInside sheet.now at count
-        × ToTally n headers.old pool.now (field_words sheet.now at count) }
-    ensures { CountedMore headers.new pool.now
-        (tally_all (vars_named pool.now (field_words sheet.now at count))
-        (tallied n headers.old pool.now)) result }
-{
-    let mut rows = n;
-    let mut from = at;
-    let mut i: usize = 0;
-    while i < count {
-        let x = records::interaction_at(sheet, from);
-        rows = tally_references(sheet, x.fields, x.message, headers, rows, pool)?;
-        from = x.next;
-        i += 1;
-    }
-    Some(rows)
-}
-
-// Places the terms of the constraints that the words from `at` on name.
-fn place_constraints(
-    sheet: &[u32],
-    at: usize,
-    count: usize,
-    headers: &mut [u32],
-    n: usize,
-    pool: &[u32],
-    terms: &mut [u32],
-)
-    requires { (at + count ≤ length sheet.now) × (count ≤ 4294967295)
-        × ToPlaceRoots Constraint n headers.old pool.now terms.old (labelled constraint_root 0 (words_from at count sheet.now)) }
-    ensures { Places Constraint n pool.now headers.old terms.old
-        headers.new terms.new
-        (items (list_of pool.now) (labelled constraint_root 0 (words_from at count sheet.now))) }
-{
-    let mut j: usize = 0;
-    while j < count {
-        let r = sheet[at + j] as usize;
-        let label = Label {
-            form: Form::Constraint,
-            index: j as u32,
-            field: 0,
-        };
-        place::place_root(headers, n, pool, r, label, terms);
-        j += 1;
-    }
-}
-
-// Places the terms of the records that the words from `at` on name: the fields of interaction `index`, or its count.
+// Places the terms of the records that are named.
 fn place_references(
-    sheet: &[u32],
-    at: usize,
-    count: usize,
-    index: u32,
+    names: &[u32],
+    numbering: Numbering,
     headers: &mut [u32],
     n: usize,
     pool: &[u32],
     terms: &mut [u32],
 )
-    requires { (at + count ≤ length sheet.now) × (count ≤ 4294967295)
-        × ToPlaceRoots Interaction n headers.old pool.now terms.old (labelled (field_root index) 0 (words_from at count sheet.now)) }
-    ensures { Places Interaction n pool.now headers.old terms.old
-        headers.new terms.new
-        (items (list_of pool.now) (labelled (field_root index) 0 (words_from at count sheet.now))) }
+    requires { (length names.now ≤ 4294967295)
+        × ToPlaceRoots (form_as numbering) n headers.old pool.now terms.old (named_roots numbering 0 names.now) }
+    ensures { Places (form_as numbering) n pool.now headers.old terms.old headers.new terms.new
+        (items (list_of pool.now) (named_roots numbering 0 names.now)) }
 {
-    let mut j: usize = 0;
-    while j < count {
-        let r = sheet[at + j] as usize;
-        let label = Label {
-            form: Form::Interaction,
-            index: index,
-            field: j as u32,
-        };
-        place::place_root(headers, n, pool, r, label, terms);
-        j += 1;
+    for (j, r) in names.iter().enumerate() {
+        let label = numbering.label(j as u32);
+        place::place_root(headers, n, pool, *r as usize, label, terms);
     }
 }
 
-// Places the terms of the counts of the interactions from `at` on.
-fn place_counts(
+// Places the terms of a part of every interaction.
+fn place_parts(
     sheet: &[u32],
-    at: usize,
-    count: usize,
+    part: Part,
     headers: &mut [u32],
     n: usize,
     pool: &[u32],
     terms: &mut [u32],
 )
-    requires { AllRootsInside sheet.now at count × (count ≤ 4294967295)
+    requires { IsSheet sheet.now
         × ToPlaceRoots Interaction n headers.old pool.now terms.old
-        (count_roots_from sheet.now at count) }
-    ensures { Places Interaction n pool.now headers.old terms.old
-        headers.new terms.new
-        (items (list_of pool.now) (count_roots_from sheet.now at count)) }
+        (part_roots part sheet.now 0 (interactions_at sheet.now) (length (read_sheet sheet.now).interactions)) }
+    ensures { Places Interaction n pool.now headers.old terms.old headers.new terms.new
+        (items (list_of pool.now) (part_roots part sheet.now 0 (interactions_at sheet.now) (length (read_sheet sheet.now).interactions))) }
 {
-    let mut from = at;
-    let mut i: usize = 0;
-    while i < count {
-        let x = records::interaction_at(sheet, from);
-        place_references(sheet, x.count, 1, i as u32, headers, n, pool, terms);
-        from = x.next;
-        i += 1;
-    }
-}
-
-// Places the terms of the fields of the interactions from `at` on.
-fn place_fields(
-    sheet: &[u32],
-    at: usize,
-    count: usize,
-    headers: &mut [u32],
-    n: usize,
-    pool: &[u32],
-    terms: &mut [u32],
-)
-    requires { AllRootsInside sheet.now at count × (count ≤ 4294967295)
-        × ToPlaceRoots Interaction n headers.old pool.now terms.old
-        (field_roots_from sheet.now at count) }
-    ensures { Places Interaction n pool.now headers.old terms.old
-        headers.new terms.new
-        (items (list_of pool.now) (field_roots_from sheet.now at count)) }
-{
-    let mut from = at;
-    let mut i: usize = 0;
-    while i < count {
-        let x = records::interaction_at(sheet, from);
-        place_references(
-            sheet, x.fields, x.message, i as u32, headers, n, pool, terms,
-        );
-        from = x.next;
-        i += 1;
+    let mut at = records::interactions_at(sheet);
+    let count = records::num_interactions(sheet);
+    for i in 0..count {
+        let names = records::part_at(sheet, at, part);
+        place_references(names, Numbering::ByField(i as u32), headers, n, pool, terms);
+        at = records::interaction_at(sheet, at).next;
     }
 }
 
@@ -217,21 +128,9 @@ pub fn tally_family(
         (tally_all (vars_named pool.now (nodes_of (roots_of family (read_sheet sheet.now)))) []) result }
 {
     match family {
-        Family::Constraints => {
-            let at = records::constraints_at(sheet);
-            let count = records::num_constraints(sheet);
-            tally_references(sheet, at, count, headers, 0, pool)
-        }
-        Family::Counts => {
-            let at = records::interactions_at(sheet);
-            let count = records::num_interactions(sheet);
-            tally_counts(sheet, at, count, headers, 0, pool)
-        }
-        Family::Fields => {
-            let at = records::interactions_at(sheet);
-            let count = records::num_interactions(sheet);
-            tally_fields(sheet, at, count, headers, 0, pool)
-        }
+        Family::Constraints => tally_references(records::constraints(sheet), headers, 0, pool),
+        Family::Counts => tally_parts(sheet, Part::Count, headers, pool),
+        Family::Fields => tally_parts(sheet, Part::Fields, headers, pool),
     }
 }
 
@@ -252,19 +151,10 @@ pub fn place_family(
 {
     match family {
         Family::Constraints => {
-            let at = records::constraints_at(sheet);
-            let count = records::num_constraints(sheet);
-            place_constraints(sheet, at, count, headers, n, pool, terms);
+            let names = records::constraints(sheet);
+            place_references(names, Numbering::ByIndex, headers, n, pool, terms)
         }
-        Family::Counts => {
-            let at = records::interactions_at(sheet);
-            let count = records::num_interactions(sheet);
-            place_counts(sheet, at, count, headers, n, pool, terms);
-        }
-        Family::Fields => {
-            let at = records::interactions_at(sheet);
-            let count = records::num_interactions(sheet);
-            place_fields(sheet, at, count, headers, n, pool, terms);
-        }
+        Family::Counts => place_parts(sheet, Part::Count, headers, n, pool, terms),
+        Family::Fields => place_parts(sheet, Part::Fields, headers, n, pool, terms),
     }
 }

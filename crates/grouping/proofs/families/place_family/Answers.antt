@@ -1,50 +1,46 @@
--- Where the family's words start, and how many there are, is read of the sheet; then the terms of the records that they name are placed.
+-- The terms that are placed are those of the family's roots: of the constraints, or of a part of every interaction.
 use mathlib.Core.Path.{ap}
+use Rattle.records.specs.declared.Part.TheVariants.{Count, Fields}
 use Rattle.grouping.specs.Families.{form_of}
-use Rattle.grouping.proofs.RootItems.{constraint_span, constraint_labelled, interaction_span, count_labelled, field_labelled, named_ready, named_placed}
+use Rattle.grouping.proofs.RootItems.{constraint_roots_lem, constraints_few, part_roots_lem, roots_as, family_ready, family_placed}
 use Rattle.grouping.proofs.families.place_family.Goals as goal
 
-pub place_constraints-requires : goal.place_constraints-requires
-place_constraints-requires c =
+pub place_references-requires : goal.place_references-requires
+place_references-requires c =
     let ws = c.args.sheet.now in
-    let sheet = c.requires.0 in
-    let at = c.constraints_at-at.ensures in
-    let count = c.num_constraints-count.ensures in
-    let span = constraint_span ws sheet at count in
-    (span.0, span.1, named_ready (ap form_of c.in-Constraints.is) (constraint_labelled ws sheet at count c.in-Constraints.is) _ _ _ _ c.requires.1)
+    let p = c.requires in
+    let e = c.constraints-names.ensures in
+    let k = c.in-Constraints.is in
+    (constraints_few ws p.0 e, family_ready (ap form_of k) (roots_as ws k (constraint_roots_lem ws p.0 e)) _ _ _ _ p.1)
 
-pub place_counts-requires : goal.place_counts-requires
-place_counts-requires c =
+pub place_parts-requires : goal.place_parts-requires
+place_parts-requires c =
     let ws = c.args.sheet.now in
-    let sheet = c.requires.0 in
-    let at = c.interactions_at-at.ensures in
-    let count = c.num_interactions-count.ensures in
-    let span = interaction_span ws sheet at count in
-    (span.0, span.1, named_ready (ap form_of c.in-Counts.is) (count_labelled ws sheet at count c.in-Counts.is) _ _ _ _ c.requires.1)
+    let p = c.requires in
+    let k = c.in-Counts.is in
+    (p.0, family_ready (ap form_of k) (roots_as ws k (part_roots_lem ws p.0 Count)) _ _ _ _ p.1)
 
-pub place_fields-requires : goal.place_fields-requires
-place_fields-requires c =
+pub place_parts-requires-in-Fields : goal.place_parts-requires-in-Fields
+place_parts-requires-in-Fields c =
     let ws = c.args.sheet.now in
-    let sheet = c.requires.0 in
-    let at = c.interactions_at-at-in-Fields.ensures in
-    let count = c.num_interactions-count-in-Fields.ensures in
-    let span = interaction_span ws sheet at count in
-    (span.0, span.1, named_ready (ap form_of c.in-Fields.is) (field_labelled ws sheet at count c.in-Fields.is) _ _ _ _ c.requires.1)
+    let p = c.requires in
+    let k = c.in-Fields.is in
+    (p.0, family_ready (ap form_of k) (roots_as ws k (part_roots_lem ws p.0 Fields)) _ _ _ _ p.1)
 
 pub returns-in-Constraints : goal.returns-in-Constraints
 returns-in-Constraints c =
-    named_placed (ap form_of c.in-Constraints.is)
-    (constraint_labelled c.args.sheet.now c.requires.0 c.constraints_at-at.ensures c.num_constraints-count.ensures c.in-Constraints.is)
-    _ _ _ _ _ _ c.place_constraints.ensures
+    let ws = c.args.sheet.now in
+    let k = c.in-Constraints.is in
+    family_placed (ap form_of k) (roots_as ws k (constraint_roots_lem ws c.requires.0 c.constraints-names.ensures)) _ _ _ _ _ _ c.place_references.ensures
 
 pub returns-in-Counts : goal.returns-in-Counts
 returns-in-Counts c =
-    named_placed (ap form_of c.in-Counts.is)
-    (count_labelled c.args.sheet.now c.requires.0 c.interactions_at-at.ensures c.num_interactions-count.ensures c.in-Counts.is)
-    _ _ _ _ _ _ c.place_counts.ensures
+    let ws = c.args.sheet.now in
+    let k = c.in-Counts.is in
+    family_placed (ap form_of k) (roots_as ws k (part_roots_lem ws c.requires.0 Count)) _ _ _ _ _ _ c.place_parts.ensures
 
 pub returns-in-Fields : goal.returns-in-Fields
 returns-in-Fields c =
-    named_placed (ap form_of c.in-Fields.is)
-    (field_labelled c.args.sheet.now c.requires.0 c.interactions_at-at-in-Fields.ensures c.num_interactions-count-in-Fields.ensures c.in-Fields.is)
-    _ _ _ _ _ _ c.place_fields.ensures
+    let ws = c.args.sheet.now in
+    let k = c.in-Fields.is in
+    family_placed (ap form_of k) (roots_as ws k (part_roots_lem ws c.requires.0 Fields)) _ _ _ _ _ _ c.place_parts-in-Fields.ensures

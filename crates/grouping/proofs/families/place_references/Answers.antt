@@ -1,16 +1,17 @@
-use mathlib.Core.Path.{refl}
-use Rattle.grouping.proofs.RootItems.{roots_at_done, roots_at_ready, roots_at_more}
+use native.Mathlib.Omega.{arith}
+use Rattle.grouping.proofs.RootItems.{roots_none, named_done, named_ready, named_more}
 use Rattle.grouping.proofs.families.place_references.Goals as goal
 
+pub loop-j-init : goal.loop-j-init
+loop-j-init c = record { left = roots_none c.requires.1 }
+
 pub place_root-requires : goal.place_root-requires
-place_root-requires c =
-    roots_at_ready c.loop-j.invariant c.loop-j-test.true c.requires.0 refl
+place_root-requires c = named_ready c.loop-j.invariant (omega arith) c.label-label.ensures
 
 pub loop-j-preserved : goal.loop-j-preserved
 loop-j-preserved c =
     let place = c.place_root in
-    roots_at_more c.loop-j.invariant c.loop-j-test.true c.requires.0 refl
-    place.auto.headers place.auto.terms place.ensures
+    named_more c.loop-j.invariant (omega arith) c.label-label.ensures place.auto.headers place.auto.terms place.ensures
 
 pub returns : goal.returns
-returns c = roots_at_done c.loop-j.invariant c.loop-j-test.false
+returns c = named_done c.loop-j.invariant (omega arith)

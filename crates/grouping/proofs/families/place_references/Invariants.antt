@@ -1,12 +1,6 @@
--- Reference by reference. Kept: the terms of the references so far are placed, and there is room for those of the rest.
-use Rattle.group.specs.declared.place.Form.TheVariants.{Interaction}
-use Prim.Native.Nat.{◌-◌}
-use Rattle.grouping.proofs.RootItems.{RootsAt}
+-- Name by name. Kept: the terms of the lists so far are placed, and there is room for those of the rest.
+use Rattle.grouping.proofs.RootItems.{RootsPassed}
 use Rattle.grouping.proofs.families.place_references.Given as goal
 
 abbrev pub invariant-loop-j : goal.invariant-loop-j
-invariant-loop-j l =
-    RootsAt (λ k r. record { node = r; index = l.index; field = k }) Interaction l.sheet l.at l.count l.n l.pool l.initial.headers l.initial.terms l.headers l.terms l.j
-
-abbrev pub decreases-loop-j : goal.decreases-loop-j
-decreases-loop-j l = l.count - l.j
+invariant-loop-j l = RootsPassed l.numbering l.names l.n l.pool l.initial.headers l.initial.terms l.headers l.terms l.j
