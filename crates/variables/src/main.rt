@@ -4,9 +4,8 @@
 use answers::Refusal;
 use number_input::next_number;
 use packed_var::PackedVar;
-use std::fmt;
-use std::io;
 use std::io::Read;
+use std::{fmt, io};
 use symbolic_variable::{Entry, SymbolicVariable};
 
 // The calls, in the order of their numbers from 1.
