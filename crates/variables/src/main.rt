@@ -26,7 +26,7 @@ enum Call {
 
 // A number that is no call's.
 #[derive(Clone, Copy, Debug, PartialEq, Eq)]
-struct NoCall(usize);
+struct NoCall;
 
 impl TryFrom<usize> for Call {
     type Error = NoCall;
@@ -44,7 +44,7 @@ impl TryFrom<usize> for Call {
             9 => Ok(Call::IsFirst),
             10 => Ok(Call::IsLast),
             11 => Ok(Call::IsTransition),
-            _ => Err(NoCall(number)),
+            _ => Err(NoCall),
         }
     }
 }

@@ -26,7 +26,7 @@ enum Item {
 
 // A number that is no item's.
 #[derive(Clone, Copy, Debug, PartialEq, Eq)]
-struct NoItem(u32);
+struct NoItem;
 
 impl TryFrom<u32> for Item {
     type Error = NoItem;
@@ -37,7 +37,7 @@ impl TryFrom<u32> for Item {
             1 => Ok(Item::Call(Call::Build)),
             2 => Ok(Item::Call(Call::ExpandConstraints)),
             3 => Ok(Item::Call(Call::ExpandInteractions)),
-            _ => Err(NoItem(number)),
+            _ => Err(NoItem),
         }
     }
 }
