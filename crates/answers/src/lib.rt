@@ -4,6 +4,8 @@
 ghost use Rattle.std.specs.Prelude.{◌≡◌, ◌++◌, ◌-◌, length, take, replicate};
 ghost use Rattle.answers.specs.Replies.{number_of, count_of};
 
+use std::fmt;
+
 // Why a call refuses, in the order of the numbers that C is told.
 #[derive(Clone, Copy, Debug, PartialEq, Eq)]
 pub enum Reason {
@@ -52,4 +54,11 @@ pub fn zero_rest<T: Copy>(
 {
     slices::fill_from(out, written.unwrap_or(0), zero);
     written
+}
+
+impl fmt::Display for Refusal {
+    fn fmt<W: fmt::Write>(&self, f: &mut fmt::Formatter<W>) -> fmt::Result {
+        let number = self.reason.number();
+        write!(f, "refused {number} {}", self.place)
+    }
 }

@@ -6,6 +6,7 @@ ghost use Rattle.semantics.specs.Call.{variable_call};
 ghost use Rattle.packed_var.specs.Packed.{variable_record, refused_for, packed_outcome};
 
 use answers::{Reason, Refusal};
+use std::fmt;
 use symbolic_variable::{Entry, SymbolicVariable};
 
 // A number with its own type: bits 0 to 3 type, 4 to 11 part, 12 to 15 offset, 16 to 31 column. The order is the number's.
@@ -76,5 +77,11 @@ impl PackedVar {
         ensures { result.0 ≡ 10 }
     {
         PackedVar::new(10, 0, 0, 0)
+    }
+}
+
+impl fmt::Display for PackedVar {
+    fn fmt<W: fmt::Write>(&self, f: &mut fmt::Formatter<W>) -> fmt::Result {
+        write!(f, "{}", self.0)
     }
 }

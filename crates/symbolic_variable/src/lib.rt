@@ -7,6 +7,7 @@ ghost use Rattle.symbolic_variable.specs.Replies.{offset_outcome, offset_call, r
 ghost use Rattle.answers.specs.Replies.{answer_of};
 
 use answers::{Reason, Refusal};
+use std::fmt;
 
 #[derive(Clone, Copy, Debug, PartialEq, Eq)]
 pub enum Entry {
@@ -127,5 +128,24 @@ impl SymbolicVariable {
         ensures { rotated_variable_outcome result ≡ rotate_variable_call self 1 }
     {
         self.rotate(1)
+    }
+}
+
+// Three numbers: 0 preprocessed, 1 main, 2 challenge, 3 public; part; offset. 0 stands where there is no such number.
+impl fmt::Display for Entry {
+    fn fmt<W: fmt::Write>(&self, f: &mut fmt::Formatter<W>) -> fmt::Result {
+        match self {
+            Entry::Preprocessed { offset } => write!(f, "0 0 {offset}"),
+            Entry::Main { part_index, offset } => write!(f, "1 {part_index} {offset}"),
+            Entry::Challenge => write!(f, "2 0 0"),
+            Entry::Public => write!(f, "3 0 0"),
+        }
+    }
+}
+
+// The entry, then the column.
+impl fmt::Display for SymbolicVariable {
+    fn fmt<W: fmt::Write>(&self, f: &mut fmt::Formatter<W>) -> fmt::Result {
+        write!(f, "{} {}", self.entry, self.index)
     }
 }

@@ -1,159 +1,120 @@
 // Answers calls on entries and variables, one line for each case on standard input. oracle/README.md has the form of both.
 #![tactic(auto)]
 
-ghost use Rattle.std.specs.Prelude.{◌≡◌, IfOk, IfSome, slice_index};
-
 use answers::Refusal;
-use packed_var::{Packed, PackedVar};
-use std::io;
+use number_input::next_number;
+use packed_var::PackedVar;
 use std::io::Read;
-use symbolic_variable::{Entry, EntryOffset, Rotated, RotatedVariable, SymbolicVariable};
+use std::{fmt, io};
+use symbolic_variable::{Entry, SymbolicVariable};
 
-// The next byte, 0 at the end of the input.
-fn next_byte<R: Read>(input: &mut R) -> io::Result<u8>
-    ensures { IfOk result (λ b. IfSome (R.remaining input.old) (λ bytes. b ≡ slice_index bytes 0)) }
-{
-    let mut byte = [0u8; 1];
-    let n = input.read(&mut byte)?;
-    if n == 0 {
-        return Ok(0);
-    }
-    Ok(byte[0])
+// The calls, in the order of their numbers from 1.
+#[derive(Clone, Copy, Debug, PartialEq, Eq)]
+enum Call {
+    EntryOffset,
+    EntryRotate,
+    EntryNext,
+    VariableNew,
+    DegreeMultiple,
+    VariableRotate,
+    VariableNext,
+    FromSymbolicVar,
+    IsFirst,
+    IsLast,
+    IsTransition,
 }
 
-// The next number, which is below 2^64: its digits, then one byte that ends it.
-fn next_number(input: &mut impl Read) -> io::Result<usize> {
-    let mut value: usize = 0;
-    for _ in 0usize..21 {
-        let byte = next_byte(input)?;
-        if byte < 48 {
-            return Ok(value);
+// A number that is no call's.
+#[derive(Clone, Copy, Debug, PartialEq, Eq)]
+struct NoCall;
+
+impl TryFrom<usize> for Call {
+    type Error = NoCall;
+
+    fn try_from(number: usize) -> Result<Self, NoCall> {
+        match number {
+            1 => Ok(Call::EntryOffset),
+            2 => Ok(Call::EntryRotate),
+            3 => Ok(Call::EntryNext),
+            4 => Ok(Call::VariableNew),
+            5 => Ok(Call::DegreeMultiple),
+            6 => Ok(Call::VariableRotate),
+            7 => Ok(Call::VariableNext),
+            8 => Ok(Call::FromSymbolicVar),
+            9 => Ok(Call::IsFirst),
+            10 => Ok(Call::IsLast),
+            11 => Ok(Call::IsTransition),
+            _ => Err(NoCall),
         }
-        value = (value % 1844674407370955162 * 10).wrapping_add(usize::from(byte % 16));
     }
-    Ok(value)
+}
+
+impl fmt::Display for NoCall {
+    fn fmt<W: fmt::Write>(&self, f: &mut fmt::Formatter<W>) -> fmt::Result {
+        write!(f, "no call")
+    }
 }
 
 // The next three numbers: 0 preprocessed, 1 main, 2 challenge, 3 public; part; offset.
 fn next_entry(input: &mut impl Read) -> io::Result<Entry> {
-    let entry = next_number(input)?;
+    let entry: usize = next_number(input)?;
     let part_index = next_number(input)?;
     let offset = next_number(input)?;
-    if entry == 0 {
-        return Ok(Entry::Preprocessed { offset });
-    }
-    if entry == 1 {
-        return Ok(Entry::Main { part_index, offset });
-    }
-    if entry == 2 {
-        return Ok(Entry::Challenge);
-    }
-    Ok(Entry::Public)
+    Ok(match entry {
+        0 => Entry::Preprocessed { offset },
+        1 => Entry::Main { part_index, offset },
+        2 => Entry::Challenge,
+        _ => Entry::Public,
+    })
 }
 
-fn print(rt: &impl Print, text: &[u8]) -> io::Result<()> {
-    rt.write_all(text)
-}
-
-fn print_number(rt: &impl Print, n: usize) -> io::Result<()> {
-    rt.print(n)
-}
-
-fn print_words(rt: &impl Print, entry: usize, part: usize, offset: usize) -> io::Result<()> {
-    print_number(rt, entry)?;
-    print(rt, b" ")?;
-    print_number(rt, part)?;
-    print(rt, b" ")?;
-    print_number(rt, offset)
-}
-
-fn print_entry(rt: &impl Print, entry: Entry) -> io::Result<()> {
-    match entry {
-        Entry::Preprocessed { offset } => print_words(rt, 0, 0, offset),
-        Entry::Main { part_index, offset } => print_words(rt, 1, part_index, offset),
-        Entry::Challenge => print_words(rt, 2, 0, 0),
-        Entry::Public => print_words(rt, 3, 0, 0),
+// The line of a call that may refuse.
+fn print_answer<T: fmt::Display + Drop>(
+    rt: &impl Print,
+    answer: Result<T, Refusal>,
+) -> io::Result<()> {
+    match answer {
+        Ok(x) => rt.println(x),
+        Err(refusal) => rt.println(refusal),
     }
 }
 
-fn print_variable(rt: &impl Print, var: SymbolicVariable) -> io::Result<()> {
-    let entry = var.entry;
-    print_entry(rt, entry)?;
-    print(rt, b" ")?;
-    print_number(rt, var.index)
-}
-
-fn print_refusal(rt: &impl Print, refusal: Refusal) -> io::Result<()> {
-    print(rt, b"refused ")?;
-    print_number(rt, refusal.number as usize)?;
-    print(rt, b" ")?;
-    print_number(rt, refusal.place)
-}
-
-fn print_offset(rt: &impl Print, offset: EntryOffset) -> io::Result<()> {
-    match offset {
-        EntryOffset::At(n) => print_number(rt, n),
-        EntryOffset::Nowhere => print(rt, b"none"),
-    }
-}
-
-fn print_rotated(rt: &impl Print, rotated: Rotated) -> io::Result<()> {
-    match rotated {
-        Rotated::To(entry) => print_entry(rt, entry),
-        Rotated::Refused(refusal) => print_refusal(rt, refusal),
-    }
-}
-
-fn print_rotated_variable(rt: &impl Print, rotated: RotatedVariable) -> io::Result<()> {
-    match rotated {
-        RotatedVariable::To(var) => print_variable(rt, var),
-        RotatedVariable::Refused(refusal) => print_refusal(rt, refusal),
-    }
-}
-
-fn print_packed_var(rt: &impl Print, v: PackedVar) -> io::Result<()> {
-    print_number(rt, v.0 as usize)
-}
-
-fn print_packed(rt: &impl Print, packed: Packed) -> io::Result<()> {
-    match packed {
-        Packed::Var(v) => print_packed_var(rt, v),
-        Packed::Refused(refusal) => print_refusal(rt, refusal),
-    }
-}
-
-// The calls by their numbers.
-fn answer(rt: &impl Print, call: usize, entry: Entry, column: usize, by: usize) -> io::Result<()> {
+// The line of a call on an entry, a variable of that entry, or none of both.
+fn answer(rt: &impl Print, call: Call, entry: Entry, column: usize, by: usize) -> io::Result<()> {
     let var = SymbolicVariable::new(entry, column);
     match call {
-        1 => print_offset(rt, entry.offset()),
-        2 => print_rotated(rt, entry.rotate(by)),
-        3 => print_rotated(rt, entry.next()),
-        4 => print_variable(rt, var),
-        5 => print_number(rt, var.degree_multiple()),
-        6 => print_rotated_variable(rt, var.rotate(by)),
-        7 => print_rotated_variable(rt, var.next()),
-        8 => print_packed(rt, PackedVar::from_symbolic_var(var)),
-        9 => print_packed_var(rt, PackedVar::is_first()),
-        10 => print_packed_var(rt, PackedVar::is_last()),
-        11 => print_packed_var(rt, PackedVar::is_transition()),
-        _ => print(rt, b"no call"),
+        Call::EntryOffset => match entry.offset() {
+            Some(offset) => rt.println(offset),
+            None => rt.println("none"),
+        },
+        Call::EntryRotate => print_answer(rt, entry.rotate(by)),
+        Call::EntryNext => print_answer(rt, entry.next()),
+        Call::VariableNew => rt.println(var),
+        Call::DegreeMultiple => rt.println(var.degree_multiple()),
+        Call::VariableRotate => print_answer(rt, var.rotate(by)),
+        Call::VariableNext => print_answer(rt, var.next()),
+        Call::FromSymbolicVar => print_answer(rt, PackedVar::from_symbolic_var(var)),
+        Call::IsFirst => rt.println(PackedVar::is_first()),
+        Call::IsLast => rt.println(PackedVar::is_last()),
+        Call::IsTransition => rt.println(PackedVar::is_transition()),
     }
 }
 
 // The next case: the call, the entry, the column, and by how much it is rotated.
 fn next_case(rt: &impl Print, input: &mut impl Read) -> io::Result<()> {
-    let call = next_number(input)?;
+    let number: usize = next_number(input)?;
     let entry = next_entry(input)?;
     let column = next_number(input)?;
     let by = next_number(input)?;
-    answer(rt, call, entry, column, by)?;
-    print(rt, b"\n")
+    match Call::try_from(number) {
+        Ok(call) => answer(rt, call, entry, column, by),
+        Err(no_call) => rt.println(no_call),
+    }
 }
 
 fn main(rt: HostRuntime) -> io::Result<()> {
     let mut input = rt.stdin();
-    let count = next_number(&mut input)?;
+    let count: usize = next_number(&mut input)?;
     for _ in 0..count {
         next_case(&rt, &mut input)?;
     }

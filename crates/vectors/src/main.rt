@@ -1,54 +1,53 @@
 // Replays stored answers: for each sheet on standard input the calls must answer as written behind it. oracle/README.md has the form of the input.
 #![tactic(auto)]
 
-ghost use Rattle.std.specs.Prelude.{◌≡◌, ◌≤◌, length, IfOk, IfSome, slice_index};
+ghost use Rattle.std.specs.Prelude.{◌≤◌, length, IfOk};
 
-use answers::{Refusal, Written};
-use constraint_lists::ConstraintLists;
+use answers::Refusal;
 use grouping::Lengths;
-use interaction_lists::{InteractionLengths, InteractionLists};
+use number_input::next_number;
 use std::io;
 use std::io::Read;
 
-// The next byte, 0 at the end of the input.
-fn next_byte<R: Read>(input: &mut R) -> io::Result<u8>
-    ensures { IfOk result (λ b. IfSome (R.remaining input.old) (λ bytes. b ≡ slice_index bytes 0)) }
-{
-    let mut byte = [0u8; 1];
-    let n = input.read(&mut byte)?;
-    if n == 0 {
-        return Ok(0);
-    }
-    Ok(byte[0])
+// A call whose answers are stored.
+#[derive(Clone, Copy, Debug, PartialEq, Eq)]
+enum Call {
+    Build,
+    ExpandConstraints,
+    ExpandInteractions,
 }
 
-// A number below 2^32 as a word.
-fn word(n: u64) -> u32 {
-    (n % 4294967296) as u32
+// What stands in the input: a sheet, or a call on the sheet before it.
+#[derive(Clone, Copy, Debug, PartialEq, Eq)]
+enum Item {
+    Sheet,
+    Call(Call),
 }
 
-// The next number, which is below 2^32: its digits, then one byte that ends it.
-fn next_number(input: &mut impl Read) -> io::Result<u32> {
-    let mut value: u64 = 0;
-    for _ in 0usize..11 {
-        let byte = next_byte(input)?;
-        if byte < 48 {
-            return Ok(word(value));
+// A number that is no item's.
+#[derive(Clone, Copy, Debug, PartialEq, Eq)]
+struct NoItem;
+
+impl TryFrom<u32> for Item {
+    type Error = NoItem;
+
+    fn try_from(number: u32) -> Result<Self, NoItem> {
+        match number {
+            0 => Ok(Item::Sheet),
+            1 => Ok(Item::Call(Call::Build)),
+            2 => Ok(Item::Call(Call::ExpandConstraints)),
+            3 => Ok(Item::Call(Call::ExpandInteractions)),
+            _ => Err(NoItem),
         }
-        value = value % 429496730 * 10 + u64::from(byte % 16);
     }
-    Ok(word(value))
 }
 
 // The next number, or the most that it may be.
 fn next_length(input: &mut impl Read, most: usize) -> io::Result<usize>
     ensures { IfOk result (λ n. n ≤ most) }
 {
-    let n = answers::wide(next_number(input)?);
-    if most < n {
-        return Ok(most);
-    }
-    Ok(n)
+    let n: usize = next_number(input)?;
+    Ok(n.min(most))
 }
 
 // Reads how many words a sheet has, and the words.
@@ -56,224 +55,105 @@ fn read_sheet(input: &mut impl Read, sheet: &mut [u32]) -> io::Result<usize>
     ensures { IfOk result (λ n. n ≤ length sheet.new) }
 {
     let n = next_length(input, sheet.len())?;
-    for i in 0..n {
-        sheet[i] = next_number(input)?;
+    for word in &mut sheet[..n] {
+        *word = next_number(input)?;
     }
     Ok(n)
 }
 
-// Whether the next number is this one; where it is not, or `before` was not so, the answer is no.
-fn same_number(input: &mut impl Read, before: bool, n: usize) -> io::Result<bool> {
-    let next = answers::wide(next_number(input)?);
-    if next == n {
-        return Ok(before);
-    }
-    Ok(false)
+// The front of a buffer, as long as the next number says.
+fn lent<'a>(input: &mut impl Read, buffer: &'a mut [u32]) -> io::Result<&'a mut [u32]> {
+    let n = next_length(input, buffer.len())?;
+    Ok(&mut buffer[..n])
 }
 
-// The same for the first n of these words.
-fn same_words(input: &mut impl Read, before: bool, words: &[u32], n: usize) -> io::Result<bool> {
-    let mut same = before;
-    for i in 0..n {
-        if words.len() <= i {
-            return Ok(false);
-        }
-        same = same_number(input, same, answers::wide(words[i]))?;
+// Whether this is the next number.
+fn same_number(input: &mut impl Read, n: usize) -> io::Result<bool> {
+    let next: usize = next_number(input)?;
+    Ok(next == n)
+}
+
+// Whether the next list is the first n of these words: how many, then each.
+fn same_list(input: &mut impl Read, words: &[u32], n: usize) -> io::Result<bool> {
+    let Some(front) = words.get(..n) else {
+        return Ok(false);
+    };
+    let mut same = same_number(input, n)?;
+    for &word in front {
+        same &= same_number(input, word as usize)?;
     }
     Ok(same)
 }
 
-// The same for a list: how many words, then each.
-fn same_list(input: &mut impl Read, before: bool, words: &[u32], n: usize) -> io::Result<bool> {
-    let count = same_number(input, before, n)?;
-    same_words(input, count, words, n)
+// Whether the next two numbers are the answer's number and place: 0 and 0 where the call accepts.
+fn same_reply<T: Copy>(input: &mut impl Read, answer: Result<T, Refusal>) -> io::Result<bool> {
+    let (number, place) = match answer {
+        Ok(_) => (0, 0),
+        Err(refusal) => (refusal.reason.number(), refusal.place),
+    };
+    Ok(same_number(input, number as usize)? & same_number(input, place)?)
 }
 
-// The same for a refusal.
-fn same_refusal(input: &mut impl Read, r: Refusal) -> io::Result<bool> {
-    let number = same_number(input, true, answers::wide(r.number))?;
-    same_number(input, number, r.place)
+// The three lists that an expansion writes.
+#[derive(Clone, Copy)]
+struct Lists<'a> {
+    headers: &'a [u32],
+    variables: &'a [u32],
+    terms: &'a [u32],
 }
 
-// The same for three lists.
-fn same_lists(
-    input: &mut impl Read,
-    before: bool,
-    n: Lengths,
-    headers: &[u32],
-    variables: &[u32],
-    terms: &[u32],
-) -> io::Result<bool> {
-    let first = same_list(input, before, headers, n.headers)?;
-    let second = same_list(input, first, variables, n.variables)?;
-    same_list(input, second, terms, n.terms)
+impl<'a> Lists<'a> {
+    // Whether the next three lists are these, as far as they are written.
+    fn same(self, input: &mut impl Read, n: Lengths) -> io::Result<bool> {
+        Ok(
+            same_list(input, self.headers, n.headers)?
+                & same_list(input, self.variables, n.variables)?
+                & same_list(input, self.terms, n.terms)?,
+        )
+    }
 }
 
 // A call of the builder: the words lent of scratch and output, then number and place; where it accepts, the graph.
-fn replay_build(
-    input: &mut impl Read,
-    sheet: &[u32],
-    scratch: &mut [u32],
-    out: &mut [u32],
-) -> io::Result<bool> {
-    let a = next_length(input, scratch.len())?;
-    let b = next_length(input, out.len())?;
-    let built = dag::build(sheet, &mut scratch[..a], &mut out[..b]);
-    match built {
-        Written::Words(n) => {
-            let accepted = same_refusal(
-                input,
-                Refusal {
-                    number: 0,
-                    place: 0,
-                },
-            )?;
-            same_list(input, accepted, out, n)
-        }
-        Written::Refused(r) => same_refusal(input, r),
-    }
-}
-
-fn build_again(input: &mut impl Read, sheet: &[u32]) -> io::Result<bool> {
+fn replay_build(input: &mut impl Read, sheet: &[u32]) -> io::Result<bool> {
     let mut scratch = [0u32; 4096];
     let mut out = [0u32; 4096];
-    replay_build(input, sheet, &mut scratch, &mut out)
+    let scratch = lent(input, &mut scratch)?;
+    let out = lent(input, &mut out)?;
+    let built = dag::build(sheet, scratch, out);
+    let same = same_reply(input, built)?;
+    let Ok(n) = built else {
+        return Ok(same);
+    };
+    Ok(same & same_list(input, out, n)?)
 }
 
 // A call of the constraint expansion: the words lent, number and place; where it accepts, the three lists.
-fn replay_constraints(
-    input: &mut impl Read,
-    sheet: &[u32],
-    work: &mut [u32],
-    pool: &mut [u32],
-    headers: &mut [u32],
-    variables: &mut [u32],
-    terms: &mut [u32],
-) -> io::Result<bool> {
-    let a = next_length(input, work.len())?;
-    let b = next_length(input, pool.len())?;
-    let c = next_length(input, headers.len())?;
-    let d = next_length(input, variables.len())?;
-    let e = next_length(input, terms.len())?;
-    let lists = expansion::expand_constraints(
-        sheet,
-        &mut work[..a],
-        &mut pool[..b],
-        &mut headers[..c],
-        &mut variables[..d],
-        &mut terms[..e],
-    );
-    match lists {
-        ConstraintLists::Written(n) => {
-            let accepted = same_refusal(
-                input,
-                Refusal {
-                    number: 0,
-                    place: 0,
-                },
-            )?;
-            same_lists(input, accepted, n, headers, variables, terms)
-        }
-        ConstraintLists::Refused(r) => same_refusal(input, r),
-    }
-}
-
-fn constraints_again(input: &mut impl Read, sheet: &[u32]) -> io::Result<bool> {
+fn replay_constraints(input: &mut impl Read, sheet: &[u32]) -> io::Result<bool> {
     let mut work = [0u32; 4096];
     let mut pool = [0u32; 8192];
     let mut headers = [0u32; 1024];
     let mut variables = [0u32; 1024];
     let mut terms = [0u32; 1024];
-    replay_constraints(
-        input,
-        sheet,
-        &mut work,
-        &mut pool,
-        &mut headers,
-        &mut variables,
-        &mut terms,
-    )
-}
-
-// Whether the interaction expansion is accepted with these lists and numbers.
-fn same_interactions(
-    input: &mut impl Read,
-    n: InteractionLengths,
-    headers: &[u32],
-    variables: &[u32],
-    terms: &[u32],
-    denom_headers: &[u32],
-    denom_variables: &[u32],
-    denom_terms: &[u32],
-) -> io::Result<bool> {
-    let accepted = same_refusal(
-        input,
-        Refusal {
-            number: 0,
-            place: 0,
-        },
-    )?;
-    let first = same_lists(input, accepted, n.numerators, headers, variables, terms)?;
-    let second = same_lists(
-        input,
-        first,
-        n.denominators,
-        denom_headers,
-        denom_variables,
-        denom_terms,
-    )?;
-    let count = same_number(input, second, n.num_interactions)?;
-    same_number(input, count, n.max_fields_len)
+    let work = lent(input, &mut work)?;
+    let pool = lent(input, &mut pool)?;
+    let headers = lent(input, &mut headers)?;
+    let variables = lent(input, &mut variables)?;
+    let terms = lent(input, &mut terms)?;
+    let written = expansion::expand_constraints(sheet, work, pool, headers, variables, terms);
+    let same = same_reply(input, written)?;
+    let Ok(n) = written else {
+        return Ok(same);
+    };
+    let lists = Lists {
+        headers,
+        variables,
+        terms,
+    };
+    Ok(same & lists.same(input, n)?)
 }
 
 // A call of the interaction expansion: the same with six lists, and the two numbers at the end.
-fn replay_interactions(
-    input: &mut impl Read,
-    sheet: &[u32],
-    work: &mut [u32],
-    pool: &mut [u32],
-    headers: &mut [u32],
-    variables: &mut [u32],
-    terms: &mut [u32],
-    denom_headers: &mut [u32],
-    denom_variables: &mut [u32],
-    denom_terms: &mut [u32],
-) -> io::Result<bool> {
-    let a = next_length(input, work.len())?;
-    let b = next_length(input, pool.len())?;
-    let c = next_length(input, headers.len())?;
-    let d = next_length(input, variables.len())?;
-    let e = next_length(input, terms.len())?;
-    let f = next_length(input, denom_headers.len())?;
-    let g = next_length(input, denom_variables.len())?;
-    let h = next_length(input, denom_terms.len())?;
-    let lists = expansion::expand_interactions(
-        sheet,
-        &mut work[..a],
-        &mut pool[..b],
-        &mut headers[..c],
-        &mut variables[..d],
-        &mut terms[..e],
-        &mut denom_headers[..f],
-        &mut denom_variables[..g],
-        &mut denom_terms[..h],
-    );
-    match lists {
-        InteractionLists::Written(n) => same_interactions(
-            input,
-            n,
-            headers,
-            variables,
-            terms,
-            denom_headers,
-            denom_variables,
-            denom_terms,
-        ),
-        InteractionLists::Refused(r) => same_refusal(input, r),
-    }
-}
-
-fn interactions_again(input: &mut impl Read, sheet: &[u32]) -> io::Result<bool> {
+fn replay_interactions(input: &mut impl Read, sheet: &[u32]) -> io::Result<bool> {
     let mut work = [0u32; 4096];
     let mut pool = [0u32; 8192];
     let mut headers = [0u32; 1024];
@@ -282,87 +162,79 @@ fn interactions_again(input: &mut impl Read, sheet: &[u32]) -> io::Result<bool> 
     let mut denom_headers = [0u32; 1024];
     let mut denom_variables = [0u32; 1024];
     let mut denom_terms = [0u32; 1024];
-    replay_interactions(
-        input,
+    let work = lent(input, &mut work)?;
+    let pool = lent(input, &mut pool)?;
+    let headers = lent(input, &mut headers)?;
+    let variables = lent(input, &mut variables)?;
+    let terms = lent(input, &mut terms)?;
+    let denom_headers = lent(input, &mut denom_headers)?;
+    let denom_variables = lent(input, &mut denom_variables)?;
+    let denom_terms = lent(input, &mut denom_terms)?;
+    let written = expansion::expand_interactions(
         sheet,
-        &mut work,
-        &mut pool,
-        &mut headers,
-        &mut variables,
-        &mut terms,
-        &mut denom_headers,
-        &mut denom_variables,
-        &mut denom_terms,
+        work,
+        pool,
+        headers,
+        variables,
+        terms,
+        denom_headers,
+        denom_variables,
+        denom_terms,
+    );
+    let same = same_reply(input, written)?;
+    let Ok(n) = written else {
+        return Ok(same);
+    };
+    let numerators = Lists {
+        headers,
+        variables,
+        terms,
+    };
+    let denominators = Lists {
+        headers: denom_headers,
+        variables: denom_variables,
+        terms: denom_terms,
+    };
+    Ok(
+        same & numerators.same(input, n.numerators)?
+            & denominators.same(input, n.denominators)?
+            & same_number(input, n.num_interactions)?
+            & same_number(input, n.max_fields_len)?,
     )
 }
 
-// Whether a call answers as written: 1 the builder, 2 the constraint expansion, 3 the interaction expansion.
-fn replay_call(input: &mut impl Read, kind: u32, sheet: &[u32]) -> io::Result<bool> {
-    if kind == 1 {
-        return build_again(input, sheet);
+// Whether a call on the sheet answers as written.
+fn replay_call(input: &mut impl Read, call: Call, sheet: &[u32]) -> io::Result<bool> {
+    match call {
+        Call::Build => replay_build(input, sheet),
+        Call::ExpandConstraints => replay_constraints(input, sheet),
+        Call::ExpandInteractions => replay_interactions(input, sheet),
     }
-    if kind == 2 {
-        return constraints_again(input, sheet);
-    }
-    if kind == 3 {
-        return interactions_again(input, sheet);
-    }
-    Ok(false)
 }
 
-// The same for the sheet of n words.
-fn replay_words(input: &mut impl Read, kind: u32, words: &[u32], n: usize) -> io::Result<bool>
-    requires { n ≤ length words.now }
-{
-    replay_call(input, kind, &words[..n])
-}
-
-// Item i: where it is a sheet, its words are read; otherwise the sheet stays.
-fn next_sheet(input: &mut impl Read, kind: u32, sheet: &mut [u32], n: usize) -> io::Result<usize>
-    requires { n ≤ length sheet.old }
-    ensures { IfOk result (λ words. words ≤ length sheet.new) }
-{
-    if kind == 0 {
-        return read_sheet(input, sheet);
-    }
-    Ok(n)
-}
-
-// Item i: where it is a call that does not answer as written, says so and hands back 1.
-fn next_call(
-    rt: &impl Print,
-    input: &mut impl Read,
-    i: usize,
-    kind: u32,
-    sheet: &[u32],
-    n: usize,
-) -> io::Result<usize>
-    requires { n ≤ length sheet.now }
-    ensures { IfOk result (λ differ. differ ≤ 1) }
-{
-    if kind == 0 {
-        return Ok(0);
-    }
-    if replay_words(input, kind, sheet, n)? {
-        return Ok(0);
-    }
-    println!(rt; "item {i} differs")?;
-    Ok(1)
-}
-
-// Replays so many items, counted from 0, and hands back how many differ.
+// Replays so many items, counted from 0, says which differ, and hands back how many.
 fn replay(
     rt: &impl Print,
     input: &mut impl Read,
     sheet: &mut [u32],
     count: usize,
 ) -> io::Result<usize> {
-    let mut n: usize = 0;
-    let mut differ: usize = 0;
+    let mut n = 0;
+    let mut differ = 0;
     for i in 0..count {
-        let kind = next_number(input)?;
-        n = next_sheet(input, kind, sheet, n)?;
-        differ += next_call(rt, input, i, kind, sheet, n)?;
+        let number: u32 = next_number(input)?;
+        let same = match Item::try_from(number) {
+            Ok(Item::Sheet) => {
+                n = read_sheet(input, sheet)?;
+                true
+            }
+            Ok(Item::Call(call)) => replay_call(input, call, &sheet[..n])?,
+            Err(_) => false,
+        };
+        if !same {
+            println!(rt; "item {i} differs")?;
+            differ += 1;
+        }
     }
     Ok(differ)
 }

@@ -3,4 +3,4 @@ use Rattle.std.proofs.Common.{◌≤◌, length}
 use Rattle.vectors.proofs.replay.Given as goal
 
 abbrev pub invariant-loop-i : goal.invariant-loop-i
-invariant-loop-i g l = (l.n ≤ length l.sheet) × (l.differ ≤ l.i)
+invariant-loop-i g l = (l.n ≤ length l.sheet) × (l.differ ≤ l.i-counter)
