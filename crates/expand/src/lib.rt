@@ -1,7 +1,7 @@
 // The walk of an expansion: each reached record is expanded once, after its children, and its list is kept in the pool.
 #![tactic(auto)]
 
-ghost use Rattle.std.specs.Prelude.{◌≡◌, ℕ, length};
+ghost use Rattle.std.specs.Prelude.{ℕ, length};
 ghost use Rattle.semantics.specs.Check.{prime_of};
 ghost use Rattle.semantics.specs.Walk.{Below};
 ghost use Rattle.semantics.specs.Monomial.{list_at};
