@@ -14,6 +14,6 @@ returns c =
     let start = c.new-text in
     let long : length start.result.bytes.now ≡ 65536 = ap length start.ensures.bytes ∙ c.told-out in
     let count = c.count-printed.ensures in (
-      whole c.args.bytes.now start.result long start.ensures.front c.put_bytes.ensures count c.zero_bytes_from.ensures,
+      whole c.args.bytes.now start.result long start.ensures.front c.put_bytes.ensures count c.fill_from.ensures,
       count ∙ printed c.args.bytes.now start.result long start.ensures.front c.put_bytes.ensures,
     )
