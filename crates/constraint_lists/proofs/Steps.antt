@@ -25,7 +25,7 @@ use Rattle.expand.specs.Walking.{PoolHolds, Expands}
 use Rattle.grouping.specs.declared.Lengths.{Lengths}
 use Rattle.grouping.specs.Families.{short_number, groups_of, Front, Laid}
 use Rattle.grouping.specs.declared.Short.{Short}
-use Rattle.grouping.specs.declared.Short.TheVariants.{Headers, Variables, Terms}
+use Rattle.grouping.proofs.Slices.{short_number_some}
 use Rattle.constraint_lists.specs.Lists.{ListsFit, constraint_answer, constraints_in, Fit}
 
 module _ (work pool : ℕ) (lent : List ℕ) (roots : Sheet → List Root) (outputs : Sheet → List (List ℕ)) (numbers : Sheet → List ℕ)
@@ -91,12 +91,6 @@ written_inside term gs h v t a (z, fh, fv, ft, eh, ev, et) = (
   subst (λ (n : ℕ). n ≤ length t) (sym et) ft.0,
 )
 
--- The first slice that is too short has a number.
-pub numbered : (s : Short) → short_number s ≡ 0 → ⊥
-numbered Headers e = absurd (omega (arith, e))
-numbered Variables e = absurd (omega (arith, e))
-numbered Terms e = absurd (omega (arith, e))
-
 module _ (gs : List Group) (h v t : List ℕ) where
   pub laid_constraints : (g : Result Lengths Short) → Laid constraint_term gs h v t g
       → constraint_answer (constraints_in g) h v t ≡ fitted (layout constraint_term gs) (length h ∷ length v ∷ length t ∷ []) []
@@ -110,7 +104,7 @@ module _ (gs : List Group) (h v t : List ℕ) where
       ∙ fits (layout constraint_term gs) (length h ∷ length v ∷ length t ∷ []) [] z
   laid_constraints (Err s) e =
       let z : 0 + short_number s ≡ short_number s = omega arith in
-      ap (refused 17) z ∙ short (layout constraint_term gs) (length h ∷ length v ∷ length t ∷ []) [] (short_number s) e (numbered s)
+      ap (refused 17) z ∙ short (layout constraint_term gs) (length h ∷ length v ∷ length t ∷ []) [] (short_number s) e (short_number_some s)
 
   pub laid_inside : (g : Result Lengths Short) → Laid constraint_term gs h v t g → ListsFit (constraints_in g) h v t
   laid_inside (Ok c) l = written_inside constraint_term gs h v t c l

@@ -1,7 +1,7 @@
 // The expansions as calls: each checks its sheet, has its lists made, and zeroes what is not written.
 #![tactic(auto)]
 
-ghost use Rattle.std.specs.Prelude.{◌≡◌, [], ◌∷◌};
+ghost use Rattle.std.specs.Prelude.{[], ◌∷◌};
 ghost use Rattle.semantics.specs.Check.{prime_of};
 ghost use Rattle.semantics.specs.Call.{constraint_call, interaction_call, Gives, constraints_of, interactions_of};
 ghost use Rattle.constraint_lists.specs.Lists.{ConstraintsAre, on_words};

@@ -1,14 +1,14 @@
 -- The families of roots as a sheet's words name them: what counting their lists and placing their terms asks and does.
 use Rattle.std.specs.Prelude.{◌≡◌, Result, Ok, Err, List, [], ◌∷◌, ◌++◌, map, ℕ, zero, suc, ◌+◌, ◌*◌, ◌≤◌, ◌<◌, length, take}
 use Rattle.semantics.specs.Sheet.{Sheet}
-use Rattle.semantics.specs.Check.{prime_of}
+use Rattle.semantics.specs.Check.{prime_of, read_sheet}
 use Rattle.semantics.specs.Monomial.{list_at}
 use Rattle.semantics.specs.Group.{Root, labelled, constraint_roots, count_roots, field_roots, Item, items, Group, groups, headers, variables, terms, layout}
 use Rattle.semantics.specs.Call.{first_short}
 use Rattle.semantics.specs.Lists.{All}
 use Rattle.records.specs.declared.Part.{Part}
 use Rattle.records.specs.declared.Part.TheVariants.{Count, Fields}
-use Rattle.records.specs.Access.{IsSheet, records_of, message_length, part_at}
+use Rattle.records.specs.Access.{IsSheet, records_of, interactions_at, message_length, part_at, part_words}
 use Rattle.monomial.specs.Words.{Stored}
 use Rattle.grouping.specs.declared.Lengths.{Lengths}
 use Rattle.grouping.specs.declared.Short.{Short}
@@ -77,6 +77,13 @@ part_roots_at part ws i at = labelled (field_root i) 0 (part_at part ws at)
 
 abbrev pub part_roots : Part → (ws : List ℕ) (i at n : ℕ) → List Root
 part_roots part ws i at n = each_roots (part_roots_at part ws) ws i at n
+
+-- A part of every interaction of a sheet: the words that name its records, and their roots.
+abbrev pub parts_of : Part → (ws : List ℕ) → List ℕ
+parts_of part ws = part_words part ws (interactions_at ws) (length (read_sheet ws).interactions)
+
+abbrev pub parts_roots : Part → (ws : List ℕ) → List Root
+parts_roots part ws = part_roots part ws 0 (interactions_at ws) (length (read_sheet ws).interactions)
 
 -- The family of a part.
 abbrev pub family_of : Part → Family

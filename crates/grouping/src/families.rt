@@ -3,10 +3,10 @@ ghost use Rattle.std.specs.Prelude.{◌≡◌, [], ◌≤◌, length};
 ghost use Rattle.semantics.specs.Check.{read_sheet};
 ghost use Rattle.semantics.specs.Group.{items};
 ghost use Rattle.semantics.specs.Call.{zeros};
-ghost use Rattle.records.specs.Access.{IsSheet, interactions_at, part_words};
+ghost use Rattle.records.specs.Access.{IsSheet};
 ghost use Rattle.group.specs.declared.place.Form.TheVariants.{Interaction};
 ghost use Rattle.group.specs.Grouped.{tally_all, tallied, CountedMore, list_of, vars_named, Places};
-ghost use Rattle.grouping.specs.Families.{ToTally, label_as, form_as, named_roots, part_roots, ToPlaceRoots, Grouping, roots_of, form_of, nodes_of};
+ghost use Rattle.grouping.specs.Families.{ToTally, label_as, form_as, named_roots, parts_of, parts_roots, ToPlaceRoots, Grouping, roots_of, form_of, nodes_of};
 
 use crate::Family;
 use group::place;
@@ -56,9 +56,9 @@ fn tally_references(names: &[u32], headers: &mut [u32], n: usize, pool: &[u32]) 
 // Counts the lists of a part of every interaction.
 fn tally_parts(sheet: &[u32], part: Part, headers: &mut [u32], pool: &[u32]) -> Option<usize>
     requires { IsSheet sheet.now
-        × ToTally 0 headers.old pool.now (part_words part sheet.now (interactions_at sheet.now) (length (read_sheet sheet.now).interactions)) }
+        × ToTally 0 headers.old pool.now (parts_of part sheet.now) }
     ensures { CountedMore headers.new pool.now
-        (tally_all (vars_named pool.now (part_words part sheet.now (interactions_at sheet.now) (length (read_sheet sheet.now).interactions)))
+        (tally_all (vars_named pool.now (parts_of part sheet.now))
         (tallied 0 headers.old pool.now)) result }
 {
     let mut rows = 0;
@@ -103,9 +103,9 @@ fn place_parts(
 )
     requires { IsSheet sheet.now
         × ToPlaceRoots Interaction n headers.old pool.now terms.old
-        (part_roots part sheet.now 0 (interactions_at sheet.now) (length (read_sheet sheet.now).interactions)) }
+        (parts_roots part sheet.now) }
     ensures { Places Interaction n pool.now headers.old terms.old headers.new terms.new
-        (items (list_of pool.now) (part_roots part sheet.now 0 (interactions_at sheet.now) (length (read_sheet sheet.now).interactions))) }
+        (items (list_of pool.now) (parts_roots part sheet.now)) }
 {
     let mut at = records::interactions_at(sheet);
     let count = records::num_interactions(sheet);

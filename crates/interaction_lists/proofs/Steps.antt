@@ -21,8 +21,8 @@ use Rattle.interaction_lists.specs.declared.InteractionLengths.{InteractionLengt
 use Rattle.expand.specs.Walking.{PoolHolds, Expands}
 use Rattle.grouping.specs.Families.{short_number, groups_of, Laid}
 use Rattle.grouping.specs.declared.Short.{Short}
-use Rattle.constraint_lists.proofs.Steps.{Kept, numbered, work_short, pool_short, walk_refused, walk_done, fits, short, front_take, written_inside}
-use Rattle.grouping.proofs.Slices.{later_none, later_short, first_none, first_short_lem}
+use Rattle.constraint_lists.proofs.Steps.{Kept, work_short, pool_short, walk_refused, walk_done, fits, short, front_take, written_inside}
+use Rattle.grouping.proofs.Slices.{short_number_some, later_none, later_short, first_none, first_short_lem}
 use Rattle.grouping.specs.declared.Lengths.{Lengths}
 use Rattle.constraint_lists.specs.Lists.{short_of}
 use Rattle.interaction_lists.specs.Lists.{interaction_answer, BothInside}
@@ -46,9 +46,9 @@ module _ (gs ks : List Group) (h v t h₂ v₂ t₂ : List ℕ) where
   unfolding layout
   counts_short g k l e numbers =
       let m = subst (Laid interaction_term gs h v t) e l in
-      let n : first_short 1 (layout interaction_term gs) lent_first ≡ 0 → ⊥ = λ z. numbered k (sym m ∙ z) in
+      let n : first_short 1 (layout interaction_term gs) lent_first ≡ 0 → ⊥ = λ z. short_number_some k (sym m ∙ z) in
       short both lent numbers (short_number k)
-      (first_short_lem 0 (layout interaction_term gs) (layout interaction_term ks) lent_first lent_second refl n ∙ m) (numbered k)
+      (first_short_lem 0 (layout interaction_term gs) (layout interaction_term ks) lent_first lent_second refl n ∙ m) (short_number_some k)
 
   module _ (g : Result Lengths Short) (a : Lengths) (l : Laid interaction_term gs h v t g) (e : g ≡ Ok a) where
     first : Laid interaction_term gs h v t (Ok a)
@@ -62,7 +62,7 @@ module _ (gs ks : List Group) (h v t h₂ v₂ t₂ : List ℕ) where
         → refused 17 (3 + short_number k) ≡ fitted both lent numbers
     fields_short g₂ k l₂ e₂ numbers =
         let m = subst (Laid interaction_term ks h₂ v₂ t₂) e₂ l₂ in
-        let n : first_short 1 (layout interaction_term ks) lent_second ≡ 0 → ⊥ = λ z. numbered k (sym m ∙ z) in
+        let n : first_short 1 (layout interaction_term ks) lent_second ≡ 0 → ⊥ = λ z. short_number_some k (sym m ∙ z) in
         short both lent numbers (3 + short_number k)
         (goes_on ∙ later_short 3 0 (layout interaction_term ks) lent_second n ∙ ap (λ (x : ℕ). 3 + x) m)
         (λ z. absurd (omega (arith, z)))

@@ -1,15 +1,10 @@
 -- Numbers in decimal and in hex, digit by digit.
 use mathlib.Core.Path.{◌≡◌, refl, sym, ap, ◌∙◌}
-use mathlib.Core.List.{List, [], ◌∷◌, ◌++◌}
-use mathlib.Core.Logic.{inl, inr}
-use Prim.Native.Nat.{◌^◌, ℕ, zero, suc, ◌+◌, ◌-◌, ◌/◌, ◌%◌, ◌≤◌, ◌<◌}
+use mathlib.Core.List.{[], ◌∷◌, ◌++◌}
+use Prim.Native.Nat.{ℕ, zero, suc, ◌+◌, ◌-◌, ◌/◌, ◌%◌, ◌≤◌, ◌<◌}
 use native.Mathlib.Omega.{arith}
 use borrow.Author.Tests.{lt-ltb, le-ltb}
-use Rattle.std.specs.Fmt.{decimal as printed}
-use Rattle.std.proofs.lemmas.Fmt.{decimal_digit, decimal_step}
-use Rattle.std.proofs.lemmas.Bool.{cases_lt}
-use Rattle.std.proofs.Math.Nat.{pow-suc}
-use Rattle.semantics.specs.Sheetlist.{digits, decimal, hex_digit, hex_digits}
+use Rattle.semantics.specs.Sheetlist.{digits, hex_digit, hex_digits}
 use Rattle.listing.specs.declared.output.Out.{Out}
 use Rattle.listing.specs.Putting.{Room, Writes}
 use Rattle.listing.proofs.Writing.{room_front, puts_none, puts_is, Done, done_none, done_more}
@@ -55,18 +50,3 @@ hex_low d h = rw (lt-ltb d 10 h)
 pub hex_high : (d : ℕ) → 10 ≤ d → 97 + (d - 10) ≡ hex_digit d
 unfolding hex_digit
 hex_high d h = rw (le-ltb d 10 h) (omega arith)
-
--- Below 10^10 a number's text is what `{}` prints of it.
-digits_printed : (most n : ℕ) → n < 10 ^ suc most → n < 2 ^ 64 → digits (suc most) n ≡ printed n
-unfolding digits
-digits_printed zero n h k = let low : n < 10 = omega arith in rw (lt-ltb n 10 low) (sym (decimal_digit n low))
-digits_printed (suc most) n h k = elim (cases_lt n 10) [
-  | inl low ↦ rw (lt-ltb n 10 low) (sym (decimal_digit n low))
-  | inr high ↦
-      rw (le-ltb n 10 high)
-      (ap (λ (l : List ℕ). l ++ ((48 + n % 10) ∷ [])) (digits_printed most (n / 10) (omega (arith, pow-suc 10 (suc most))) (omega arith)) ∙ sym (decimal_step n high k))
-]
-
-pub decimal_printed : (n : ℕ) → n < 10 ^ 10 → decimal n ≡ printed n
-unfolding decimal
-decimal_printed n h = digits_printed 9 n h (omega arith)

@@ -1,5 +1,5 @@
 // A slice of bytes that is written from its front on: bytes, texts, and numbers as text.
-ghost use Rattle.std.specs.Prelude.{◌≡◌, [], ◌∷◌, ◌<◌, length};
+ghost use Rattle.std.specs.Prelude.{◌≡◌, [], ◌∷◌, ◌<◌};
 ghost use Rattle.semantics.specs.Arithmetic.{prime};
 ghost use Rattle.semantics.specs.Sheetlist.{digits, decimal, hex_digit, hex_digits, signed};
 ghost use Rattle.listing.specs.Putting.{Room, Writes, spaced};

@@ -63,7 +63,12 @@ module _ (work : List ℕ) (count : ℕ) (out₀ : List ℕ) (inside : 16 * coun
     pub written_more : (out₁ : List ℕ) → length out₁ ≡ length out
         → out₁ ≡ take at out ++ ((s ∷ get_or work (16 * k + 1) 0 ∷ take s (drop (16 * k + 2) work)) ++ drop (at + 2 + s) out)
         → Written work count out₀ out₁ (at + (2 + s)) (k + 1)
-    written_more out₁ l q = record { k_le = omega arith; length_is = l ∙ g.length_is; at_is = omega (arith, next_at); out_is = all ∙ ap (λ (n : ℕ). list_words (held (k + 1) work) ++ drop n out₀) near }
+    written_more out₁ l q = record {
+      k_le = omega arith;
+      length_is = l ∙ g.length_is;
+      at_is = omega (arith, next_at);
+      out_is = all ∙ ap (λ (n : ℕ). list_words (held (k + 1) work) ++ drop n out₀) near;
+    }
       where
         near : at + 2 + s ≡ at + (2 + s)
         near = omega arith

@@ -1,7 +1,7 @@
 // The leaf that a record's five words encode: a variable or a row mark.
 ghost use Rattle.std.specs.Prelude.{◌≡◌};
 ghost use Rattle.semantics.specs.Sheet.{record_of};
-ghost use Rattle.packing.specs.Leaves.{leaf_answer, leaf_checked, leaf_record, wrong_at, leaf_of_variable, IsMark};
+ghost use Rattle.packing.specs.Leaves.{leaf_answer, leaf_checked, wrong_at, leaf_of_variable, IsMark};
 
 use answers::{Reason, Refusal};
 use symbolic_variable::{Entry, SymbolicVariable};

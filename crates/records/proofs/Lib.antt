@@ -7,4 +7,3 @@ pub mod Visited
 pub mod Interactions
 pub mod Reading
 pub mod Writing
-pub mod Takings

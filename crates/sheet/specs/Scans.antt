@@ -1,7 +1,7 @@
 -- What the answers of the steps of the check mean.
 use Rattle.std.specs.Prelude.{◌≡◌, Bool, cond, List, ℕ, ◌+◌, ◌≤◌, ◌<◌, ◌&&◌, true, false, map, leb, ltb, length, get_or, drop, Option, Some, None, Result, Ok, Err}
 use Rattle.semantics.specs.Sheet.{unused, entry, part, offset, any_word, constant, child, row}
-use Rattle.semantics.specs.Check.{Scan, reading, stopped, scan_part}
+use Rattle.semantics.specs.Check.{Scan, reading, stopped, scan_part, scan_parts}
 use Rattle.answers.specs.declared.Reason.{Reason}
 use Rattle.answers.specs.declared.Reason.TheVariants.{PastEnd}
 use Rattle.answers.specs.declared.Refusal.{Refusal}
@@ -44,6 +44,9 @@ abbrev pub Scans : List ℕ → (count n : ℕ) → (tests : ℕ → List ℕ �
 Scans ws count n tests says =
     (next own : ℕ) (r : Result ℕ Refusal) → next ≤ length ws → own < count → says next own r
     → (scan_of ws r ≡ scan_part n (tests own) (reading next (drop next ws))) × Ends ws r
+
+abbrev pub ScansAll : List ℕ → (at count n : ℕ) → (tests : ℕ → List ℕ → List (ℕ → Bool)) → Result ℕ Refusal → Type 0
+ScansAll ws at count n tests r = (scan_of ws r ≡ scan_parts n tests count 0 (reading at (drop at ws))) × Ends ws r
 
 -- The uses in the table.
 abbrev pub use_of : Use → ℕ

@@ -4,7 +4,7 @@ ghost use Rattle.semantics.specs.Arithmetic.{prime};
 ghost use Rattle.semantics.specs.Sheet.{fits, row, record_tests, interaction_tests, head_tests, refers};
 ghost use Rattle.semantics.specs.Check.{prime_of, reading, scan_words, scan_part, scan_parts, scan_spare};
 ghost use Rattle.answers.specs.Replies.{number_of};
-ghost use Rattle.sheet.specs.Scans.{scan_of, Ends, EndsAt, Judged, Callable, Scans, use_of, IsRow};
+ghost use Rattle.sheet.specs.Scans.{scan_of, Ends, EndsAt, Judged, Callable, Scans, ScansAll, use_of, IsRow};
 
 use answers::{Reason, Refusal};
 
@@ -145,7 +145,7 @@ fn check_parts<F: Fn(usize, usize) -> Result<usize, Refusal>>(
 ) -> Result<usize, Refusal>
     requires { (at ≤ length s.now) × Callable s.now (F.pre check) (F.post check) }
     ensures { (n : ℕ) (tests : ℕ → List ℕ → List (ℕ → Bool)) → Scans s.now count n tests (F.post check)
-        → (scan_of s.now result ≡ scan_parts n tests count 0 (reading at (drop at s.now))) × Ends s.now result }
+        → ScansAll s.now at count n tests result }
 {
     let mut next = at;
     for own in 0..count {

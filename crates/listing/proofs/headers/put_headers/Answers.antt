@@ -12,35 +12,32 @@ pub loop-header-init : goal.loop-header-init
 loop-header-init c =
     let a = c.args in
     let all : chunks_exact_rest c.into_iter-header-iterator.result ≡ a.headers.now = cc in
-    let four : chunks_exact_size c.into_iter-header-iterator.result ≡ 4 = cc in
-    record {
-      inside = rw all c.requires.0;
-      written =
-          rows_none 4 (header_of a.family a.variables.now a.terms.now) a.headers.now a.out.now four all
-          (room_is a.out.now (headers_rows a.family a.headers.now a.variables.now a.terms.now) c.requires.1);
-    }
+    let four : chunks_exact_size c.into_iter-header-iterator.result ≡ 4 = cc in (
+      rw all c.requires.0,
+      rows_none 4 (header_of a.family a.variables.now a.terms.now) a.headers.now a.out.now four all
+          (room_is a.out.now (headers_rows a.family a.headers.now a.variables.now a.terms.now) c.requires.1),
+    )
 
 pub put_header-requires : goal.put_header-requires
 put_header-requires c =
     let a = c.args in
     let h = c.loop-header.invariant in
     let came = c.in-Some.ensures.steps.1 in
-    let four : length c.in-Some.header.now ≡ 4 = omega (arith, h.written.size_is, came.1) in
-    (four, first_inside _ _ four (rw came.0 at h.inside), row_room (omega arith) (header_of a.family a.variables.now a.terms.now) h.written _ _ came.0 came.1)
+    let four : length c.in-Some.header.now ≡ 4 = omega (arith, h.1.size_is, came.1) in
+    (four, first_inside _ _ four (rw came.0 at h.0), row_room (omega arith) (header_of a.family a.variables.now a.terms.now) h.1 _ _ came.0 came.1)
 
 pub loop-header-preserved : goal.loop-header-preserved
 loop-header-preserved c =
     let a = c.args in
     let h = c.loop-header.invariant in
     let came = c.in-Some.ensures.steps in
-    let four : length c.in-Some.header.now ≡ 4 = omega (arith, h.written.size_is, came.1.1) in
-    record {
-      inside = others_inside _ _ four (rw came.1.0 at h.inside);
-      written = row_more (omega arith) (header_of a.family a.variables.now a.terms.now) h.written _ _ came.1.0 came.1.1 came.0 c.put_header.ensures;
-    }
+    let four : length c.in-Some.header.now ≡ 4 = omega (arith, h.1.size_is, came.1.1) in (
+      others_inside _ _ four (rw came.1.0 at h.0),
+      row_more (omega arith) (header_of a.family a.variables.now a.terms.now) h.1 _ _ came.1.0 came.1.1 came.0 c.put_header.ensures,
+    )
 
 pub returns : goal.returns
 returns c =
     let a = c.args in
-    puts_is (rows_all (omega arith) (header_of a.family a.variables.now a.terms.now) c.loop-header.invariant.written c.in-None.ensures.steps.1.0)
+    puts_is (rows_all (omega arith) (header_of a.family a.variables.now a.terms.now) c.loop-header.invariant.1 c.in-None.ensures.steps.1.0)
     (headers_rows a.family a.headers.now a.variables.now a.terms.now)

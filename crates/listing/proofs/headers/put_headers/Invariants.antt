@@ -5,8 +5,7 @@ use Rattle.listing.proofs.Rows.{RowsDone}
 use Rattle.listing.proofs.headers.put_headers.Given as goal
 
 abbrev pub invariant-loop-header : goal.invariant-loop-header
-invariant-loop-header l = record {
-  inside : HeadersInside (width_of l.family) (chunks_exact_rest l.header-iterator) l.variables l.terms;
-  written : RowsDone 4 (header_of l.family l.variables l.terms) l.headers l.initial.out
-      (chunks_exact_size l.header-iterator) (chunks_exact_rest l.header-iterator) l.out;
-}
+invariant-loop-header l =
+    HeadersInside (width_of l.family) (chunks_exact_rest l.header-iterator) l.variables l.terms
+    × RowsDone 4 (header_of l.family l.variables l.terms) l.headers l.initial.out (chunks_exact_size l.header-iterator)
+    (chunks_exact_rest l.header-iterator) l.out

@@ -38,4 +38,6 @@ returns c =
     let left-1 = room_next c.put_byte.ensures _ (term_pieces c.args.letter c.args.numbers.now c.args.coefficient) c.requires in
     let left-2 = room_next c.put_numbers.ensures _ refl left-1 in
     let left-3 = room_next c.put_byte-2.ensures _ refl left-2 in
-    puts_next c.put_byte.ensures _ (term_pieces c.args.letter c.args.numbers.now c.args.coefficient) c.requires (puts_next c.put_numbers.ensures _ refl left-1 (puts_next c.put_byte-2.ensures _ refl left-2 (puts_next c.put_signed.ensures _ refl left-3 c.put_byte-3.ensures)))
+    puts_next c.put_byte.ensures _ (term_pieces c.args.letter c.args.numbers.now c.args.coefficient) c.requires
+    (puts_next c.put_numbers.ensures _ refl left-1
+    (puts_next c.put_byte-2.ensures _ refl left-2 (puts_next c.put_signed.ensures _ refl left-3 c.put_byte-3.ensures)))
