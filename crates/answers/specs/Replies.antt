@@ -1,5 +1,6 @@
 -- What the answers that all calls share stand for (01, "What each call hands back").
-use Rattle.std.specs.Prelude.{List, [], ◌∷◌, ℕ, length, take, Result, Ok, Err}
+use Rattle.std.specs.Prelude.{List, [], ◌∷◌, ◌++◌, ℕ, length, take, Result, Ok, Err, codes}
+use Rattle.std.specs.Fmt.{decimal}
 use Rattle.semantics.specs.Answer.{Answer, good, refused}
 use Rattle.semantics.specs.Call.{Reply, Outcome, accepted_with, refused_with, padded}
 use Rattle.answers.specs.declared.Reason.{Reason}
@@ -29,6 +30,15 @@ number_of reason.SliceTooShort = 17
 -- "A refusal is a number and a place"
 abbrev pub refused_reply : Refusal → Reply
 refused_reply r = refused_with (number_of r.reason) r.place
+
+-- Numbers in decimal, parted by spaces; and a refusal as a line shows it.
+abbrev pub numbers_text : List ℕ → List ℕ
+numbers_text [] = []
+numbers_text (n ∷ []) = decimal n
+numbers_text (n ∷ m ∷ ns) = decimal n ++ (32 ∷ numbers_text (m ∷ ns))
+
+abbrev pub refusal_text : Refusal → List ℕ
+refusal_text r = codes "refused " ++ numbers_text (number_of r.reason ∷ r.place ∷ [])
 
 -- An answer, by what it is where the call accepts.
 abbrev pub reply_of : {X : Type 0} → (accepted : X → Reply) → Result X Refusal → Reply

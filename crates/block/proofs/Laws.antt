@@ -32,38 +32,38 @@ pub bytes_of : (w : ℕ) → to_le_bytes w32 w ≡ word_bytes w
 unfolding word_bytes
 bytes_of w = refl
 
--- the weighted sum of the m words from `at` on, without the first n
-unfoldable pub rest : (m : ℕ) → List ℕ → (at n : ℕ) → ℕ
-rest m bs at n = weighted n (words_of (m - n) (drop (at + 4 * n) bs))
+-- the weighted sum of the first m words, without the first n
+unfoldable pub rest : (m : ℕ) → List ℕ → (n : ℕ) → ℕ
+rest m bs n = weighted n (words_of (m - n) (drop (4 * n) bs))
 
-pub rest_all : (m : ℕ) (bs : List ℕ) (at : ℕ) → rest m bs at 0 ≡ weighted 0 (words_of m (drop at bs))
+pub rest_all : (m : ℕ) (bs : List ℕ) → rest m bs 0 ≡ weighted 0 (words_of m bs)
 unfolding rest
-rest_all m bs at = rw (sub-zero, add-zero)
+rest_all m bs = rw sub-zero
 
 -- the word n of them starts at `from`
-pub rest_more : (m : ℕ) (bs : List ℕ) (at n from : ℕ) {w : ℕ} → n < m → from ≡ at + 4 * n → w ≡ word_at (drop from bs)
-    → (2 * n + 1) * w + rest m bs at (n + 1) ≡ rest m bs at n
+pub rest_more : (m : ℕ) (bs : List ℕ) (n from : ℕ) {w : ℕ} → n < m → from ≡ 4 * n → w ≡ word_at (drop from bs)
+    → (2 * n + 1) * w + rest m bs (n + 1) ≡ rest m bs n
 unfolding rest words_of weighted
-rest_more m bs at n from h q e =
+rest_more m bs n from h q e =
     let l : m - n ≡ suc (m - (n + 1)) = omega arith in
-    let k : at + 4 * n + 4 ≡ at + 4 * (n + 1) = omega arith in
-    rw (l, e, q, drop-drop 4 (at + 4 * n) bs, k, add-one n)
+    let k : 4 * n + 4 ≡ 4 * (n + 1) = omega arith in
+    rw (l, e, q, drop-drop 4 (4 * n) bs, k, add-one n)
 
-pub rest_none : (m : ℕ) (bs : List ℕ) (at n : ℕ) → m ≤ n → rest m bs at n ≡ 0
+pub rest_none : (m : ℕ) (bs : List ℕ) (n : ℕ) → m ≤ n → rest m bs n ≡ 0
 unfolding rest words_of weighted
-rest_none m bs at n h =
+rest_none m bs n h =
     let l : m - n ≡ 0 = omega arith in
     rw l
 
 -- four words in a row, and the three at the end
-module _ (bs : List ℕ) (at : ℕ) where
+module _ (bs : List ℕ) where
   abbrev left : ℕ → ℕ
-  left = rest 127 bs at
+  left = rest 127 bs
 
-  next : (n from w k : ℕ) → n < 127 → from ≡ at + 4 * n → w ≡ word_at (drop from bs) → k ≡ n + 1 → (2 * n + 1) * w + left k ≡ left n
-  next n from w k h q e z = ap (λ (k : ℕ). (2 * n + 1) * w + left k) z ∙ rest_more 127 bs at n from h q e
+  next : (n from w k : ℕ) → n < 127 → from ≡ 4 * n → w ≡ word_at (drop from bs) → k ≡ n + 1 → (2 * n + 1) * w + left k ≡ left n
+  next n from w k h q e z = ap (λ (k : ℕ). (2 * n + 1) * w + left k) z ∙ rest_more 127 bs n from h q e
 
-  pub row_words : (row first : ℕ) {w x y z : ℕ} → row < 31 → first ≡ at + 16 * row
+  pub row_words : (row first : ℕ) {w x y z : ℕ} → row < 31 → first ≡ 16 * row
       → w ≡ word_at (drop first bs) → x ≡ word_at (drop (first + 4) bs) → y ≡ word_at (drop (first + 8) bs) → z ≡ word_at (drop (first + 12) bs)
       → (8 * row + 1) * w + (8 * row + 3) * x + (8 * row + 5) * y + (8 * row + 7) * z + left (4 * (row + 1)) ≡ left (4 * row)
   row_words row first {w} {x} {y} {z} h q e f g i =
@@ -75,15 +75,15 @@ module _ (bs : List ℕ) (at : ℕ) where
         next (4 * row + 3) (first + 12) z (4 * (row + 1)) (omega arith) (omega arith) i (omega arith),
       )
 
-  pub last_words : {x y z : ℕ} → x ≡ word_at (drop (at + 496) bs) → y ≡ word_at (drop (at + 500) bs) → z ≡ word_at (drop (at + 504) bs)
+  pub last_words : {x y z : ℕ} → x ≡ word_at (drop 496 bs) → y ≡ word_at (drop 500 bs) → z ≡ word_at (drop 504 bs)
       → 249 * x + 251 * y + 253 * z ≡ left 124
   last_words {x} {y} {z} e f g =
       omega (
         arith,
-        next 124 (at + 496) x 125 (omega arith) (omega arith) e refl,
-        next 125 (at + 500) y 126 (omega arith) (omega arith) f refl,
-        next 126 (at + 504) z 127 (omega arith) (omega arith) g refl,
-        rest_none 127 bs at 127 (omega arith),
+        next 124 496 x 125 (omega arith) (omega arith) e refl,
+        next 125 500 y 126 (omega arith) (omega arith) f refl,
+        next 126 504 z 127 (omega arith) (omega arith) g refl,
+        rest_none 127 bs 127 (omega arith),
       )
 
 -- the four columns behind so many rows: the words in them, with the weights that the next row has, are those words with their own weights and 8 more for
@@ -104,8 +104,8 @@ weighed_more row words left left' a b c d a' b' c' d' w x y z e f g h i l =
     rw (f.1, g.1, h.1, i.1, f.0, g.0, h.0, i.0) (omega arith)
 
 -- the columns of 31 rows and the three words behind them, with the weights of the last row; and what is left when 8 times the sums of sums is taken from that
-module _ (number words row : ℕ) (bs : List ℕ) (at : ℕ) (a b c d : Column) (x y z : ℕ) (e : Weighed row words (rest 127 bs at (4 * row)) a b c d)
-    (q : row ≡ 31) (f : 249 * x + 251 * y + 253 * z ≡ rest 127 bs at 124) where
+module _ (number words row : ℕ) (bs : List ℕ) (a b c d : Column) (x y z : ℕ) (e : Weighed row words (rest 127 bs (4 * row)) a b c d)
+    (q : row ≡ 31) (f : 249 * x + 251 * y + 253 * z ≡ rest 127 bs 124) where
   abbrev sums : ℕ
   sums = a.sums + b.sums + c.sums + d.sums
 
@@ -114,7 +114,7 @@ module _ (number words row : ℕ) (bs : List ℕ) (at : ℕ) (a b c d : Column) 
 
   last_row_is : last_row ≡ number + words + 8 * sums
   last_row_is =
-      let w : Weighed 31 words (rest 127 bs at 124) a b c d = rw q at e in
+      let w : Weighed 31 words (rest 127 bs 124) a b c d = rw q at e in
       omega (arith, w)
 
   pub sums_fit : 8 * sums ≤ last_row
@@ -128,10 +128,9 @@ pub summed : (number sum : ℕ) (ws : List ℕ) → sum ≡ number + weighted 0 
 unfolding check_word
 summed number sum ws e = ap (λ (x : ℕ). x % 4294967296) (omega arith)
 
-pub good_at : (bs : List ℕ) (at number : ℕ) {x y : ℕ} → x ≡ word_at (drop (at + 508) bs) → y ≡ check_word number (words_of 127 (drop at bs))
-    → eqb x y ≡ block_good number (drop at bs)
+pub good_word : (bs : List ℕ) (number : ℕ) {x y : ℕ} → x ≡ word_at (drop 508 bs) → y ≡ check_word number (words_of 127 bs) → eqb x y ≡ block_good number bs
 unfolding block_good
-good_at bs at number p q = (λ i. eqb (p i) (q i)) ∙ ap (λ (l : List ℕ). eqb (word_at l) (check_word number (words_of 127 (drop at bs)))) (sym (drop-drop 508 at bs))
+good_word bs number p q = λ i. eqb (p i) (q i)
 
 -- yes or no, or the refusal of a slice that is not of 512 bytes
 pub length_right : (number : ℕ) (bs : List ℕ) {t : Bool} → length bs ≡ 512 → t ≡ block_good number bs → block_outcome (Ok t) ≡ block_check_call bs number

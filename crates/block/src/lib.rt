@@ -19,5 +19,5 @@ pub fn block_check(bytes: &[u8], number: u32) -> Result<bool, Refusal>
             place: 0,
         });
     }
-    Ok(words::block_good(bytes, 0, number))
+    Ok(words::block_good(bytes, number))
 }

@@ -4,11 +4,10 @@ use mathlib.Core.Bool.{Bool, true, false, true≢false, not, ◌||◌}
 use mathlib.Core.List.{List, [], ◌∷◌, ◌++◌, append_assoc, append-nil}
 use Prim.Native.Nat.{ℕ, zero, suc, ◌+◌, ◌*◌, ◌-◌, ◌/◌, ◌%◌, ◌≤◌, ◌<◌}
 use native.Mathlib.Omega.{arith}
-use native.Mathlib.Nat.{add-zero}
 use native.Mathlib.Numerals.{add-one}
 use lib.Dec.{eqb, ltb}
 use lib.ListN.{length, take, drop, set, length-set}
-use lib.Seq.{drop-drop, length-take-le}
+use lib.Seq.{drop-drop, take_all, length-take-le}
 use borrow.Author.Tests.{ltb-false}
 use Rattle.semantics.specs.Answer.{Answer, good, refused, and_then}
 use Rattle.semantics.specs.Block.{word_at, words_of, block_good, bad_length, read_blocks}
@@ -35,31 +34,30 @@ words_snoc n bs = ap (λ (m : ℕ). words_of m bs) (add-one n) ∙ go n bs
         ap (λ (l : List ℕ). word_at bs ∷ l) (go n (drop 4 bs)
         ∙ ap (λ (l : List ℕ). words_of n (drop 4 bs) ++ (word_at l ∷ [])) (drop-drop (4 * n) 4 bs ∙ ap (λ (m : ℕ). drop m bs) k))
 
--- The words of the block at `at`, of which i are written from `to` on.
-pub record WordsRead (bs o o₀ : List ℕ) (at to i : ℕ) : Type 0 where
+-- The words of the block at the front, of which i are written.
+pub record WordsRead (bs o : List ℕ) (i : ℕ) : Type 0 where
   pub some : i ≤ 127
-  pub kept : length o ≡ length o₀
-  pub front : take (to + i) o ≡ take to o₀ ++ words_of i (drop at bs)
+  pub kept : length o ≡ 127
+  pub front : take i o ≡ words_of i bs
 
-pub words_none : (bs o : List ℕ) (at to : ℕ) → WordsRead bs o o at to 0
+pub words_none : (bs o : List ℕ) → length o ≡ 127 → WordsRead bs o 0
 unfolding words_of
-words_none bs o at to = record {
-  some = omega arith;
-  kept = refl;
-  front = ap (λ (k : ℕ). take k o) (add-zero to) ∙ sym (append-nil (take to o));
-}
+words_none bs o h = record { some = omega arith; kept = h; front = refl }
 
-module _ {bs o o₀ : List ℕ} {at to i : ℕ} (r : WordsRead bs o o₀ at to i) where
-  pub words_more : {w : ℕ} → i < 127 → to + 127 ≤ length o₀ → w ≡ word_at (drop (at + 4 * i) bs) → WordsRead bs (set o (to + i) w) o₀ at to (i + 1)
-  words_more {w} h k e = record {
+module _ {bs o : List ℕ} {i : ℕ} (r : WordsRead bs o i) where
+  pub words_more : {w : ℕ} → i < 127 → w ≡ word_at (drop (4 * i) bs) → WordsRead bs (set o i w) (i + 1)
+  words_more {w} h e = record {
     some = omega arith;
-    kept = length-set o (to + i) w ∙ r.kept;
+    kept = length-set o i w ∙ r.kept;
     front =
-        put_next o (to + i) (to + (i + 1)) w (omega arith) (omega arith) r.front
-        ∙ append_assoc (take to o₀) (words_of i (drop at bs)) (w ∷ [])
-        ∙ ap (λ (l : List ℕ). take to o₀ ++ l)
-        (ap (λ (x : ℕ). words_of i (drop at bs) ++ (x ∷ [])) (e ∙ ap word_at (sym (drop-drop (4 * i) at bs))) ∙ sym (words_snoc i (drop at bs)));
+        put_next o i (i + 1) w refl (omega (arith, r.kept)) r.front
+        ∙ ap (λ (x : ℕ). words_of i bs ++ (x ∷ [])) e ∙ sym (words_snoc i bs);
   }
+
+  pub words_all : 127 ≤ i → o ≡ words_of 127 bs
+  words_all h =
+      let e : i ≡ 127 = omega (arith, r.some) in
+      sym (take_all i o (omega (arith, r.kept))) ∙ r.front ∙ ap (λ (n : ℕ). words_of n bs) e
 
 -- The outcome where `front` is written and the words of `a` are to follow.
 abbrev following : (lent : ℕ) (front : List ℕ) → Answer (List ℕ) → Outcome

@@ -1,7 +1,7 @@
 // The block reader: blocks as words.
 #![tactic(auto)]
 
-ghost use Rattle.std.specs.Prelude.{◌≡◌, ◌++◌, [], ◌∷◌, ◌+◌, ◌*◌, ◌≤◌, length, take, drop};
+ghost use Rattle.std.specs.Prelude.{◌≡◌, [], ◌∷◌, ◌*◌, ◌≤◌, length};
 ghost use Rattle.slices.specs.Lent.{lengths};
 ghost use Rattle.semantics.specs.Block.{words_of, bad_length, read_blocks};
 ghost use Rattle.semantics.specs.Call.{reader_call, Gives};
@@ -17,13 +17,13 @@ fn bad_length(n: usize) -> bool
     n == 0 || n % 512 != 0 || 363520 < n
 }
 
-// The 127 words of the block at `at` go to the output from `to` on.
-fn read_block(bytes: &[u8], at: usize, out: &mut [u32], to: usize)
-    requires { (at + 508 ≤ length bytes.now) × (to + 127 ≤ length out.old) }
-    ensures { take (to + 127) out.new ≡ take to out.old ++ words_of 127 (drop at bytes.now) }
+// The 127 words of the block at the front.
+fn read_block(block: &[u8], out: &mut [u32])
+    requires { (508 ≤ length block.now) × (length out.old ≡ 127) }
+    ensures { out.new ≡ words_of 127 block.now }
 {
-    for i in 0..127 {
-        out[to + i] = words::word_at(bytes, at + 4 * i);
+    for (i, word) in out.iter_mut().enumerate() {
+        *word = words::word_at(block, 4 * i);
     }
 }
 
@@ -33,14 +33,14 @@ fn read_each(bytes: &[u8], blocks: usize, out: &mut [u32]) -> Result<usize, Refu
     ensures { rest_zeroed result out.new ≡ words_outcome (length out.old) (read_blocks blocks 0 bytes.now) }
 {
     for k in 0..blocks {
-        let at = 512 * k;
-        if !words::block_good(bytes, at, k as u32 + 1) {
+        let block = &bytes[512 * k..];
+        if !words::block_good(block, k as u32 + 1) {
             return Err(Refusal {
                 reason: Reason::WrongCheck,
                 place: k,
             });
         }
-        read_block(bytes, at, out, 127 * k);
+        read_block(block, &mut out[127 * k..127 * k + 127]);
     }
     Ok(127 * blocks)
 }

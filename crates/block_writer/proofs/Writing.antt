@@ -1,95 +1,101 @@
 -- Laws of writing blocks: a word, the words of a block, a block, and block by block.
 use mathlib.Core.Path.{◌≡◌, refl, sym, ◌∙◌, ap, subst}
+use mathlib.Core.Bool.{Bool, true, false}
 use mathlib.Core.List.{List, [], ◌∷◌, ◌++◌, flat_map, append_assoc, append-nil}
-use Prim.Native.Nat.{ℕ, suc, ◌+◌, ◌*◌, ◌-◌, ◌/◌, ◌≤◌, ◌<◌}
+use Prim.Native.Nat.{ℕ, zero, suc, min, ◌+◌, ◌*◌, ◌-◌, ◌/◌, ◌≤◌, ◌<◌}
 use native.Mathlib.Omega.{arith}
-use native.Mathlib.Nat.{add-zero}
 use native.Mathlib.Numerals.{add-one}
 use lib.ListN.{length, get_or, take, drop, replicate, take-append-drop}
-use lib.Seq.{drop-drop, drop_at, get_or-drop, length-take-le}
+use lib.Dec.{lit<, ltb}
+use lib.Seq.{drop-drop, take_all}
+use Rattle.std.proofs.lemmas.List.{take_more}
+use borrow.Author.Tests.{ltb-true, ltb-false}
 use Rattle.slices.proofs.Lists.{flat_append}
 use Rattle.semantics.specs.Answer.{good}
 use Rattle.semantics.specs.Sheet.{Sheet, encode, length_of}
 use Rattle.semantics.specs.Check.{check}
 use Rattle.semantics.specs.Block.{word_bytes, words_of, check_word, first_words, block_bytes, write_blocks, blocks_for}
 use Rattle.semantics.proofs.Sorting.{all_append}
-use Rattle.semantics.proofs.Blocks.{Words, words_back, first_length, first_add, written_length}
+use Rattle.semantics.proofs.Blocks.{Words, words_back, first_length, written_length}
 use Rattle.sheet.specs.declared.Head.{Head}
 use Rattle.sheet.proofs.Answers.{head_of, words_found}
 
-first_one : (ws : List ℕ) → first_words 1 ws ≡ get_or ws 0 0 ∷ []
-unfolding first_words
-first_one [] = refl
-first_one (w ∷ ws) = let z : 1 - suc (length ws) ≡ 0 = omega arith in ap (λ (m : ℕ). w ∷ replicate m 0) z
-
-first_snoc : (n : ℕ) (ws : List ℕ) → first_words (n + 1) ws ≡ first_words n ws ++ (get_or ws n 0 ∷ [])
-first_snoc n ws =
-    first_add n 1 ws ∙ ap (λ (l : List ℕ). first_words n ws ++ l)
-    (first_one (drop n ws) ∙ ap (λ (x : ℕ). x ∷ []) (get_or-drop n ws 0 0 ∙ ap (λ (k : ℕ). get_or ws k 0) (add-zero n)))
-
--- The words from `from` on, of which i are written from `at` on.
-pub record WordsPut (ws o o₀ : List ℕ) (from at i : ℕ) : Type 0 where
-  pub some : i ≤ 127
+-- Words below 2 ^ 32, of which the first i are written to the front.
+pub record WordsPut (ws o o₀ : List ℕ) (i : ℕ) : Type 0 where
+  pub some : i ≤ length ws
   pub kept : length o ≡ length o₀
-  pub front : take (at + 4 * i) o ≡ take at o₀ ++ flat_map word_bytes (first_words i (drop from ws))
-  pub words : Words (first_words i (drop from ws))
+  pub front : take (4 * i) o ≡ flat_map word_bytes (take i ws)
+  pub words : Words (take i ws)
 
-pub put_none : (ws o : List ℕ) (from at : ℕ) → WordsPut ws o o from at 0
-unfolding first_words flat_map
-put_none ws o from at =
-    let m : 0 - length (drop from ws) ≡ 0 = omega arith in
-    let z : first_words 0 (drop from ws) ≡ [] = ap (λ (k : ℕ). replicate k 0) m in
-    record {
-      some = omega arith;
-      kept = refl;
-      front =
-          ap (λ (k : ℕ). take k o) (add-zero at) ∙ sym (append-nil (take at o)) ∙ ap (λ (u : List ℕ). take at o ++ flat_map word_bytes u) (sym z);
-      words = subst Words (sym z) tt;
-    }
+pub put_none : (ws o : List ℕ) → WordsPut ws o o 0
+unfolding flat_map
+put_none ws o = record { some = omega arith; kept = refl; front = refl; words = tt }
 
-module _ {ws o o₀ : List ℕ} {from at i : ℕ} (r : WordsPut ws o o₀ from at i) where
-  pub put_more : (o' : List ℕ) {w : ℕ} → i < 127 → w ≡ get_or ws (from + i) 0 → w < 4294967296 → length o' ≡ length o
-      → take (at + 4 * i + 4) o' ≡ take (at + 4 * i) o ++ word_bytes w → WordsPut ws o' o₀ from at (i + 1)
+module _ {ws o o₀ : List ℕ} {i : ℕ} (r : WordsPut ws o o₀ i) where
+  pub put_more : (o' : List ℕ) → i < length ws → get_or ws i 0 < 4294967296 → length o' ≡ length o
+      → take (4 * i + 4) o' ≡ take (4 * i) o ++ word_bytes (get_or ws i 0) → WordsPut ws o' o₀ (i + 1)
   unfolding flat_map
-  put_more o' {w} h e b l f =
-      let us : List ℕ = first_words i (drop from ws) in
-      let j : at + 4 * (i + 1) ≡ at + 4 * i + 4 = omega arith in
-      let s : first_words (i + 1) (drop from ws) ≡ us ++ (w ∷ []) =
-      first_snoc i (drop from ws) ∙ ap (λ (x : ℕ). us ++ (x ∷ [])) (get_or-drop from ws i 0 ∙ sym e) in
+  put_more o' h b l f =
+      let w : ℕ = get_or ws i 0 in
+      let us : List ℕ = take i ws in
+      let j : 4 * (i + 1) ≡ 4 * i + 4 = omega arith in
+      let s : take (i + 1) ws ≡ us ++ (w ∷ []) = take_more ws i 0 h in
       record {
         some = omega arith;
         kept = l ∙ r.kept;
         front =
             ap (λ (m : ℕ). take m o') j ∙ f ∙ ap (λ (u : List ℕ). u ++ word_bytes w) r.front
-            ∙ append_assoc (take at o₀) (flat_map word_bytes us) (word_bytes w)
-            ∙ ap (λ (u : List ℕ). take at o₀ ++ (flat_map word_bytes us ++ u)) (sym (append-nil (word_bytes w)))
-            ∙ ap (λ (u : List ℕ). take at o₀ ++ u) (sym (flat_append word_bytes us (w ∷ [])) ∙ ap (flat_map word_bytes) (sym s));
+            ∙ ap (λ (u : List ℕ). flat_map word_bytes us ++ u) (sym (append-nil (word_bytes w)))
+            ∙ sym (flat_append word_bytes us (w ∷ [])) ∙ ap (flat_map word_bytes) (sym s);
         words = subst Words (sym s) (all_append (λ (w : ℕ). w < 4294967296) us (w ∷ []) r.words (b, tt));
       }
 
-  -- All are written, and read back they are the same.
-  pub put_all : 127 ≤ i → at + 508 ≤ length o₀
-      → (take (at + 508) o ≡ take at o₀ ++ flat_map word_bytes (first_words 127 (drop from ws))) × (words_of 127 (drop at o) ≡ first_words 127 (drop from ws))
-  put_all h l =
-      let e : i ≡ 127 = omega arith in
-      let us : List ℕ = first_words 127 (drop from ws) in
-      let f : take (at + 508) o ≡ take at o₀ ++ flat_map word_bytes us = rw e at r.front in
-      let w : Words us = rw e at r.words in
-      let D : List ℕ = drop (at + 508) o in
-      let d : drop at o ≡ flat_map word_bytes us ++ D =
-      ap (drop at) (sym (take-append-drop (at + 508) o) ∙ ap (λ (u : List ℕ). u ++ D) f ∙ append_assoc (take at o₀) (flat_map word_bytes us) D)
-      ∙ drop_at (take at o₀) (flat_map word_bytes us ++ D) at (length-take-le at o₀ (omega arith)) in
-      (f, ap (words_of 127) d ∙ ap (λ (n : ℕ). words_of n (flat_map word_bytes us ++ D)) (sym (first_length 127 (drop from ws))) ∙ words_back us D w)
+-- As many as there are.
+take_some : (ws : List ℕ) (n m : ℕ) → n ≡ min (length ws) m → take n ws ≡ take m ws
+take_some ws n m e = go (ltb (length ws) m) refl
+  where
+    go : (b : Bool) → ltb (length ws) m ≡ b → take n ws ≡ take m ws
+    go true t =
+        let h = ltb-true (length ws) m t in
+        take_all n ws (omega arith) ∙ sym (take_all m ws (omega arith))
+    go false t =
+        let h = ltb-false (length ws) m t in
+        let k : n ≡ m = omega arith in
+        ap (λ (j : ℕ). take j ws) k
+
+-- Zeros as bytes.
+zero_bytes : (n : ℕ) → flat_map word_bytes (replicate n 0) ≡ replicate (4 * n) 0
+unfolding flat_map word_bytes
+zero_bytes zero = refl
+zero_bytes (suc n) =
+    let j : suc (suc (suc (suc (4 * n)))) ≡ 4 * suc n = omega arith in
+    ap (λ (u : List ℕ). 0 ∷ 0 ∷ 0 ∷ 0 ∷ u) (zero_bytes n) ∙ ap (λ (k : ℕ). replicate k 0) j
+
+zero_words : (n : ℕ) → Words (replicate n 0)
+zero_words zero = tt
+zero_words (suc n) = (lit< tt, zero_words n)
+
+-- The first 127 words are written, and zeros behind them; read back they are the same.
+pub put_all : {ws o o₀ : List ℕ} {n : ℕ} → WordsPut ws o o₀ n → n ≡ min (length ws) 127 → (o' : List ℕ) → take 508 o' ≡ take (4 * n) o ++ replicate (508 - 4 * n) 0
+    → (take 508 o' ≡ flat_map word_bytes (first_words 127 ws)) × (words_of 127 o' ≡ first_words 127 ws)
+unfolding first_words
+put_all {ws} {o} {o₀} {n} r e o' f =
+    let us : List ℕ = take 127 ws ++ replicate (127 - length ws) 0 in
+    let t = take_some ws n 127 e in
+    let z : 508 - 4 * n ≡ 4 * (127 - length ws) = omega arith in
+    let g : take 508 o' ≡ flat_map word_bytes us =
+    f ∙ (λ i. (r.front ∙ ap (flat_map word_bytes) t) i ++ (ap (λ (k : ℕ). replicate k 0) z ∙ sym (zero_bytes (127 - length ws))) i)
+    ∙ sym (flat_append word_bytes (take 127 ws) (replicate (127 - length ws) 0)) in
+    let w : Words us = all_append (λ (w : ℕ). w < 4294967296) (take 127 ws) (replicate (127 - length ws) 0) (subst Words t r.words) (zero_words (127 - length ws)) in
+    let D : List ℕ = drop 508 o' in
+    let d : o' ≡ flat_map word_bytes us ++ D = sym (take-append-drop 508 o') ∙ ap (λ (u : List ℕ). u ++ D) g in
+    (g, ap (words_of 127) d ∙ ap (λ (n : ℕ). words_of n (flat_map word_bytes us ++ D)) (sym (first_length 127 ws)) ∙ words_back us D w)
 
 -- The words of a block and its check word.
-module _ (ws o o₁ o₂ : List ℕ) (at number : ℕ) where
-  pub block_put : {check : ℕ} → take (at + 508) o₁ ≡ take at o ++ flat_map word_bytes ws → words_of 127 (drop at o₁) ≡ ws
-      → check ≡ check_word number (words_of 127 (drop at o₁)) → take (at + 508 + 4) o₂ ≡ take (at + 508) o₁ ++ word_bytes check
-      → take (at + 512) o₂ ≡ take at o ++ block_bytes number ws
-  unfolding block_bytes
-  block_put f b e g =
-      let j : at + 512 ≡ at + 508 + 4 = omega arith in
-      ap (λ (m : ℕ). take m o₂) j ∙ g ∙ (λ i. f i ++ word_bytes ((e ∙ ap (check_word number) b) i)) ∙ append_assoc (take at o) (flat_map word_bytes ws) _
+pub block_put : (ws o₁ o₂ : List ℕ) (number : ℕ) {check : ℕ} → take 508 o₁ ≡ flat_map word_bytes ws → words_of 127 o₁ ≡ ws
+    → check ≡ check_word number (words_of 127 o₁) → length o₂ ≡ 512 → take (508 + 4) o₂ ≡ take 508 o₁ ++ word_bytes check → o₂ ≡ block_bytes number ws
+unfolding block_bytes
+block_put ws o₁ o₂ number f b e h g = sym (take_all (508 + 4) o₂ (omega (arith, h))) ∙ g ∙ (λ i. f i ++ word_bytes ((e ∙ ap (check_word number) b) i))
 
 -- n blocks, of which k are written.
 pub record BlocksPut (ws o o₀ : List ℕ) (n k : ℕ) : Type 0 where

@@ -1,7 +1,7 @@
 // The block writer: the words of a sheet as blocks.
 #![tactic(auto)]
 
-ghost use Rattle.std.specs.Prelude.{◌≡◌, ◌+◌, ◌*◌, ◌≤◌, ◌<◌, length, get_or, take, drop};
+ghost use Rattle.std.specs.Prelude.{◌≡◌, ◌+◌, ◌*◌, ◌≤◌, ◌<◌, length, take};
 ghost use mathlib.Core.List.{◌++◌, flat_map, [], ◌∷◌};
 ghost use Rattle.slices.specs.Lent.{lengths};
 ghost use Rattle.semantics.specs.Check.{prime_of};
@@ -12,13 +12,6 @@ ghost use Rattle.answers.specs.Replies.{rest_zeroed, written_reply};
 use answers::{Reason, Refusal};
 use block::words;
 
-// The word at i, 0 past the end.
-fn word_or_zero(s: &[u32], i: usize) -> u32
-    ensures { (result ≡ get_or s.now i 0) × (result < 4294967296) }
-{
-    s.get(i).copied().unwrap_or(0)
-}
-
 // A word goes as four bytes to the output at `at`.
 fn put_word(w: u32, out: &mut [u8], at: usize)
     requires { at + 4 ≤ length out.old }
@@ -27,35 +20,36 @@ fn put_word(w: u32, out: &mut [u8], at: usize)
     out[at..at + 4].copy_from_slice(&words::word_bytes(w));
 }
 
-// The 127 words from `from` on, zeros past the end, go as bytes to the output from `at` on, and can be read there.
-fn put_words(s: &[u32], from: usize, out: &mut [u8], at: usize)
-    requires { (from ≤ 90170) × (at + 508 ≤ length out.old) }
-    ensures { (take (at + 508) out.new ≡ take at out.old ++ flat_map word_bytes (first_words 127 (drop from s.now)))
-        × (words_of 127 (drop at out.new) ≡ first_words 127 (drop from s.now)) }
+// The first 127 words, zeros past the end, go as bytes to the front of a block, and can be read there.
+fn put_words(s: &[u32], block: &mut [u8])
+    requires { 508 ≤ length block.old }
+    ensures { (take 508 block.new ≡ flat_map word_bytes (first_words 127 s.now))
+        × (words_of 127 block.new ≡ first_words 127 s.now) }
 {
-    for i in 0..127 {
-        put_word(word_or_zero(s, from + i), out, at + 4 * i);
+    let n = s.len().min(127);
+    for i in 0..n {
+        put_word(s[i], block, 4 * i);
     }
+    block[4 * n..508].fill(0);
 }
 
-// Block k, counted from 0, with its check word.
-fn write_block(s: &[u32], k: usize, out: &mut [u8])
-    requires { (k < 710) × (512 * k + 512 ≤ length out.old) }
-    ensures { take (512 * k + 512) out.new
-        ≡ take (512 * k) out.old ++ block_bytes (k + 1) (first_words 127 (drop (127 * k) s.now)) }
+// The block of the first 127 words, with its check word.
+fn write_block(s: &[u32], number: u32, block: &mut [u8])
+    requires { length block.old ≡ 512 }
+    ensures { block.new ≡ block_bytes number (first_words 127 s.now) }
 {
-    let at = 512 * k;
-    put_words(s, 127 * k, out, at);
-    let check = words::check_word(out, at, k as u32 + 1);
-    put_word(check, out, at + 508);
+    put_words(s, block);
+    let check = words::check_word(block, number);
+    put_word(check, block, 508);
 }
 
 fn write_each(s: &[u32], blocks: usize, out: &mut [u8])
-    requires { (blocks ≤ 710) × (512 * blocks ≤ length out.old) }
+    requires { (blocks ≤ 710) × (127 * blocks ≤ length s.now + 126) × (512 * blocks ≤ length out.old) }
     ensures { take (512 * blocks) out.new ≡ write_blocks blocks 0 s.now }
 {
     for k in 0..blocks {
-        write_block(s, k, out);
+        let block = &mut out[512 * k..512 * k + 512];
+        write_block(&s[127 * k..], k as u32 + 1, block);
     }
 }
 

@@ -9,7 +9,7 @@ ghost use Rattle.c_replies.specs.Fields.{packed_fields, record_fields, block_fie
 
 use answers::Refusal;
 use packed_var::PackedVar;
-use packing::Record;
+use records::Record;
 use sheet::Head;
 
 #[repr(C)]

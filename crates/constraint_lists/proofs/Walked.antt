@@ -7,6 +7,7 @@ use lib.ListN.{length, get_or, replicate, length-append, length-replicate, get_o
 use Rattle.semantics.specs.Arithmetic.{prime}
 use Rattle.semantics.specs.Answer.{good}
 use Rattle.semantics.specs.Check.{read_sheet, check}
+use Rattle.semantics.specs.Call.{zeros}
 use Rattle.semantics.specs.Walk.{Mem, Below, order}
 use Rattle.semantics.specs.Monomial.{list_at}
 use Rattle.semantics.specs.Group.{Root, constraint_roots}
@@ -16,41 +17,63 @@ use Rattle.semantics.proofs.Orders.{order_roots}
 use Rattle.semantics.proofs.GraphSheets.{named_below}
 use Rattle.semantics.proofs.Demands.{constraint_nodes}
 use Rattle.records.specs.Access.{records_of}
-use Rattle.records.specs.Orders.{Visiting}
 use Rattle.records.proofs.Steps.{inside, lows}
-use Rattle.expand.specs.Walking.{PoolHolds, Expands, ExpandWalking}
+use Rattle.expand.specs.declared.Walk.{Walk}
+use Rattle.expand.specs.Walking.{PoolHolds, Expands}
+use Rattle.expand.specs.Walks.{Starts, ExpandWalking, Walked}
 use Rattle.expand.proofs.Roots.{start_walking, all_expanded}
 use Rattle.std.specs.Prelude.{Result, Ok}
 use Rattle.answers.specs.declared.Refusal.{Refusal}
 use Rattle.monomial.specs.Words.{Stored}
 use Rattle.grouping.specs.Families.{Grouping}
 
--- Cleared words in front of a pool.
-module _ (ws : List ℕ) (records : ℕ) (are : records ≡ length (records_of ws)) (z rest : List ℕ) (n : ℕ) (e : z ≡ replicate n 0) (m : n ≡ 2 * records) where
-  front : length z ≡ 2 * records
-  front = ap length e ∙ length-replicate n 0 ∙ m
+-- A pool whose first words are cleared.
+module _ (ws : List ℕ) (records : ℕ) (are : records ≡ length (records_of ws)) {pool : List ℕ} (rest : List ℕ) (cleared : pool ≡ zeros (2 * records) ++ rest) where
+  room : 2 * length (records_of ws) ≤ length pool
+  unfolding zeros
+  room = omega (arith, ap length cleared, length-append (replicate (2 * records) 0) rest, length-replicate {A = ℕ} (2 * records) 0, are)
 
-  room : 2 * length (records_of ws) ≤ length (z ++ rest)
-  room = omega (arith, length-append z rest, front, are)
-
-  clear : (i : ℕ) → i < length (records_of ws) → get_or (z ++ rest) (2 * i) 0 ≡ 0
+  clear : (i : ℕ) → i < length (records_of ws) → get_or pool (2 * i) 0 ≡ 0
+  unfolding zeros
   clear i l =
-      get_or-append z rest 0 (2 * i) (omega (arith, front, are))
-      ∙ ap (λ (x : List ℕ). get_or x (2 * i) 0) e ∙ get_or-replicate n (2 * i) 0 0 (omega (arith, m, are))
+      let inside : 2 * i < 2 * records = omega (arith, are) in
+      ap (λ (p : List ℕ). get_or p (2 * i) 0) cleared
+      ∙ get_or-append (replicate (2 * records) 0) rest 0 (2 * i) (omega (arith, length-replicate {A = ℕ} (2 * records) 0, inside))
+      ∙ get_or-replicate (2 * records) (2 * i) 0 0 inside
 
-  pub walk_starts : check prime ws ≡ good (read_sheet ws) → (work : List ℕ) → 4096 ≤ length work → ExpandWalking ws work (z ++ rest) (2 * records)
-  walk_starts checked work l =
-      subst (λ (k : ℕ). ExpandWalking ws work (z ++ rest) (2 * k)) (sym are) (start_walking ws (z ++ rest) room clear checked work l)
+  -- A walk that starts there.
+  module _ {v : Walk} (starts : Starts ws pool (2 * records) v) where
+    used_is : v.used ≡ 2 * length (records_of v.sheet.words.now)
+    used_is = starts.used_is ∙ (λ i. 2 * are i) ∙ (λ i. 2 * length (records_of (sym starts.sheet_is i)))
 
-  pub walk_ends : (roots pool' : List ℕ) (u : Result ℕ Refusal) → Visiting ws roots (λ (d : List ℕ). PoolHolds ws d (z ++ rest) (2 * records)) (Expands ws pool' u)
-      → Expands ws pool' u (order (records_of ws) roots)
-  walk_ends roots pool' u f =
-      all_expanded ws (z ++ rest) room clear roots pool' u
-      (subst (λ (k : ℕ). Visiting ws roots (λ (d : List ℕ). PoolHolds ws d (z ++ rest) (2 * k)) (Expands ws pool' u)) are f)
+    room_now : 2 * length (records_of v.sheet.words.now) ≤ length v.pool.now
+    room_now =
+        subst (λ (s : List ℕ). 2 * length (records_of s) ≤ length v.pool.now) (sym starts.sheet_is)
+        (subst (λ (q : List ℕ). 2 * length (records_of ws) ≤ length q) (sym starts.pool_is) room)
+
+    clear_now : (i : ℕ) → i < length (records_of v.sheet.words.now) → get_or v.pool.now (2 * i) 0 ≡ 0
+    clear_now =
+        subst (λ (s : List ℕ). (i : ℕ) → i < length (records_of s) → get_or v.pool.now (2 * i) 0 ≡ 0) (sym starts.sheet_is)
+        (subst (λ (q : List ℕ). (i : ℕ) → i < length (records_of ws) → get_or q (2 * i) 0 ≡ 0) (sym starts.pool_is) clear)
+
+    pub walk_starts : ExpandWalking v
+    walk_starts = start_walking v used_is room_now clear_now
+
+    -- The roots that a sheet names are expanded; the slice holds what the walk left there.
+    pub walk_ends : (roots : List ℕ → List ℕ) (w : Walk) (u : Result (Unit {0}) Refusal) → Walked v (roots v.sheet.words.now) w u
+        → (pool' : List ℕ) → w.pool.now ≡ pool' → (used : ℕ) × Expands ws pool' used u (order (records_of ws) (roots ws))
+    walk_ends roots w u f pool' e = (
+      w.used,
+      subst (λ (q : List ℕ). Expands ws q w.used u (order (records_of ws) (roots ws))) e
+          (subst (λ (s : List ℕ). Expands ws w.pool.now w.used u (order (records_of s) (roots s))) starts.sheet_is
+          (subst (λ (s : List ℕ). Expands s w.pool.now w.used u (order (records_of v.sheet.words.now) (roots v.sheet.words.now))) (f.0.sheet ∙ starts.sheet_is)
+          (all_expanded v used_is room_now clear_now (roots v.sheet.words.now) w u f))),
+    )
 
 -- All that was to be expanded stands in the pool.
-pub all_held : (ws pool done : List ℕ) {u : Result ℕ Refusal} {used : ℕ} → u ≡ Ok used → Expands ws pool u done → PoolHolds ws done pool used
-all_held ws pool done = subst (λ (u : Result ℕ Refusal). Expands ws pool u done)
+pub all_held : (ws pool done : List ℕ) {u : Result (Unit {0}) Refusal} {n : Unit {0}} → u ≡ Ok n → (e : (used : ℕ) × Expands ws pool used u done)
+    → PoolHolds ws done pool e.0
+all_held ws pool done g e = subst (λ (u : Result (Unit {0}) Refusal). Expands ws pool e.0 u done) g e.1
 
 -- Every root, where every record that one names.
 all_nodes : (P : ℕ → Type 0) (roots : List Root) → ((i : ℕ) → Mem i (map (λ (r : Root). r.node) roots) → P i) → All (λ (r : Root). P r.node) roots
@@ -65,7 +88,6 @@ module _ (ws : List ℕ) (checked : check prime ws ≡ good (read_sheet ws)) (re
     (pool : List ℕ) (used : ℕ) (holds : PoolHolds ws (order (records_of ws) references) pool used) where
   pub grouping_of : (roots : List Root) → ((i : ℕ) → Mem i (map (λ (r : Root). r.node) roots) → Mem i references) → Grouping ws pool roots
   grouping_of roots f = record {
-    checked = checked;
     lists =
         all_nodes (λ (i : ℕ). Stored pool i (list_at prime (records_of ws) i)) roots
         (λ i m. holds.old i (order_roots (records_of ws) (lows ws checked) references below i (f i m)));

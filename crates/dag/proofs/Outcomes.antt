@@ -10,7 +10,7 @@ use borrow.Author.Tests.{le-leb, lt-leb}
 use Rattle.semantics.specs.Arithmetic.{prime}
 use Rattle.semantics.specs.Answer.{Answer, good, refused}
 use Rattle.semantics.specs.Sheet.{Sheet, encode, length_of}
-use Rattle.semantics.specs.Check.{read_sheet, check}
+use Rattle.semantics.specs.Check.{read_sheet}
 use Rattle.semantics.specs.Graph.{graph_of}
 use Rattle.semantics.specs.Call.{Result as Made, outcome, needs, result, builder_call, check_call, zeros, padded_all}
 use Rattle.semantics.proofs.Basics.{cond_true, cond_false}
@@ -20,22 +20,18 @@ use Rattle.answers.specs.declared.Reason.TheVariants.{ScratchTooShort, OutputToo
 use Rattle.answers.specs.Replies.{number_of}
 use Rattle.sheet.specs.declared.Head.{Head}
 use Rattle.sheet.specs.Replies.{checked_outcome}
-use Rattle.sheet.proofs.Answers.{on_found, on_refused}
+use Rattle.sheet.proofs.Answers.{found, on_found, on_refused}
+use Rattle.records.specs.Access.{IsSheet}
 use Rattle.records.proofs.Reading.{read_found}
 use Rattle.graph_lists.specs.Lists.{graph_out, graph_length}
 use Rattle.dag.specs.Calls.{built_outcome, Clear, Starting}
 
-pub clear_found : (ws : List ℕ) (t : Sheet) → check prime ws ≡ good t → (records words : ℕ) → records ≡ length t.records → words ≡ length_of t
-    → (scratch out : List ℕ) → scratch ≡ zeros (length scratch) → out ≡ zeros (length out) → Clear ws records words scratch out
-clear_found ws t e records words er ew scratch out es eo =
-    let r = read_found ws t e in
-    record {
-      checked = e ∙ ap good r;
-      records_are = er ∙ ap (λ (x : Sheet). length x.records) r;
-      words_are = ew ∙ ap length_of r;
-      scratch_is = es;
-      out_is = eo;
-    }
+pub sheet_found : (ws : List ℕ) {r : Result Head Refusal} {h : Head} → checked_outcome r ≡ check_call prime ws → r ≡ Ok h
+    → IsSheet ws × (h.words ≡ length_of (read_sheet ws))
+sheet_found ws e q =
+    let t = found prime ws e q in
+    let s = read_found ws t.0 t.1 in
+    (t.1 ∙ ap good s, ap (λ (h : Head). h.words) t.2 ∙ ap length_of s)
 
 take_replicate : (k m : ℕ) → k ≤ m → take {A = ℕ} k (replicate m 0) ≡ replicate k 0
 take_replicate k m h =
@@ -57,7 +53,8 @@ module _ (ws : List ℕ) (lent n : ℕ) where
   call_refused {v = v} e q = refused_outcome v ∙ ap (outcome (lent ∷ []) (n ∷ [])) (on_refused prime ws rest e q)
 
 -- A checked sheet, with scratch and output of zeros.
-module _ {ws : List ℕ} {records words : ℕ} {scratch out : List ℕ} (h : Clear ws records words scratch out) where
+module _ {ws : List ℕ} {records words : ℕ} {scratch out : List ℕ} (checked : IsSheet ws) (records_are : records ≡ length (read_sheet ws).records)
+    (h : Clear ws words scratch out) where
   abbrev s : Sheet
   s = read_sheet ws
 
@@ -79,16 +76,16 @@ module _ {ws : List ℕ} {records words : ℕ} {scratch out : List ℕ} (h : Cle
   scratch_short l =
       refused_clear (record { reason = ScratchTooShort; place = records })
       ∙ ap (outcome (lent ∷ []) (n ∷ []))
-      (ap (refused 14) h.records_are
+      (ap (refused 14) records_are
       ∙ sym (cond_false (leb (length s.records) lent) after (refused 14 (length s.records))
-      (lt-leb (length s.records) lent (omega (arith, h.records_are))))
-      ∙ on_found prime ws (rest ws lent n) h.checked)
+      (lt-leb (length s.records) lent (omega (arith, records_are))))
+      ∙ on_found prime ws (rest ws lent n) checked)
 
   enough : records ≤ lent → after ≡ rest ws lent n s
   unfolding needs
   enough l =
       sym (cond_true (leb (length s.records) lent) after (refused 14 (length s.records))
-      (le-leb (length s.records) lent (omega (arith, h.records_are))))
+      (le-leb (length s.records) lent (omega (arith, records_are))))
 
   pub out_short : records ≤ lent → n < words
       → built_outcome (Err (record { reason = OutputTooShort; place = words })) (zeros lent) out ≡ builder_call prime ws (lent ∷ n ∷ [])
@@ -99,7 +96,7 @@ module _ {ws : List ℕ} {records words : ℕ} {scratch out : List ℕ} (h : Cle
       (ap (refused 15) h.words_are
       ∙ sym (cond_false (leb (length_of s) n) (result (encode (graph_of prime s) ∷ []) []) (refused 15 (length_of s))
       (lt-leb (length_of s) n (omega (arith, h.words_are))))
-      ∙ enough l ∙ on_found prime ws (rest ws lent n) h.checked)
+      ∙ enough l ∙ on_found prime ws (rest ws lent n) checked)
 
   pub graph_built : records ≤ lent → words ≤ n → (written : ℕ) (out' : List ℕ) → out' ≡ graph_out n ws → written ≡ graph_length ws
       → built_outcome (Ok written) (zeros lent) out' ≡ builder_call prime ws (lent ∷ n ∷ [])
@@ -109,17 +106,16 @@ module _ {ws : List ℕ} {records words : ℕ} {scratch out : List ℕ} (h : Cle
       ∙ ap (outcome (lent ∷ []) (n ∷ []))
       (sym (cond_true (leb (length_of s) n) (result (encode (graph_of prime s) ∷ []) []) (refused 15 (length_of s))
       (le-leb (length_of s) n (omega (arith, h.words_are))))
-      ∙ enough l ∙ on_found prime ws (rest ws lent n) h.checked)
+      ∙ enough l ∙ on_found prime ws (rest ws lent n) checked)
 
   -- What building asks of the first words of scratch.
   pub starting : records ≤ lent → words ≤ n → Starting ws (take records scratch) out
   unfolding zeros
   starting l k = record {
-    checked = h.checked;
     room = omega (arith, h.words_are);
     scratch_is =
         ap (take records) h.scratch_is
         ∙ take_replicate records lent l
-        ∙ ap (λ (m : ℕ). replicate m 0) h.records_are;
+        ∙ ap (λ (m : ℕ). replicate m 0) records_are;
     out_is = h.out_is;
   }

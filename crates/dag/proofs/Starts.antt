@@ -12,13 +12,14 @@ use Rattle.semantics.specs.Call.{zeros, padded}
 use Rattle.semantics.proofs.Places.{place_head}
 use Rattle.semantics.proofs.Encoding.{sheet_length}
 use Rattle.semantics.proofs.GraphSheets.{named_below}
-use Rattle.records.specs.Access.{records_of, interactions_at, root_words, AllRootsInside}
+use Rattle.records.specs.Access.{IsSheet, records_of}
+use Rattle.records.specs.Named.{references}
 use Rattle.records.proofs.Rooting.{order_none}
-use Rattle.records.proofs.Reading.{interactions_stand, interactions_inside, roots_are}
 use Rattle.records.proofs.Steps.{inside}
 use Rattle.nodes.specs.Memory.{tabulate, mark, nodes_out, built_of, GraphHolds}
 use Rattle.graph_lists.specs.Lists.{ToWriteLists}
-use Rattle.graph_walk.specs.Walking.{AddWalking, Walks}
+use Rattle.graph_walk.specs.declared.Walk.{Walk}
+use Rattle.graph_walk.specs.Walking.{Starts, AddWalking, Walks}
 use Rattle.graph_walk.proofs.Rooting.{walking_after, walks_both}
 use Rattle.dag.specs.Calls.{Starting}
 
@@ -27,14 +28,14 @@ unfolding tabulate
 table_zeros k zero f h = refl
 table_zeros k (suc n) f h = λ i. sym (h k) i ∷ table_zeros (suc k) n f h i
 
-module _ {ws scratch out : List ℕ} (b : Starting ws scratch out) where
+module _ {ws scratch out : List ℕ} (checked : IsSheet ws) (b : Starting ws scratch out) where
   abbrev s : Sheet
   s = read_sheet ws
 
   abbrev E : ℕ
   E = length (records_of ws)
 
-  room : place 5 E ≤ length out
+  pub room : place 5 E ≤ length out
   unfolding length_of
   room = omega (arith, sheet_length s, b.room)
 
@@ -48,41 +49,45 @@ module _ {ws scratch out : List ℕ} (b : Starting ws scratch out) where
     count_is = refl;
   }
 
-  pub start_walking : AddWalking ws scratch out 0
-  start_walking = record { checked = b.checked; room = room; done = []; order = order_none ws; holds = holds_none }
+  module _ {u : Walk} (t : Starts ws scratch out u) where
+    pub start_walking : AddWalking u
+    start_walking = record {
+      done = [];
+      order = order_none u.sheet.words.now;
+      holds =
+          subst (λ (x : List ℕ × (List ℕ × (List ℕ × ℕ))). GraphHolds x.0 [] x.1.0 x.1.1.0 x.1.1.1)
+          (λ i. (sym t.sheet_is i, (sym t.scratch_is i, (sym t.out_is i, sym t.none i)))) holds_none;
+    }
 
-  -- The records that the constraints name.
-  module _ {names : List ℕ} (e : names ≡ s.constraints) where
-    pub names_below : Below E names
-    names_below = subst (Below E) (sym e) (named_below E s.constraints (inside ws b.checked).constraints)
+    -- The records that the constraints name.
+    module _ {names : List ℕ} (e : names ≡ s.constraints) where
+      pub names_below : Below (length (records_of u.sheet.words.now)) names
+      names_below =
+          subst (λ (x : List ℕ). Below (length (records_of x)) names) (sym t.sheet_is)
+          (subst (Below E) (sym e) (named_below E s.constraints (inside ws checked).constraints))
 
-    -- When the constraints are added.
-    pub walking_next : (s₁ o₁ : List ℕ) (n₁ : ℕ) → length o₁ ≡ length out → Walks ws names scratch out 0 s₁ o₁ n₁ → AddWalking ws s₁ o₁ n₁
-    walking_next s₁ o₁ n₁ = walking_after ws names names_below scratch out 0 s₁ o₁ n₁ start_walking
+      -- When the constraints are added.
+      module _ {v : Walk} (f : Walks u names v) where
+        pub walking_next : AddWalking v
+        walking_next = walking_after names names_below start_walking f
 
-    -- The records that the interactions name.
-    module _ {at ints : ℕ} (a : at ≡ interactions_at ws) (i : ints ≡ length s.interactions) where
-      pub all_inside : AllRootsInside ws at ints
-      all_inside =
-          subst (λ (k : ℕ). AllRootsInside ws k ints) (sym a)
-          (subst (AllRootsInside ws (interactions_at ws)) (sym i) (interactions_inside ws b.checked))
-
-      roots_all : names ++ root_words ws at ints ≡ graph_roots s
-      unfolding graph_roots
-      roots_all =
-          let stands = interactions_stand ws b.checked in
-          (λ k. e k ++ root_words ws (a k) (i k)) ∙ ap (λ (r : List ℕ). s.constraints ++ r) (roots_are stands.0 ws (interactions_at ws) s.interactions stands.1)
-
-      -- When all are.
-      pub finishing : (s₁ o₁ : List ℕ) (n₁ : ℕ) (s₂ o₂ : List ℕ) (n₂ : ℕ) → Walks ws names scratch out 0 s₁ o₁ n₁
-          → Walks ws (root_words ws at ints) s₁ o₁ n₁ s₂ o₂ n₂ → length o₂ ≡ length out → ToWriteLists ws s₂ o₂ n₂
-      unfolding order
-      finishing s₁ o₁ n₁ s₂ o₂ n₂ v w k =
-          let all = walks_both ws start_walking names (root_words ws at ints) names_below s₁ o₁ n₁ s₂ o₂ n₂ v w in
-          record {
-            checked = b.checked;
-            room = omega (arith, b.room);
-            holds =
-                subst (λ (r : List ℕ). GraphHolds ws (fold_left (visit (children_at (records_of ws)) E) [] r) s₂ o₂ n₂) roots_all
-                (all [] (order_none ws) holds_none);
-          }
+        -- When all are, the interactions' too.
+        pub finishing : {w : Walk} → Walks v (references (read_sheet v.sheet.words.now).interactions) w → {s' o' : List ℕ} {n : ℕ}
+            → w.scratch.now ≡ s' → w.out.now ≡ o' → n ≡ w.n → ToWriteLists ws s' o' n
+        unfolding order graph_roots start_walking
+        finishing {w} g {s'} {o'} {n} scratch_is out_is count_is =
+            let same : v.sheet.words.now ≡ ws = f.0.sheet ∙ t.sheet_is in
+            let all : Walks u (names ++ references s.interactions) w =
+            walks_both names (references s.interactions) names_below f
+            (subst (λ (x : List ℕ). Walks v (references (read_sheet x).interactions) w) same g)
+            in
+            let long : length o' ≡ length out = sym (ap length out_is) ∙ all.0.long ∙ ap length t.out_is in
+            record {
+              room = omega (arith, b.room, long);
+              holds =
+                  subst (λ (x : List ℕ × ((List ℕ × List ℕ) × (List ℕ × (List ℕ × ℕ)))). GraphHolds x.0
+                  (fold_left (visit (children_at (records_of x.1.0.0)) (length (records_of x.1.0.0))) [] (x.1.0.1 ++ references s.interactions))
+                  x.1.1.0 x.1.1.1.0 x.1.1.1.1)
+                  (λ i. ((all.0.sheet ∙ t.sheet_is) i, ((t.sheet_is i, e i), (scratch_is i, (out_is i, sym count_is i)))))
+                  (all.1 [] (order_none u.sheet.words.now) start_walking.holds);
+            }

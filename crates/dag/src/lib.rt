@@ -11,19 +11,20 @@ ghost use Rattle.dag.specs.Calls.{built_outcome, Clear};
 mod graph;
 
 use answers::{Reason, Refusal};
+use records::CheckedSheet;
 
-// The graph of a checked sheet, where scratch and output are long enough.
+// The graph of a checked sheet that has so many words without spare ones, where scratch and output are long enough.
 fn build_checked(
-    s: &[u32],
-    records: usize,
+    sheet: CheckedSheet,
     words: usize,
     scratch: &mut [u32],
     out: &mut [u32],
 ) -> Result<usize, Refusal>
-    requires { Clear s.now records words scratch.old out.old }
+    requires { Clear sheet.words.now words scratch.old out.old }
     ensures { built_outcome result (zeros (length scratch.old)) out.new
-        ≡ builder_call (prime_of s.now) s.now (lengths (scratch ∷ out ∷ [])) }
+        ≡ builder_call (prime_of sheet.entry.words.now) sheet.entry.words.now (lengths (scratch ∷ out ∷ [])) }
 {
+    let records = sheet.num_records();
     if scratch.len() < records {
         return Err(Refusal {
             reason: Reason::ScratchTooShort,
@@ -36,7 +37,7 @@ fn build_checked(
             place: words,
         });
     }
-    let written = graph::build_graph(s, &mut scratch[..records], out);
+    let written = graph::build_graph(sheet, &mut scratch[..records], out);
     Ok(written)
 }
 
@@ -50,7 +51,8 @@ fn build_clear(s: &[u32], scratch: &mut [u32], out: &mut [u32]) -> Result<usize,
     let Ok(head) = checked else {
         return Err(checked.unwrap_err());
     };
-    build_checked(s, head.records, head.words, scratch, out)
+    let sheet = CheckedSheet { words: s };
+    build_checked(sheet, head.words, scratch, out)
 }
 
 // The builder: checks the sheet and writes its graph; scratch ends all zero.

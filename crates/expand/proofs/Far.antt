@@ -1,7 +1,7 @@
 -- How far an expansion has come when some records are expanded, one after the other.
 use mathlib.Core.Path.{◌≡◌, refl, sym, subst, ◌∙◌}
 use mathlib.Core.List.{List, [], ◌++◌, append_assoc}
-use Prim.Native.Nat.{ℕ, ◌≤◌}
+use Prim.Native.Nat.{ℕ}
 use lib.ListN.{length}
 use Rattle.semantics.specs.Answer.{and_then}
 use Rattle.semantics.specs.Walk.{Below, children_at, fold_left, visit}
@@ -10,63 +10,63 @@ use Rattle.semantics.proofs.Members.{not_in, append_below}
 use Rattle.answers.specs.declared.Refusal.{Refusal}
 use Rattle.std.specs.Prelude.{Result, Ok, Err}
 use Rattle.records.specs.Access.{records_of}
-use Rattle.records.specs.Orders.{Visiting}
+use Rattle.records.specs.Orders.{Order, Visiting}
 use Rattle.records.proofs.Rooting.{order_walk, visiting_none, visiting_both}
 use Rattle.records.proofs.Visited.{Stays, visiting_stopped}
-use Rattle.expand.specs.Walking.{Expands, ExpandWalking}
+use Rattle.expand.specs.declared.Walk.{Walk}
+use Rattle.expand.specs.Walks.{Holds, Answers, Same, ExpandWalking, Walked}
 
--- What some roots come to.
-abbrev pub Roots : (ws roots pool : List ℕ) (used : ℕ) (pool' : List ℕ) → Result ℕ Refusal → Type 0
-Roots ws roots pool used pool' u = Visiting ws roots (Expands ws pool (Ok used)) (Expands ws pool' u)
+pub same_here : (v : Walk) → Same v v
+same_here v = record { sheet = refl; work = refl; pool = refl }
+
+pub same_then : {v w x : Walk} → Same v w → Same w x → Same v x
+same_then s t = record { sheet = t.sheet ∙ s.sheet; work = t.work ∙ s.work; pool = t.pool ∙ s.pool }
 
 -- A walk that was refused stays refused, whatever records come.
-pub refused_stays : (ws pool : List ℕ) {u : Result ℕ Refusal} (v : Refusal) → u ≡ Err v → Stays (Expands ws pool u)
+pub refused_stays : (w : Walk) {u : Result (Unit {0}) Refusal} (q : Refusal) → u ≡ Err q → Stays (Answers w u)
 unfolding expand_all and_then
-refused_stays ws pool v g = subst (λ (u : Result ℕ Refusal). Stays (Expands ws pool u)) (sym g) (λ done i e. rw e)
+refused_stays w q g = subst (λ (u : Result (Unit {0}) Refusal). Stays (Answers w u)) (sym g) (λ done i e. rw e)
 
 -- What holds when these roots are expanded.
-pub record Far (ws roots work₀ pool₀ : List ℕ) (used₀ : ℕ) (work pool : List ℕ) (used : ℕ) : Type 0 where
-  pub below : Below (length (records_of ws)) roots
-  pub walks : Roots ws roots pool₀ used₀ pool (Ok used)
-  pub work_length : length work ≡ length work₀
-  pub pool_length : length pool ≡ length pool₀
+pub record Far (v : Walk) (roots : List ℕ) (w : Walk) : Type 0 where
+  pub below : Below (length (records_of v.sheet.words.now)) roots
+  pub walked : Walked v roots w (Ok tt)
 
-module _ (ws work₀ pool₀ : List ℕ) (used₀ : ℕ) (p : ExpandWalking ws work₀ pool₀ used₀) where
-  pub far_none : Far ws [] work₀ pool₀ used₀ work₀ pool₀ used₀
-  far_none = record {
-    below = λ y i. not_in y i;
-    walks = visiting_none ws (Expands ws pool₀ (Ok used₀));
-    work_length = refl;
-    pool_length = refl;
-  }
+module _ {v : Walk} (p : ExpandWalking v) where
+  abbrev ws : List ℕ
+  ws = v.sheet.words.now
 
-  module _ (roots work pool : List ℕ) (used : ℕ) (h : Far ws roots work₀ pool₀ used₀ work pool used) where
-    unfoldable pub far_walking : ExpandWalking ws work pool used
-    far_walking = record {
-      checked = p.checked;
-      room = subst (λ (n : ℕ). 4096 ≤ n) (sym h.work_length) p.room;
-      done = fold_left (visit (children_at (records_of ws)) (length (records_of ws))) p.done roots;
-      order = order_walk ws p.checked roots h.below p.done p.order;
-      holds = h.walks p.done p.order p.holds;
-    }
+  pub far_none : Far v [] v
+  far_none = record { below = λ y i. not_in y i; walked = (same_here v, visiting_none ws (Holds v)) }
 
-    module _ (more work₁ pool₁ : List ℕ) (u : Result ℕ Refusal) (f : Roots ws more pool used pool₁ u) where
-      pub far_both : Roots ws (roots ++ more) pool₀ used₀ pool₁ u
-      far_both =
-          visiting_both ws p.checked roots more h.below (Expands ws pool₀ (Ok used₀)) (Expands ws pool (Ok used))
-          (Expands ws pool₁ u) h.walks f
+  module _ {roots : List ℕ} {w : Walk} (h : Far v roots w) where
+    unfoldable pub far_walking : ExpandWalking w
+    far_walking =
+        let done : List ℕ = fold_left (visit (children_at (records_of ws)) (length (records_of ws))) p.done roots in record {
+          done = done;
+          order = subst (λ (s : List ℕ). Order s done) (sym h.walked.0.sheet) (order_walk ws v.sheet.checked roots h.below p.done p.order);
+          holds = h.walked.1 p.done p.order p.holds;
+        }
 
-      pub far_more : Below (length (records_of ws)) more → length work₁ ≡ length work → length pool₁ ≡ length pool → (n : ℕ) → u ≡ Ok n
-          → Far ws (roots ++ more) work₀ pool₀ used₀ work₁ pool₁ n
-      far_more b lw lp n e = record {
+    module _ (more : List ℕ) (x : Walk) (u : Result (Unit {0}) Refusal) (f : Walked w more x u) where
+      pub far_both : Walked v (roots ++ more) x u
+      far_both = (
+        same_then h.walked.0 f.0,
+        visiting_both ws v.sheet.checked roots more h.below (Holds v) (Holds w) (Answers x u) h.walked.1
+            (subst (λ (s : List ℕ). Visiting s more (Holds w) (Answers x u)) h.walked.0.sheet f.1),
+      )
+
+      pub far_more : Below (length (records_of ws)) more → {n : Unit {0}} → u ≡ Ok n → Far v (roots ++ more) x
+      far_more b e = record {
         below = append_below (length (records_of ws)) roots more h.below b;
-        walks = subst (Roots ws (roots ++ more) pool₀ used₀ pool₁) e far_both;
-        work_length = lw ∙ h.work_length;
-        pool_length = lp ∙ h.pool_length;
+        walked = subst (Walked v (roots ++ more) x) e far_both;
       }
 
       -- A refusal is the answer for all roots that are left.
-      pub far_refused : (v : Refusal) → u ≡ Err v → (rest all : List ℕ) → all ≡ roots ++ (more ++ rest) → Roots ws all pool₀ used₀ pool₁ u
-      far_refused v e rest all q =
-          subst (λ (xs : List ℕ). Roots ws xs pool₀ used₀ pool₁ u) (sym (q ∙ sym (append_assoc roots more rest)))
-          (visiting_stopped ws (Expands ws pool₁ u) (refused_stays ws pool₁ v e) (Expands ws pool₀ (Ok used₀)) (roots ++ more) rest far_both)
+      pub far_refused : {q : Refusal} → u ≡ Err q → (rest all : List ℕ) → all ≡ roots ++ (more ++ rest) → Walked v all x u
+      far_refused {q} e rest all i =
+          let b = far_both in (
+            b.0,
+            subst (λ (xs : List ℕ). Visiting ws xs (Holds v) (Answers x u)) (sym (i ∙ sym (append_assoc roots more rest)))
+                (visiting_stopped ws (Answers x u) (refused_stays x q e) (Holds v) (roots ++ more) rest b.1),
+          )

@@ -1,87 +1,60 @@
--- The list of a record from its children's lists in the pool, by the record's kind.
+-- The list of a record from its children's lists in the pool, by the record's node.
 use mathlib.Core.Path.{◌≡◌, refl, sym, ap, subst, ◌∙◌}
-use mathlib.Core.Bool.{false}
+use mathlib.Core.Bool.{Bool, true, false}
 use mathlib.Core.List.{List, [], ◌∷◌, ◌++◌, map}
-use Prim.Native.Nat.{ℕ, ◌+◌, ◌*◌, ◌≤◌, ◌<◌}
+use Prim.Native.Nat.{ℕ, ◌≤◌, ◌<◌}
 use native.Mathlib.Omega.{arith}
 use lib.Dec.{eqb}
-use lib.ListN.{length, get_or}
-use borrow.Author.Tests.{eqb-true, eq-eqb, ne_eqb}
+use lib.ListN.{length}
+use borrow.Author.Tests.{eqb-true, eq-eqb}
 use Rattle.semantics.specs.Arithmetic.{prime}
 use Rattle.semantics.specs.Answer.{good}
 use Rattle.semantics.specs.Sheet.{Record, GoodRecord}
 use Rattle.semantics.specs.Check.{read_sheet, check}
-use Rattle.semantics.specs.Packing.{pack_fault}
-use Rattle.semantics.specs.Value.{Node, add, sub, neg, mul, node_of, record_at}
-use Rattle.semantics.specs.Walk.{Mem, children_at, member}
+use Rattle.semantics.specs.Packing.{packed, pack_fault}
+use Rattle.semantics.specs.Value.{Leaf, Node, leaf, const, add, sub, neg, mul, node_of, record_at}
+use Rattle.semantics.specs.Walk.{Mem, children, children_at, member}
 use Rattle.semantics.specs.Monomial.{Monomial, neg_monomial, products, combine, working, finished, record_list, list_at}
-use Rattle.semantics.specs.Expand.{work_fault, record_fault}
+use Rattle.semantics.specs.Expand.{longer, work_fault, record_fault}
 use Rattle.semantics.proofs.Basics.{by_test, cond_true}
 use Rattle.semantics.proofs.Expansions.{list_at_lem}
 use Rattle.std.specs.Prelude.{Result, Ok, Err}
 use Rattle.answers.specs.declared.Reason.{Reason}
 use Rattle.answers.specs.declared.Refusal.{Refusal}
 use Rattle.records.specs.declared.Record as declared
+use Rattle.records.specs.declared.Node as nodes
 use Rattle.records.specs.Access.{five_words, node_in, records_of}
+use Rattle.records.specs.Nodes.{shown_node}
 use Rattle.records.specs.Orders.{Order}
 use Rattle.records.proofs.Steps.{lows}
-use Rattle.records.proofs.Visits.{record_good, kind_limits, is, kind_is, a_is, b_is, has_a, has_b}
-use Rattle.monomial.specs.Words.{held, list_in, ListFits, Stored}
-use Rattle.expand.specs.Making.{Makes, ListStands}
-use Rattle.expand.specs.Walking.{PoolHolds, Expands, Storing, Stores, Finishing}
-use Rattle.expand.specs.declared.kinds.PoolList.{PoolList}
-use Rattle.monomial.proofs.ListLaws.{list_fits_at}
-use Rattle.expand.proofs.Leaves.{flat_list, flat_fault}
-use Rattle.expand.proofs.Storing.{expand_fault, storing, stored}
+use Rattle.records.proofs.Visits.{record_good, kind_limits, is}
+use Rattle.monomial.specs.declared.Sign.TheVariants.{Plus, Minus}
+use Rattle.monomial.specs.Signs.{signed}
+use Rattle.monomial.specs.Words.{constant, single, Stored}
+use Rattle.expand.specs.Making.{Makes, MakesCombined}
+use Rattle.expand.specs.declared.Walk.{Walk}
+use Rattle.expand.specs.Walking.{PoolHolds, Expands, ChildrenStored, Storing, Stores}
+use Rattle.expand.specs.Walks.{Holds, Finishing}
+use Rattle.expand.proofs.Nodes.{number, packs_none, leaf_kind, constant_kind}
+use Rattle.expand.proofs.Leaves.{constant_small}
+use Rattle.expand.proofs.Working.{neg_fine}
+use Rattle.expand.proofs.Storing.{expand_fault, storing, stored, full}
 
-makes_same : (work : List ℕ) (u : Result ℕ Reason) (f g : ℕ) (l m : List Monomial) → f ≡ g → l ≡ m → Makes work u f l → Makes work u g m
-makes_same work u f g l m e d h = subst (λ (n : ℕ). Makes work u n m) e (subst (Makes work u f) d h)
+-- Members of the children.
+first_in : (x : ℕ) (xs : List ℕ) → Mem x (x ∷ xs)
+unfolding member
+first_in x xs = cond_true (eqb x x) true _ (eq-eqb x x refl)
 
--- The kinds with children.
-module _ (r : Record) where
-  packs_none : (r.kind ≡ 1 → ⊥) → pack_fault r ≡ 0
-  unfolding pack_fault
-  packs_none n = rw (ne_eqb r.kind 1 n)
+second_in : (x y : ℕ) → Mem y (x ∷ y ∷ [])
+unfolding member
+second_in x y = by_test (λ (t : Bool). t ≡ true) (eqb y x) (λ e. refl) (λ e. first_in y [])
 
-  add_node : r.kind ≡ 6 → node_of r ≡ add r.a r.b
-  unfolding node_of
-  add_node e = rw e
+makes_same : (u : Result (List Monomial) Reason) (f g : ℕ) (l m : List Monomial) → f ≡ g → l ≡ m → Makes u f l → Makes u g m
+makes_same u f g l m e d h = subst (λ (n : ℕ). Makes u n m) e (subst (Makes u f) d h)
 
-  sub_node : r.kind ≡ 7 → node_of r ≡ sub r.a r.b
-  unfolding node_of
-  sub_node e = rw e
-
-  neg_node : r.kind ≡ 8 → node_of r ≡ neg r.a
-  unfolding node_of
-  neg_node e = rw e
-
-  mul_node : r.kind ≡ 9 → node_of r ≡ mul r.a r.b
-  unfolding node_of
-  mul_node e = rw e
-
--- The list of the child c in the pool, as it was read.
-abbrev pub Reads : (pool : List ℕ) (c : ℕ) → PoolList → Type 0
-Reads pool c x = (x.at ≡ get_or pool (2 * c) 0) × (x.count ≡ get_or pool (2 * c + 1) 0)
-
--- A record whose children are expanded, as its words were read, and its left child's list.
-pub record LeftList (ws : List ℕ) (r : ℕ) (work pool : List ℕ) (used : ℕ) (q : declared.Record) (x : PoolList) : Type 0 where
-  pub finishing : Finishing ws r work pool used
-  pub words_are : five_words q ≡ node_in ws r
-  pub parent : 6 ≤ q.kind
-  pub reads : Reads pool q.a x
-
--- And its right child's list.
-pub record BothLists (ws : List ℕ) (r : ℕ) (work pool : List ℕ) (used : ℕ) (q : declared.Record) (x y : PoolList) : Type 0 where
-  pub left : LeftList ws r work pool used q x
-  pub two : q.kind ≡ 8 → ⊥
-  pub reads : Reads pool q.b y
-
-module _ {ws : List ℕ} {r : ℕ} {work pool : List ℕ} {used : ℕ} (p : Finishing ws r work pool used) where
-  abbrev checked : check prime ws ≡ good (read_sheet ws)
-  checked = p.ready.walking.checked
-
-  abbrev l : r < length (records_of ws)
-  l = p.ready.inside
+module _ {ws : List ℕ} {r : ℕ} {pool : List ℕ} (checked : check prime ws ≡ good (read_sheet ws)) (p : ChildrenStored ws r pool) where
+  abbrev inside : r < length (records_of ws)
+  inside = p.inside
 
   abbrev R : Record
   R = record_at (records_of ws) r
@@ -89,168 +62,141 @@ module _ {ws : List ℕ} {r : ℕ} {work pool : List ℕ} {used : ℕ} (p : Fini
   abbrev lists : ℕ → List Monomial
   lists = list_at prime (records_of ws)
 
-  -- A record that is no leaf is refused for its working list only, and its list is finished from that.
-  fault_is : (k : Node) → node_of R ≡ k → pack_fault R ≡ 0 → work_fault (working prime R k lists) ≡ record_fault prime (records_of ws) r
-  unfolding record_fault
-  fault_is k e z = ap (λ (n : Node). work_fault (working prime R n lists)) (sym e) ∙ sym (cond_true (eqb (pack_fault R) 0) _ (pack_fault R) (eq-eqb (pack_fault R) 0 z))
+  limit : R.kind ≤ 9
+  limit = (kind_limits ws checked r inside).1
 
-  list_is : (k : Node) → node_of R ≡ k → finished prime k (working prime R k lists) ≡ lists r
-  list_is k e = ap (λ (n : Node). finished prime n (working prime R n lists)) (sym e) ∙ sym (list_at_lem prime (records_of ws) (lows ws checked) r l ∙ unfold record_list in refl)
-
-  -- A child's list.
-  module _ (c : ℕ) (m : Mem c (children_at (records_of ws) r)) where
-    kept : Stored pool c (lists c)
-    kept = p.ready.walking.holds.old c (p.there c m)
-
-    child_head : 2 * c + 1 < length pool
-    child_head = kept.head
-
-    module _ (x : PoolList) (g : Reads pool c x) where
-      both : ListFits pool x.at x.count × (list_in pool x.at x.count ≡ lists c)
-      both =
-          rw (g.0, g.1)
-          (list_fits_at pool (get_or pool (2 * c) 0) (get_or pool (2 * c + 1) 0) (lists c) kept.words_are kept.count_is kept.inside kept.fit)
-
-      child_fits : (x.count ≤ 256) × ListFits pool x.at x.count
-      child_fits = (omega (arith, g.1, kept.count_is, kept.few), both.0)
-
-      child_list : list_in pool x.at x.count ≡ lists c
-      child_list = both.1
-
+  -- The words that are read are the record's, and so is their node.
   module _ (q : declared.Record) (e : five_words q ≡ node_in ws r) where
     words : five_words q ≡ R
-    words = is ws checked r l q e
+    words = is ws checked r inside q e
 
-    kind : q.kind ≡ R.kind
-    kind = kind_is ws checked r l q e
+    module _ {n : nodes.Node} (f : shown_node n ≡ node_of (five_words q)) where
+      pub shown : {m : nodes.Node} → n ≡ m → shown_node m ≡ node_of R
+      shown i = sym (ap shown_node i) ∙ f ∙ ap node_of words
 
-    -- A leaf.
-    pub leaf_good : GoodRecord prime r (five_words q)
-    leaf_good = subst (GoodRecord prime r) (sym words) (record_good ws checked r l)
+  -- By its node: why the record is refused, and its list.
+  module _ (k : Node) (n : k ≡ node_of R) where
+    -- The list of a child.
+    child : (c : ℕ) → Mem c (children k) → Stored pool c (lists c)
+    child c m = p.stored c (unfold children_at in (subst (λ (x : Node). Mem c (children x)) n m))
 
-    pub finishes_leaf : q.kind < 6 → (work' : List ℕ) (u : Result ℕ Reason) → Makes work' u (pack_fault (five_words q)) (record_list prime (five_words q) (λ c. []))
-        → Makes work' u (record_fault prime (records_of ws) r) (lists r)
+    made_as : (f : ℕ) → f ≡ record_fault prime (records_of ws) r → (l : List Monomial) → l ≡ finished prime k (working prime R k lists)
+        → (u : Result (List Monomial) Reason) → Makes u f l → Makes u (record_fault prime (records_of ws) r) (lists r)
+    made_as f g l h u m =
+        makes_same u f _ l (lists r) g
+        (h ∙ ap (λ (x : Node). finished prime x (working prime R x lists)) n ∙ sym (list_at_lem prime (records_of ws) (lows ws checked) r inside ∙ unfold record_list in refl)) m
+
+    -- Any but a leaf is refused for its working list only.
+    parent_fault : (number k ≡ 0 → ⊥) → work_fault (working prime R k lists) ≡ record_fault prime (records_of ws) r
     unfolding record_fault
-    finishes_leaf h work' u m =
-        let low : R.kind ≤ 5 = omega (arith, kind) in
-        makes_same work' u (pack_fault (five_words q)) (record_fault prime (records_of ws) r) (record_list prime (five_words q) (λ c. [])) (lists r)
-        (ap pack_fault words ∙ by_test (λ (n : ℕ). pack_fault R ≡ n) (eqb (pack_fault R) 0) (λ t. eqb-true (pack_fault R) 0 t ∙ sym (flat_fault R low lists)) (λ t. refl))
-        (ap (λ (z : Record). record_list prime z (λ c. [])) words ∙ flat_list R low (λ c. []) lists ∙ sym (list_at_lem prime (records_of ws) (lows ws checked) r l))
-        m
+    parent_fault z =
+        ap (λ (x : Node). work_fault (working prime R x lists)) n
+        ∙ sym (cond_true (eqb (pack_fault R) 0) _ (pack_fault R) (eq-eqb (pack_fault R) 0 (packs_none R (λ y. z (ap number n ∙ y)))))
 
-    module _ (k : 6 ≤ q.kind) where
-      plain : pack_fault R ≡ 0
-      plain = packs_none R (λ z. omega (arith, kind))
+  -- A leaf is refused for its packing only.
+  module _ (x : Leaf) (n : leaf x ≡ node_of R) where
+    leaf_fault : pack_fault R ≡ record_fault prime (records_of ws) r
+    unfolding record_fault work_fault working longer
+    leaf_fault =
+        by_test (λ (t : ℕ). pack_fault R ≡ t) (eqb (pack_fault R) 0)
+        (λ t. eqb-true (pack_fault R) 0 t ∙ ap (λ (y : Node). work_fault (working prime R y lists)) n) (λ t. refl)
 
-      pub left_head : 2 * q.a + 1 < length pool
-      left_head = child_head q.a (has_a ws checked r l q e k)
+    module _ (q : declared.Record) (e : five_words q ≡ node_in ws r) where
+      pub leaf_ready : (q.kind ≤ 4) × GoodRecord prime r (five_words q)
+      leaf_ready = (
+        subst (λ (w : Record). w.kind ≤ 4) (sym (words q e)) (leaf_kind R limit n),
+        subst (GoodRecord prime r) (sym (words q e)) (record_good ws checked r inside),
+      )
 
-      pub right_head : (q.kind ≡ 8 → ⊥) → 2 * q.b + 1 < length pool
-      right_head n = child_head q.b (has_b ws checked r l q e k n)
+      pub finishes_leaf : (u : Result (List Monomial) Reason) → Makes u (pack_fault (five_words q)) (single (packed (five_words q)) ∷ [])
+          → Makes u (record_fault prime (records_of ws) r) (lists r)
+      unfolding working finished
+      finishes_leaf u m =
+          made_as (leaf x) n (pack_fault R) leaf_fault (single (packed R) ∷ []) refl u
+          (subst (λ (w : Record). Makes u (pack_fault w) (single (packed w) ∷ [])) (words q e) m)
 
--- A Neg.
-module _ {ws : List ℕ} {r : ℕ} {work pool : List ℕ} {used : ℕ} {q : declared.Record} {x : PoolList} (h : LeftList ws r work pool used q x) where
-  abbrev p₁ : Finishing ws r work pool used
-  p₁ = h.finishing
+  -- A constant.
+  module _ (k : ℕ) (n : const k ≡ node_of R) where
+    pub constant_ready : k < prime
+    constant_ready =
+        let (five, same) = constant_kind R limit n in
+        subst (λ (a : ℕ). a < prime) same (constant_small r R (record_good ws checked r inside) five)
 
-  abbrev X : List Monomial
-  X = list_in pool x.at x.count
+    pub finishes_constant : (l : List Monomial) → l ≡ constant k ∷ [] → Makes (Ok l) (record_fault prime (records_of ws) r) (lists r)
+    unfolding working finished work_fault longer
+    finishes_constant l e = made_as (const k) n 0 (parent_fault (const k) n (λ z. omega (arith, z))) (constant k ∷ []) refl (Ok l) (refl, e)
 
-  left_in : Mem q.a (children_at (records_of ws) r)
-  left_in = has_a ws (checked p₁) r (l p₁) q h.words_are h.parent
+  -- A Neg.
+  module _ (x : ℕ) (n : neg x ≡ node_of R) where
+    pub neg_child : Stored pool x (lists x)
+    unfolding children
+    neg_child = child (neg x) n x (first_in x [])
 
-  left_list : X ≡ list_at prime (records_of ws) (record_at (records_of ws) r).a
-  left_list = child_list p₁ q.a left_in x h.reads ∙ ap (list_at prime (records_of ws)) (a_is ws (checked p₁) r (l p₁) q h.words_are)
+    pub finishes_neg : (l : List Monomial) (z : List Monomial) → z ≡ lists x → l ≡ map (neg_monomial prime) z → Makes (Ok l) (record_fault prime (records_of ws) r) (lists r)
+    unfolding working finished
+    finishes_neg l z e h =
+        let fine : work_fault (map (neg_monomial prime) (lists x)) ≡ 0 = neg_fine (lists x) (record { few = neg_child.few; fit = neg_child.fit }) in
+        made_as (neg x) n 0 (sym fine ∙ parent_fault (neg x) n (λ z. omega (arith, z))) (map (neg_monomial prime) (lists x)) refl (Ok l)
+        (refl, h ∙ ap (map (neg_monomial prime)) e)
 
-  pub left_fits : ListStands pool x
-  left_fits = child_fits p₁ q.a left_in x h.reads
+  -- The children of a node that has two.
+  module _ (k : Node) (n : k ≡ node_of R) {x y : ℕ} (e : children k ≡ x ∷ y ∷ []) where
+    pub first_of : Stored pool x (lists x)
+    first_of = child k n x (subst (Mem x) (sym e) (first_in x (y ∷ [])))
 
-  pub finishes_neg : q.kind ≡ 8 → (work' : List ℕ) (u : Result ℕ Reason) → Makes work' u (work_fault (map (neg_monomial prime) X)) (map (neg_monomial prime) X)
-      → Makes work' u (record_fault prime (records_of ws) r) (list_at prime (records_of ws) r)
-  unfolding working finished
-  finishes_neg k work' u m =
-      let R = record_at (records_of ws) r in
-      let n = neg_node R (sym (kind p₁ q h.words_are) ∙ k) in
-      makes_same work' u _ _ _ _
-      (ap (λ (ms : List Monomial). work_fault (map (neg_monomial prime) ms)) left_list ∙ fault_is p₁ (neg R.a) n (plain p₁ q h.words_are h.parent))
-      (ap (map (neg_monomial prime)) left_list ∙ list_is p₁ (neg R.a) n) m
+    pub second_of : Stored pool y (lists y)
+    second_of = child k n y (subst (Mem y) (sym e) (second_in x y))
 
--- A record with two children.
-module _ {ws : List ℕ} {r : ℕ} {work pool : List ℕ} {used : ℕ} {q : declared.Record} {x y : PoolList} (h : BothLists ws r work pool used q x y) where
-  abbrev p₂ : Finishing ws r work pool used
-  p₂ = h.left.finishing
+  -- A node with two children, whose list is combined.
+  module _ (k : Node) (n : k ≡ node_of R) (z : number k ≡ 0 → ⊥) where
+    finishes_two : (W : List Monomial) → W ≡ working prime R k lists → combine prime (working prime R k lists) ≡ finished prime k (working prime R k lists)
+        → (u : Result (List Monomial) Reason) → MakesCombined u W → Makes u (record_fault prime (records_of ws) r) (lists r)
+    finishes_two W w f u m =
+        made_as k n (work_fault (working prime R k lists)) (parent_fault k n z) (combine prime (working prime R k lists)) f u (subst (MakesCombined u) w m)
 
-  abbrev Y : List Monomial
-  Y = list_in pool y.at y.count
+  module _ (x y : ℕ) (l₁ l₂ : List Monomial) (e₁ : l₁ ≡ lists x) (e₂ : l₂ ≡ lists y) (u : Result (List Monomial) Reason) where
+    pub finishes_add : add x y ≡ node_of R → MakesCombined u (l₁ ++ signed Plus l₂) → Makes u (record_fault prime (records_of ws) r) (lists r)
+    unfolding working finished
+    finishes_add n m = finishes_two (add x y) n (λ z. omega (arith, z)) (l₁ ++ l₂) (λ i. e₁ i ++ e₂ i) refl u m
 
-  right_in : Mem q.b (children_at (records_of ws) r)
-  right_in = has_b ws (checked p₂) r (l p₂) q h.left.words_are h.left.parent h.two
+    pub finishes_sub : sub x y ≡ node_of R → MakesCombined u (l₁ ++ signed Minus l₂) → Makes u (record_fault prime (records_of ws) r) (lists r)
+    unfolding working finished
+    finishes_sub n m = finishes_two (sub x y) n (λ z. omega (arith, z)) (l₁ ++ map (neg_monomial prime) l₂) (λ i. e₁ i ++ map (neg_monomial prime) (e₂ i)) refl u m
 
-  right_list : Y ≡ list_at prime (records_of ws) (record_at (records_of ws) r).b
-  right_list = child_list p₂ q.b right_in y h.reads ∙ ap (list_at prime (records_of ws)) (b_is ws (checked p₂) r (l p₂) q h.left.words_are)
+    pub finishes_mul : mul x y ≡ node_of R → MakesCombined u (products prime l₁ l₂) → Makes u (record_fault prime (records_of ws) r) (lists r)
+    unfolding working finished
+    finishes_mul n m = finishes_two (mul x y) n (λ z. omega (arith, z)) (products prime l₁ l₂) (λ i. products prime (e₁ i) (e₂ i)) refl u m
 
-  -- What summing or multiplying the two asks.
-  pub both_ready : (4096 ≤ length work) × ListStands pool x × ListStands pool y
-  both_ready = (p₂.ready.walking.room, left_fits h.left, child_fits p₂ q.b right_in y h.reads)
+-- What storing asks; and what it comes to, of a record whose children are expanded.
+module _ {v : Walk} {r : ℕ} (p : Finishing v r) where
+  abbrev ws : List ℕ
+  ws = v.sheet.words.now
 
-  -- What is made from the children's lists as its working list is made from them.
-  abbrev worked : Node → List Monomial
-  worked k = working prime (record_at (records_of ws) r) k (list_at prime (records_of ws))
+  abbrev L : List Monomial
+  L = list_at prime (records_of ws) r
 
-  made_as : (k : Node) → node_of (record_at (records_of ws) r) ≡ k → (made : List Monomial) → made ≡ worked k → combine prime (worked k) ≡ finished prime k (worked k)
-      → (work' : List ℕ) (u : Result ℕ Reason) → Makes work' u (work_fault made) (combine prime made) → Makes work' u (record_fault prime (records_of ws) r) (list_at prime (records_of ws) r)
-  made_as k n made same all work' u m =
-      makes_same work' u _ _ _ _ (ap work_fault same ∙ fault_is p₂ k n (plain p₂ q h.left.words_are h.left.parent))
-      (ap (combine prime) same ∙ all ∙ list_is p₂ k n) m
+  pub finish_storing : Storing v.pool.now r v.used
+  finish_storing = let w = p.ready.walking in storing ws w.done v.pool.now v.used w.holds w.order r p.ready.inside p.new v.sheet.checked
 
-  pub finishes_mul : q.kind ≡ 9 → (work' : List ℕ) (u : Result ℕ Reason) → Makes work' u (work_fault (products prime (X h.left) Y)) (combine prime (products prime (X h.left) Y))
-      → Makes work' u (record_fault prime (records_of ws) r) (list_at prime (records_of ws) r)
-  unfolding working finished
-  finishes_mul k work' u m =
-      let R = record_at (records_of ws) r in
-      made_as (mul R.a R.b) (mul_node R (sym (kind p₂ q h.left.words_are) ∙ k)) (products prime (X h.left) Y)
-      (λ i. products prime (left_list h.left i) (right_list i)) refl work' u m
+  module _ (u : Result (List Monomial) Reason) (m : Makes u (record_fault prime (records_of ws) r) L) where
+    -- Its list was not made.
+    pub finish_refused : {f : Reason} → u ≡ Err f → (done : List ℕ) → Holds v done
+        → Expands ws v.pool.now v.used (Err (record { reason = f; place = r })) (r ∷ done)
+    finish_refused {f} e done h =
+        expand_fault ws done (length v.pool.now) r v.used h.used_is f
+        (subst (λ (x : Result (List Monomial) Reason). Makes x (record_fault prime (records_of ws) r) L) e m)
 
-  pub finishes_add : q.kind ≡ 6 → (work' : List ℕ) (u : Result ℕ Reason) → Makes work' u (work_fault (X h.left ++ Y)) (combine prime (X h.left ++ Y))
-      → Makes work' u (record_fault prime (records_of ws) r) (list_at prime (records_of ws) r)
-  unfolding working finished
-  finishes_add k work' u m =
-      let R = record_at (records_of ws) r in
-      made_as (add R.a R.b) (add_node R (sym (kind p₂ q h.left.words_are) ∙ k)) (X h.left ++ Y) (λ i. left_list h.left i ++ right_list i) refl work' u m
+    module _ {l : List Monomial} (e : u ≡ Ok l) (pool' : List ℕ) (lp : length pool' ≡ length v.pool.now) (a : Result ℕ Refusal)
+        (s : Stores v.pool.now pool' r v.used l a) (done : List ℕ) (o : Order ws done) (new : member r done ≡ false) (h : Holds v done) where
+      made : Makes (Ok l) (record_fault prime (records_of ws) r) L
+      made = subst (λ (x : Result (List Monomial) Reason). Makes x (record_fault prime (records_of ws) r) L) e m
 
-  pub finishes_sub : q.kind ≡ 7 → (work' : List ℕ) (u : Result ℕ Reason)
-      → Makes work' u (work_fault (X h.left ++ map (neg_monomial prime) Y)) (combine prime (X h.left ++ map (neg_monomial prime) Y))
-      → Makes work' u (record_fault prime (records_of ws) r) (list_at prime (records_of ws) r)
-  unfolding working finished
-  finishes_sub k work' u m =
-      let R = record_at (records_of ws) r in
-      made_as (sub R.a R.b) (sub_node R (sym (kind p₂ q h.left.words_are) ∙ k)) (X h.left ++ map (neg_monomial prime) Y)
-      (λ i. left_list h.left i ++ map (neg_monomial prime) (right_list i)) refl work' u m
+      -- It is stored.
+      pub finish_stored : {used : ℕ} → a ≡ Ok used → PoolHolds ws (r ∷ done) pool' used
+      finish_stored g =
+          stored ws done v.pool.now v.used h o r p.ready.inside new v.sheet.checked l made.1 made.0 pool' (subst (Stores v.pool.now pool' r v.used l) g s)
 
-  pub kind_nine : (q.kind ≡ 6 → ⊥) → (q.kind ≡ 7 → ⊥) → q.kind ≡ 9
-  kind_nine n₆ n₇ = omega (arith, kind p₂ q h.left.words_are, h.left.parent, kind_limits ws (checked p₂) r (l p₂), n₆, n₇, h.two)
-
--- A record whose list was not made.
-pub finish_refused : {ws done pool : List ℕ} {used : ℕ} → PoolHolds ws done pool used → (r : ℕ)
-    → (work : List ℕ) (u : Result ℕ Reason) → Makes work u (record_fault prime (records_of ws) r) (list_at prime (records_of ws) r)
-    → {f : Reason} → u ≡ Err f → Expands ws pool (Err (record { reason = f; place = r })) (r ∷ done)
-finish_refused {ws} {done} {pool} {used} h r work u m {f} e =
-    expand_fault ws done (length pool) r used h.used_is f
-    (subst (λ (x : Result ℕ Reason). Makes work x (record_fault prime (records_of ws) r) (list_at prime (records_of ws) r)) e m)
-
--- A record whose list was made: what storing it asks, and what it comes to.
-module _ {ws : List ℕ} {r : ℕ} {work pool : List ℕ} {used : ℕ} (p : Finishing ws r work pool used) (work' : List ℕ) (u : Result ℕ Reason)
-    (m : Makes work' u (record_fault prime (records_of ws) r) (list_at prime (records_of ws) r)) {n : ℕ} (e : u ≡ Ok n) where
-  made : Makes work' (Ok n) (record_fault prime (records_of ws) r) (list_at prime (records_of ws) r)
-  made = subst (λ (x : Result ℕ Reason). Makes work' x (record_fault prime (records_of ws) r) (list_at prime (records_of ws) r)) e m
-
-  pub finish_storing : length work' ≡ length work → Storing work' n pool r used
-  finish_storing lw =
-      let w = p.ready.walking in
-      storing ws w.done pool used w.holds w.order r p.ready.inside p.new w.checked work' n made.1 made.2 made.3
-      (subst (λ (k : ℕ). 4096 ≤ k) (sym lw) w.room)
-
-  pub finish_stored : (pool' : List ℕ) → length pool' ≡ length pool → (a : Result ℕ Refusal) → Stores pool pool' r used (held n work') a
-      → (done : List ℕ) → Order ws done → member r done ≡ false → PoolHolds ws done pool used → Expands ws pool' a (r ∷ done)
-  finish_stored pool' lp a s done o new h =
-      stored ws done pool used h o r p.ready.inside new p.ready.walking.checked work' n made.1 made.2 made.3 made.0 pool' lp a s
+      -- There is no room for it.
+      pub finish_full : {q : Refusal} → a ≡ Err q → (used : ℕ) → Expands ws pool' used (Err q) (r ∷ done)
+      finish_full g used =
+          full ws done v.pool.now v.used h o r p.ready.inside new l made.1 made.0 pool' lp (subst (Stores v.pool.now pool' r v.used l) g s)

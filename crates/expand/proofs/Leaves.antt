@@ -1,22 +1,18 @@
--- The lists of leaves, and that a leaf of a checked sheet packs or is refused with 8 to 11.
+-- A leaf of a checked sheet packs or is refused with 8 to 11; a constant of one is below the prime.
 use mathlib.Core.Path.{◌≡◌, refl, sym, ap, subst, ◌∙◌}
-use mathlib.Core.Bool.{Bool, true, false, true≢false, ◌&&◌}
-use mathlib.Core.List.{List, [], ◌∷◌, ◌++◌}
-use Prim.Native.Nat.{ℕ, zero, suc, ◌+◌, ◌≤◌, ◌<◌}
+use mathlib.Core.Bool.{Bool, true, true≢false, ◌&&◌}
+use mathlib.Core.List.{List, [], ◌∷◌}
+use Prim.Native.Nat.{ℕ, zero, suc, ◌≤◌, ◌<◌}
 use native.Mathlib.Omega.{arith}
 use lib.Dec.{eqb, leb, ltb}
-use lib.ListN.{length}
-use borrow.Author.Tests.{eqb-true, eqb-false, ne_eqb, le-leb, leb-true, ltb-true}
+use borrow.Author.Tests.{eqb-true, eqb-false, le-leb, leb-true, ltb-true}
 use Rattle.semantics.specs.Arithmetic.{prime}
 use Rattle.semantics.specs.Answer.{Answer, good, refused, and_then}
 use Rattle.semantics.specs.Sheet.{Record, record_words, row, table, fits, passes, GoodRecord}
 use Rattle.semantics.specs.Check.{reading, scan_words, judged}
 use Rattle.semantics.specs.Packing.{packed, pack_fault, leaf_tests, pack_record, pack}
 use Rattle.semantics.specs.Call.{pack_call}
-use Rattle.semantics.specs.Value.{Node, node_of}
-use Rattle.semantics.specs.Monomial.{Monomial, working, finished, record_list, above}
-use Rattle.semantics.specs.Expand.{longer, work_fault}
-use Rattle.semantics.specs.Lists.{All, Sorted}
+use Rattle.semantics.specs.Monomial.{Monomial}
 use Rattle.semantics.proofs.Basics.{by_test, and_true, true_and}
 use Rattle.semantics.proofs.Records.{fits_row, is_kind, kind_good, words_fit}
 use Rattle.packed_var.specs.declared.PackedVar.{PackedVar}
@@ -24,9 +20,8 @@ use Rattle.answers.specs.declared.Refusal.{Refusal}
 use Rattle.packed_var.specs.Packed.{packed_outcome}
 use Rattle.packed_var.proofs.Answers.{packed_answer, answer_is}
 use Rattle.std.specs.Prelude.{Result, Ok, Err}
-use Rattle.monomial.specs.Words.{held, Fits}
-use Rattle.expand.specs.Making.{single, constant_monomial, Makes}
-use Rattle.monomial.proofs.Sizes.{held_zero}
+use Rattle.monomial.specs.Words.{single}
+use Rattle.expand.specs.Making.{Makes}
 
 -- A scan of words that pass goes through.
 scan_all : {X : Type 0} (n : ℕ) (ts : List (ℕ → Bool)) (i : ℕ) (ws : List ℕ) (x : X) → passes ts ws ≡ true → judged (scan_words n ts (reading i ws)) x ≡ good x
@@ -58,40 +53,6 @@ unfolding pack_record
 record_told r =
     by_test (Told (pack_fault r) (packed r)) (eqb (pack_fault r) 0) (λ e. (eqb-true (pack_fault r) 0 e, refl)) (λ e. (refl, eqb-false (pack_fault r) 0 e))
 
-one_fits : (m : Monomial) → length m.vars ≤ 1 → Sorted above m.vars → m.coef < prime → All Fits (m ∷ [])
-one_fits m l s c = (record { few = omega arith; sorted = s; small = c }, tt)
-
--- A list of one monomial in the work.
-one_made : (work work₁ : List ℕ) (m : Monomial) (fault : ℕ) (list : List Monomial) → held (0 + 1) work₁ ≡ held 0 work ++ (m ∷ []) → fault ≡ 0 → list ≡ m ∷ []
-    → All Fits (m ∷ []) → Makes work₁ (Ok 1) fault list
-one_made work work₁ m fault list h f e k =
-    (f, h ∙ ap (λ (l : List Monomial). l ++ (m ∷ [])) (held_zero work) ∙ sym e, omega arith, subst (All Fits) (sym e) k)
-
--- The list of a leaf.
-leaf_list : (r : Record) → r.kind ≤ 4 → (f : ℕ → List Monomial) → record_list prime r f ≡ single (packed r) ∷ []
-unfolding record_list node_of finished working
-leaf_list r h f =
-    rw (ne_eqb r.kind 5 (omega arith), ne_eqb r.kind 6 (omega arith), ne_eqb r.kind 7 (omega arith), ne_eqb r.kind 8 (omega arith), ne_eqb r.kind 9 (omega arith))
-
-constant_list : (r : Record) → r.kind ≡ 5 → (f : ℕ → List Monomial) → record_list prime r f ≡ constant_monomial r.a ∷ []
-unfolding record_list node_of finished working
-constant_list r e f = rw e
-
--- It looks at no other list, and is no working list that is refused.
-pub flat_list : (r : Record) → r.kind ≤ 5 → (f g : ℕ → List Monomial) → record_list prime r f ≡ record_list prime r g
-flat_list r h f g = go (eqb r.kind 5) refl
-  where
-    go : (t : Bool) → eqb r.kind 5 ≡ t → record_list prime r f ≡ record_list prime r g
-    go true e = constant_list r (eqb-true r.kind 5 e) f ∙ sym (constant_list r (eqb-true r.kind 5 e) g)
-    go false e = let n = eqb-false r.kind 5 e in leaf_list r (omega arith) f ∙ sym (leaf_list r (omega arith) g)
-
-pub flat_fault : (r : Record) → r.kind ≤ 5 → (f : ℕ → List Monomial) → work_fault (working prime r (node_of r) f) ≡ 0
-unfolding node_of working work_fault longer
-flat_fault r h f =
-    let P : Node → Type 0 = λ k. work_fault (working prime r k f) ≡ 0 in
-    by_test P (eqb r.kind 5) (λ e. refl)
-    (λ e. rw (ne_eqb r.kind 6 (omega arith), ne_eqb r.kind 7 (omega arith), ne_eqb r.kind 8 (omega arith), ne_eqb r.kind 9 (omega arith)))
-
 module _ (own : ℕ) (r : Record) (ok : GoodRecord prime own r) where
   -- On a checked sheet packing does not answer 5.
   pub pack_good : r.kind ≤ 4 → pack r ≡ pack_record r
@@ -103,30 +64,18 @@ module _ (own : ℕ) (r : Record) (ok : GoodRecord prime own r) where
       (true_and (leb 1 r.kind && leb r.kind 4) _ (true_and (leb 1 r.kind) (leb r.kind 4) (le-leb 1 r.kind l) (le-leb r.kind 4 h))
       (unfold fits_row in (sym (leaf_row prime own r r.kind l h) ∙ words_fit prime own r ok r.kind refl))))
 
-  constant_small : r.kind ≡ 5 → r.a < prime
+  pub constant_small : r.kind ≡ 5 → r.a < prime
   unfolding fits_row row table fits passes
   constant_small e = ltb-true r.a prime (and_true (ltb r.a prime) _ (words_fit prime own r ok 5 e)).0
 
   -- What `expand_leaf` hands back.
-  module _ (work work₁ : List ℕ) (f : ℕ → List Monomial) where
-    pub constant_made : r.kind ≡ 5 → (m : Monomial) → m ≡ constant_monomial r.a → held (0 + 1) work₁ ≡ held 0 work ++ (m ∷ [])
-        → Makes work₁ (Ok 1) (pack_fault r) (record_list prime r f)
-    unfolding pack_fault
-    constant_made e m em h =
-        one_made work work₁ (constant_monomial r.a) (pack_fault r) (record_list prime r f) (h ∙ ap (λ (x : Monomial). held 0 work ++ (x ∷ [])) em) (rw e)
-        (constant_list r e f) (one_fits (constant_monomial r.a) (omega arith) tt (constant_small e))
+  module _ (low : r.kind ≤ 4) (u : Result PackedVar Refusal) (e : packed_outcome u ≡ pack_call r) where
+    said : {x : Result PackedVar Refusal} → u ≡ x → Told (pack_fault r) (packed r) (packed_answer x)
+    unfolding pack_call
+    said q = subst (Told (pack_fault r) (packed r)) (sym (answer_is u e ∙ pack_good low) ∙ ap packed_answer q) (record_told r)
 
-    module _ (low : r.kind ≤ 4) (u : Result PackedVar Refusal) (e : packed_outcome u ≡ pack_call r) where
-      said : {x : Result PackedVar Refusal} → u ≡ x → Told (pack_fault r) (packed r) (packed_answer x)
-      unfolding pack_call
-      said q = subst (Told (pack_fault r) (packed r)) (sym (answer_is u e ∙ pack_good low) ∙ ap packed_answer q) (record_told r)
+    pub single_made : {v : PackedVar} → u ≡ Ok v → {l : List Monomial} → l ≡ single v.0 ∷ [] → Makes (Ok l) (pack_fault r) (single (packed r) ∷ [])
+    single_made q h = let t = said q in (t.0, h ∙ ap (λ (n : ℕ). single n ∷ []) (sym t.1))
 
-      pub single_made : {v : PackedVar} → u ≡ Ok v → (m : Monomial) → m ≡ single v.0 → held (0 + 1) work₁ ≡ held 0 work ++ (m ∷ [])
-          → Makes work₁ (Ok 1) (pack_fault r) (record_list prime r f)
-      single_made {v} q m em h =
-          let t = said q in
-          one_made work work₁ (single v.0) (pack_fault r) (record_list prime r f) (h ∙ ap (λ (x : Monomial). held 0 work ++ (x ∷ [])) em) t.0
-          (leaf_list r low f ∙ ap (λ (n : ℕ). single n ∷ []) t.1) (one_fits (single v.0) (omega arith) (tt, tt) (omega arith))
-
-      pub leaf_refused : {w : Refusal} → u ≡ Err w → Makes work (Err w.reason) (pack_fault r) (record_list prime r f)
-      leaf_refused q = (said q).0
+    pub leaf_refused : {w : Refusal} → u ≡ Err w → Makes (Err w.reason) (pack_fault r) (single (packed r) ∷ [])
+    leaf_refused q = (said q).0

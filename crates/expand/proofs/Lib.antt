@@ -1,3 +1,4 @@
+pub mod Nodes
 pub mod Leaves
 pub mod Working
 pub mod Storing

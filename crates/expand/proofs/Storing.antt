@@ -19,21 +19,17 @@ use Rattle.semantics.specs.Lists.{All}
 use Rattle.semantics.proofs.Basics.{by_test, not_both}
 use Rattle.semantics.proofs.Members.{mem_cases}
 use Rattle.semantics.proofs.Orders.{distinct_length}
-use Rattle.std.specs.Prelude.{Result, Ok, Err}
+use Rattle.std.specs.Prelude.{Ok, Err}
 use Rattle.answers.specs.declared.Refusal.{Refusal}
 use Rattle.answers.specs.declared.Reason.{Reason}
 use Rattle.answers.specs.Replies.{number_of}
 use Rattle.records.specs.Access.{records_of}
 use Rattle.records.specs.Orders.{Order}
 use Rattle.records.proofs.Steps.{few_records}
-use Rattle.monomial.specs.Words.{held, list_words, Fits, Stored}
-use Rattle.expand.specs.Walking.{PoolHolds, Expands, with_list, Storing, Stores}
-use Rattle.monomial.proofs.ListLaws.{size_nil, size_cons, words_length}
-use Rattle.monomial.proofs.Rows.{held_length}
-
-size_small : (ms : List Monomial) → All Fits ms → list_size ms ≤ 16 * length ms
-size_small [] k = omega (arith, size_nil)
-size_small (m ∷ ms) k = omega (arith, size_cons m ms, k.0.few, size_small ms k.1)
+use Rattle.monomial.specs.Words.{list_words, Fits, Stored}
+use Rattle.expand.specs.Walking.{PoolHolds, with_list, Storing, Stores}
+use Rattle.monomial.proofs.ListLaws.{words_length}
+use Rattle.monomial.proofs.Sizes.{size_small}
 
 -- What the writer of the free tail says of the whole pool.
 pub tail_written : (P Y W : List ℕ) (used size : ℕ) → Y ≡ W ++ drop size (take (length P - used) (drop used P))
@@ -218,28 +214,26 @@ module _ (ws done pool : List ℕ) (used : ℕ) (h : PoolHolds ws done pool used
     }
 
   -- What storing asks, and what it comes to.
-  module _ (checked : check prime ws ≡ good (read_sheet ws)) (work : List ℕ) (n : ℕ) (is : held n work ≡ L) (few : n ≤ 256) (fit : All Fits L) where
+  module _ (checked : check prime ws ≡ good (read_sheet ws)) where
     used_small : used ≤ 16785408
     used_small = omega (arith, h.small, few_records ws checked, distinct_length (length (records_of ws)) done o.distinct o.below)
 
-    pub storing : 4096 ≤ length work → Storing work n pool r used
-    storing k = record {
-      few = few;
-      room = k;
-      fit = subst (All Fits) (sym is) fit;
-      head = head_room;
-      high = h.high;
-      small = omega (arith, used_small);
-    }
+    pub storing : Storing pool r used
+    storing = record { head = head_room; high = h.high; small = omega (arith, used_small) }
 
-    pub stored : record_fault prime (records_of ws) r ≡ 0 → (pool' : List ℕ) → length pool' ≡ length pool → (u : Result ℕ Refusal) → Stores pool pool' r used (held n work) u
-        → Expands ws pool' u (r ∷ done)
-    stored fine pool' lp (Ok u) s =
-        let t : Stores pool pool' r used L (Ok u) = subst (λ (l : List Monomial). Stores pool pool' r used l (Ok u)) is s in
-        let c : length L ≤ 256 = omega (arith, ap length is, held_length n work) in
-        subst (λ (q : List ℕ). PoolHolds ws (r ∷ done) q u) (sym t.2)
-        (subst (PoolHolds ws (r ∷ done) (with_list pool r used L)) (sym t.0) (holds_more fine c fit (omega arith) (omega (arith, used_small, size_small L fit))))
-    stored fine pool' lp (Err q) s =
-        let t : Stores pool pool' r used L (Err q) = subst (λ (l : List Monomial). Stores pool pool' r used l (Err q)) is s in
-        subst (λ (k : ℕ). expand_all prime (records_of ws) k (r ∷ done) ≡ refused (number_of q.reason) q.place) (sym lp)
-        (expand_full ws done (length pool) r used h.used_is fine t.2 ∙ λ i. refused (number_of (sym t.0 i)) (sym t.1 i))
+    module _ (l : List Monomial) (is : l ≡ L) (fine : record_fault prime (records_of ws) r ≡ 0) (pool' : List ℕ) where
+      pub stored : {u : ℕ} → Stores pool pool' r used l (Ok u) → PoolHolds ws (r ∷ done) pool' u
+      stored {u} s =
+          let t : Stores pool pool' r used L (Ok u) = subst (λ (l : List Monomial). Stores pool pool' r used l (Ok u)) is s in
+          let f = t.3 in
+          subst (λ (q : List ℕ). PoolHolds ws (r ∷ done) q u) (sym t.2)
+          (subst (PoolHolds ws (r ∷ done) (with_list pool r used L)) (sym t.0)
+          (holds_more fine f.few f.fit (omega arith) (omega (arith, used_small, size_small L f.fit, f.few))))
+
+  pub full : (l : List Monomial) → l ≡ L → record_fault prime (records_of ws) r ≡ 0 → (pool' : List ℕ) → length pool' ≡ length pool
+      → {q : Refusal} → Stores pool pool' r used l (Err q)
+      → expand_all prime (records_of ws) (length pool') (r ∷ done) ≡ refused (number_of q.reason) q.place
+  full l is fine pool' lp {q} s =
+      let t : Stores pool pool' r used L (Err q) = subst (λ (l : List Monomial). Stores pool pool' r used l (Err q)) is s in
+      subst (λ (k : ℕ). expand_all prime (records_of ws) k (r ∷ done) ≡ refused (number_of q.reason) q.place) (sym lp)
+      (expand_full ws done (length pool) r used h.used_is fine t.2 ∙ λ i. refused (number_of (sym t.0 i)) (sym t.1 i))

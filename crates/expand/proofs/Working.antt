@@ -2,10 +2,10 @@
 use mathlib.Core.Path.{◌≡◌, refl, sym, ap, subst, ◌∙◌}
 use mathlib.Core.Bool.{Bool, true, false, ◌||◌}
 use mathlib.Core.List.{List, [], ◌∷◌, ◌++◌, map}
-use Prim.Native.Nat.{ℕ, zero, suc, ◌+◌, ◌*◌, ◌≤◌, ◌<◌, max}
+use Prim.Native.Nat.{ℕ, ◌+◌, ◌*◌, ◌≤◌, ◌<◌, max}
 use native.Mathlib.Omega.{arith}
 use lib.Dec.{ltb}
-use lib.ListN.{length, drop, length-append, length-map}
+use lib.ListN.{length, length-append, length-map}
 use borrow.Author.Tests.{lt-ltb, le-ltb, ltb-true, ltb-false}
 use Rattle.semantics.specs.Arithmetic.{prime}
 use Rattle.semantics.specs.Monomial.{Asc, Monomial, neg_monomial, mul_monomial, products, combine}
@@ -14,16 +14,15 @@ use Rattle.semantics.specs.Lists.{All}
 use Rattle.semantics.proofs.Sorting.{all_append, all_map}
 use Rattle.std.specs.Prelude.{Ok, Err}
 use Rattle.answers.specs.declared.Reason.TheVariants.{ListTooLong, ProductTooLong}
-use Rattle.monomial.specs.Words.{held, list_in, read_list, longest_of, insert_all, negated_if, Fits, ListFits, Summed}
-use Rattle.expand.specs.Making.{Makes}
-use Rattle.monomial.proofs.Canons.{sum_append, sum_combine, fits_sum, asc_sum, fits_negative, sort_length, small_of_fits}
-use Rattle.monomial.proofs.ListLaws.{list_zero, list_suc}
-use Rattle.monomial.proofs.Sizes.{held_zero, longest_cons, longest_nil}
-use Rattle.monomial.proofs.Products.{products_nil, products_cons, fits_row_lem}
-
-pub read_length : (n : ℕ) (ws : List ℕ) → length (read_list n ws) ≡ n
-read_length zero ws = ap length (list_zero ws)
-read_length (suc n) ws = ap length (list_suc n ws) ∙ ap suc (read_length n _)
+use Rattle.monomial.specs.declared.Sign.{Sign}
+use Rattle.monomial.specs.declared.Sign.TheVariants.{Plus, Minus}
+use Rattle.monomial.specs.Signs.{signed}
+use Rattle.monomial.specs.Words.{longest_of, insert_all, Fits, FitsList}
+use Rattle.expand.specs.Making.{Makes, MakesCombined}
+use Rattle.monomial.proofs.Canons.{sum_append, sum_combine, asc_sum, fits_negative, sort_length, small_of_fits}
+use Rattle.monomial.proofs.Sizes.{longest_cons, longest_nil, longest_few}
+use Rattle.monomial.proofs.Summing.{sum_length, signed_length}
+use Rattle.monomial.proofs.Products.{products_nil, products_cons, products_length, fits_row_lem}
 
 -- ---- faults
 
@@ -44,69 +43,37 @@ work_long : (ms : List Monomial) → length ms ≤ 256 → longer 14 ms ≡ true
 unfolding work_fault
 work_long ms l k = rw (le-ltb 256 (length ms) l, k)
 
-twelve : (ms list : List Monomial) (work : List ℕ) → 256 < length ms → Makes work (Err ListTooLong) (work_fault ms) list
-twelve ms list work l = work_many ms l
-
 -- A list that was summed from nothing.
-summed_made : (ms : List Monomial) (work : List ℕ) (n : ℕ) → length ms ≤ 256 → All Fits ms → n ≤ 256 → held n work ≡ insert_all ms []
-    → Makes work (Ok n) (work_fault ms) (combine prime ms)
-summed_made ms work n l k few h =
-    let e = sum_combine ms (small_of_fits ms k) in
-    (work_fine ms l k, h ∙ e, few, subst (All Fits) e (fits_sum ms [] k tt))
+summed_made : (ms : List Monomial) → length ms ≤ 256 → All Fits ms → {l : List Monomial} → l ≡ insert_all ms [] → Makes (Ok l) (work_fault ms) (combine prime ms)
+summed_made ms l k h = (work_fine ms l k, h ∙ sum_combine ms (small_of_fits ms k))
 
 -- ---- Neg
 
-pub neg_made : (pool : List ℕ) (at n : ℕ) (work : List ℕ) → n ≤ 256 → ListFits pool at n → held n work ≡ map (neg_monomial prime) (list_in pool at n)
-    → Makes work (Ok n) (work_fault (map (neg_monomial prime) (list_in pool at n))) (map (neg_monomial prime) (list_in pool at n))
-neg_made pool at n work l k h =
-    let ms : List Monomial = map (neg_monomial prime) (list_in pool at n) in
-    let f : All Fits ms = all_map Fits Fits (neg_monomial prime) fits_negative (list_in pool at n) k.fit in
-    let c : length ms ≡ n = length-map (list_in pool at n) (neg_monomial prime) ∙ read_length n _ in
-    (work_fine ms (omega arith) f, h, l, f)
+pub neg_fine : (ms : List Monomial) → FitsList ms → work_fault (map (neg_monomial prime) ms) ≡ 0
+neg_fine ms k =
+    work_fine (map (neg_monomial prime) ms) (omega (arith, length-map ms (neg_monomial prime), k.few)) (all_map Fits Fits (neg_monomial prime) fits_negative ms k.fit)
 
 -- ---- Add and Sub
 
-fits_signed : (b : Bool) (ms : List Monomial) → All Fits ms → All Fits (negated_if b ms)
-fits_signed true ms k = all_map Fits Fits (neg_monomial prime) fits_negative ms k
-fits_signed false ms k = k
+fits_signed : (s : Sign) (ms : List Monomial) → All Fits ms → All Fits (signed s ms)
+fits_signed Plus ms k = k
+fits_signed Minus ms k = all_map Fits Fits (neg_monomial prime) fits_negative ms k
 
-signed_length : (b : Bool) (ms : List Monomial) → length (negated_if b ms) ≡ length ms
-signed_length true ms = length-map ms (neg_monomial prime)
-signed_length false ms = refl
+module _ (s : Sign) (l r : List Monomial) (fl : FitsList l) (fr : FitsList r) where
+  both_length : length (l ++ signed s r) ≡ length l + length r
+  both_length = omega (arith, length-append l (signed s r), signed_length s r)
 
-module _ {pool : List ℕ} {la n ra m : ℕ} (b : Bool) (fl : ListFits pool la n) (fr : ListFits pool ra m) where
-  abbrev L : List Monomial
-  L = list_in pool la n
+  pub sum_many : 256 < length l + length r → MakesCombined (Err ListTooLong) (l ++ signed s r)
+  sum_many h = work_many (l ++ signed s r) (omega (arith, both_length))
 
-  abbrev R : List Monomial
-  R = negated_if b (list_in pool ra m)
+  module _ (few : length l + length r ≤ 256) (none one : List Monomial) (z : none ≡ []) (h : one ≡ insert_all l none) where
+    pub sum_second : (length one + length r ≤ 256) × Asc one
+    sum_second = (omega (arith, ap length h, sum_length l none, ap length z), rw (h, z) (asc_sum l [] tt))
 
-  both_length : length (L ++ R) ≡ n + m
-  both_length = length-append L R ∙ omega (arith, read_length n (drop la pool), signed_length b (list_in pool ra m), read_length m (drop ra pool))
-
-  pub sum_many : (work : List ℕ) → 256 < n + m → Makes work (Err ListTooLong) (work_fault (L ++ R)) (combine prime (L ++ R))
-  sum_many work l = twelve (L ++ R) (combine prime (L ++ R)) work (omega (arith, both_length))
-
-  module _ (work work₁ : List ℕ) (one : ℕ) (room : 4096 ≤ length work) (lw : length work₁ ≡ length work) (h : held one work₁ ≡ insert_all L (held 0 work)) where
-    first_is : held one work₁ ≡ insert_all L []
-    first_is = h ∙ ap (insert_all L) (held_zero work)
-
-    pub sum_second : one ≤ 0 + n → n + m ≤ 256 → (one + m ≤ 256) × Summed one work₁ × ListFits pool ra m
-    sum_second l k = (
-      omega arith,
-      record {
-        room = omega arith;
-        ascends = subst Asc (sym first_is) (asc_sum L [] tt);
-        fit = subst (All Fits) (sym first_is) (fits_sum L [] fl.fit tt);
-      },
-      fr,
-    )
-
-    pub sum_made : (work₂ : List ℕ) (two : ℕ) → one ≤ 0 + n → n + m ≤ 256 → two ≤ one + m → held two work₂ ≡ insert_all R (held one work₁)
-        → Makes work₂ (Ok two) (work_fault (L ++ R)) (combine prime (L ++ R))
-    sum_made work₂ two l k k₂ h₂ =
-        summed_made (L ++ R) work₂ two (omega (arith, both_length)) (all_append Fits L R fl.fit (fits_signed b (list_in pool ra m) fr.fit)) (omega arith)
-        (h₂ ∙ ap (insert_all R) first_is ∙ sym (sum_append L R []))
+    pub sum_made : (two : List Monomial) → two ≡ insert_all (signed s r) one → MakesCombined (Ok two) (l ++ signed s r)
+    sum_made two k =
+        summed_made (l ++ signed s r) (omega (arith, both_length)) (all_append Fits l (signed s r) fl.fit (fits_signed s r fr.fit))
+        (k ∙ ap (insert_all (signed s r)) (h ∙ ap (insert_all l) z) ∙ sym (sum_append l (signed s r) []))
 
 -- ---- Mul
 
@@ -136,13 +103,6 @@ row_longest x y [] = omega (arith, longest_cons y [], longest_cons (mul_monomial
 row_longest x y (z ∷ ys) =
     omega (arith, longest_cons y (z ∷ ys), longest_cons (mul_monomial prime x y) (map (mul_monomial prime x) (z ∷ ys)), mul_length x y, row_longest x z ys)
 
-products_length : (xs ys : List Monomial) → length (products prime xs ys) ≡ length xs * length ys
-products_length [] ys = ap length (products_nil prime ys) ∙ omega arith
-products_length (x ∷ xs) ys =
-    ap length (products_cons prime x xs ys)
-    ∙ length-append (map (mul_monomial prime x) ys) (products prime xs ys)
-    ∙ omega (arith, length-map ys (mul_monomial prime x), products_length xs ys)
-
 products_fit : (xs ys : List Monomial) → longest_of xs + longest_of ys ≤ 14 → All Fits (products prime xs ys)
 products_fit [] ys h = subst (All Fits) (sym (products_nil prime ys)) tt
 products_fit (x ∷ xs) ys h =
@@ -161,10 +121,6 @@ products_longest x (z ∷ zs) y ys =
     omega (arith, row_longest x y ys, longest_cons x (z ∷ zs), products_longest z zs y ys)
 
 -- Where the two longest are too long together, neither list is empty.
-longest_few : (ms : List Monomial) → All Fits ms → longest_of ms ≤ 14
-longest_few [] k = omega (arith, longest_nil)
-longest_few (m ∷ ms) k = omega (arith, longest_cons m ms, k.0.few, longest_few ms k.1)
-
 products_long : (xs ys : List Monomial) → All Fits xs → All Fits ys → 14 < longest_of xs + longest_of ys → longer 14 (products prime xs ys) ≡ true
 products_long [] ys k q h = absurd (omega (arith, longest_nil, longest_few ys q))
 products_long (x ∷ xs) [] k q h = absurd (omega (arith, longest_nil, longest_few (x ∷ xs) k))
@@ -172,28 +128,14 @@ products_long (x ∷ xs) (y ∷ ys) k q h =
     longest_longer 14 (products prime (x ∷ xs) (y ∷ ys))
     ∙ lt-ltb 14 (longest_of (products prime (x ∷ xs) (y ∷ ys))) (omega (arith, products_longest x xs y ys))
 
-module _ {pool : List ℕ} {la n ra m : ℕ} (fl : ListFits pool la n) (fr : ListFits pool ra m) where
-  abbrev X : List Monomial
-  X = list_in pool la n
+module _ (l r : List Monomial) (fl : FitsList l) (fr : FitsList r) where
+  pub product_many : 256 < length l * length r → MakesCombined (Err ListTooLong) (products prime l r)
+  product_many h = work_many (products prime l r) (omega (arith, products_length l r))
 
-  abbrev Y : List Monomial
-  Y = list_in pool ra m
+  pub product_long : length l * length r ≤ 256 → 14 < longest_of l + longest_of r → MakesCombined (Err ProductTooLong) (products prime l r)
+  product_long few h = work_long (products prime l r) (omega (arith, products_length l r)) (products_long l r fl.fit fr.fit h)
 
-  abbrev W : List Monomial
-  W = products prime X Y
-
-  all_length : length W ≡ n * m
-  all_length = products_length X Y ∙ (λ i. read_length n (drop la pool) i * read_length m (drop ra pool) i)
-
-  pub product_many : (work : List ℕ) → 256 < n * m → Makes work (Err ListTooLong) (work_fault W) (combine prime W)
-  product_many work l = twelve W (combine prime W) work (omega (arith, all_length))
-
-  pub longest_small : (longest_of X ≤ 14) × (longest_of Y ≤ 14)
-  longest_small = (longest_few X fl.fit, longest_few Y fr.fit)
-
-  pub product_long : (work : List ℕ) (x y : ℕ) → n * m ≤ 256 → x ≡ longest_of X → y ≡ longest_of Y → 14 < x + y → Makes work (Err ProductTooLong) (work_fault W) (combine prime W)
-  product_long work x y l ex ey k = work_long W (omega (arith, all_length)) (products_long X Y fl.fit fr.fit (omega arith))
-
-  pub product_made : (work : List ℕ) (r x y : ℕ) → n * m ≤ 256 → x ≡ longest_of X → y ≡ longest_of Y → x + y ≤ 14 → r ≤ n * m → held r work ≡ insert_all W []
-      → Makes work (Ok r) (work_fault W) (combine prime W)
-  product_made work r x y l ex ey k few h = summed_made W work r (omega (arith, all_length)) (products_fit X Y (omega arith)) (omega arith) h
+  pub product_made : length l * length r ≤ 256 → longest_of l + longest_of r ≤ 14 → {none made : List Monomial} → none ≡ [] → made ≡ insert_all (products prime l r) none
+      → MakesCombined (Ok made) (products prime l r)
+  product_made few h z k =
+      summed_made (products prime l r) (omega (arith, products_length l r)) (products_fit l r h) (k ∙ ap (insert_all (products prime l r)) z)

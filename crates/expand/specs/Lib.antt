@@ -1,2 +1,3 @@
 pub mod Making
 pub mod Walking
+pub mod Walks

@@ -1,178 +1,187 @@
 // The walk of an expansion: each reached record is expanded once, after its children, and its list is kept in the pool.
 #![tactic(auto)]
 
-ghost use Rattle.std.specs.Prelude.{ℕ, length};
+ghost use Rattle.std.specs.Prelude.{◌≡◌, ◌≤◌, length};
+ghost use Rattle.std.specs.Coded.{le_prop};
 ghost use Rattle.semantics.specs.Check.{prime_of};
-ghost use Rattle.semantics.specs.Walk.{Below};
 ghost use Rattle.semantics.specs.Monomial.{list_at};
 ghost use Rattle.semantics.specs.Expand.{record_fault};
-ghost use Rattle.records.specs.Access.{records_of, part_words, AllRootsInside};
-ghost use Rattle.records.specs.Orders.{Visiting, Visits, Finishes};
-ghost use Rattle.monomial.specs.Words.{held};
+ghost use Rattle.records.specs.Access.{records_of};
 ghost use Rattle.expand.specs.Making.{Makes};
-ghost use Rattle.expand.specs.Walking.{PoolHolds, Expands, Storing, Stores, ExpandWalking, ExpandReady, Finishing};
+ghost use Rattle.expand.specs.Walking.{ChildrenStored, Storing, Stores};
 
 mod kinds;
 
-use crate::kinds::PoolList;
 use answers::{Reason, Refusal};
-use monomial::lists;
-use records::Part;
+use monomial::Sign;
+use monomial::reading::Monomials;
+use monomial::work_list::WorkList;
+use records::interactions::Part;
+use records::{CheckedSheet, Node};
 
-// Makes the list of a record whose children are expanded, and hands back how many monomials it has.
+// A walk over a checked sheet: the pool holds the lists of the records that are expanded, in its first `used` words, and each list is made in the work.
+// A refusal ends it. Each slice has a lifetime of its own: with a common one a caller of `new` would not know what the walk leaves in them.
+#[derive(Drop)]
+pub struct Walk<'a, 'b, 'c> {
+    sheet: CheckedSheet<'a>,
+    work: &'b mut [u32],
+    pool: &'c mut [u32],
+    used: usize,
+    ghost room: { 4096 ≤ length work.now } by { le_prop },
+}
+
+// Makes the list of a record whose children are expanded.
 #[tactic(auto, using(records::proofs::Visits::record_inside))]
-fn make_list(sheet: &[u32], work: &mut [u32], pool: &[u32], r: usize) -> Result<usize, Reason>
-    requires { (used : ℕ) × Finishing sheet.now r work.old pool.now used }
-    ensures { Makes work.new result (record_fault (prime_of sheet.now) (records_of sheet.now) r)
-        (list_at (prime_of sheet.now) (records_of sheet.now) r) }
+fn make_list<'a>(
+    sheet: CheckedSheet,
+    work: &'a mut [u32],
+    pool: &[u32],
+    r: usize,
+) -> Result<WorkList<'a>, Reason>
+    requires { (4096 ≤ length work.old) × ChildrenStored sheet.words.now r pool.now }
+    ensures { Makes result (record_fault (prime_of sheet.entry.words.now) (records_of sheet.entry.words.now) r)
+        (list_at (prime_of sheet.entry.words.now) (records_of sheet.entry.words.now) r) }
 {
-    let q = records::record_at(sheet, r);
-    if q.kind < 6 {
-        return kinds::expand_leaf(work, q);
-    }
-    let left = PoolList::of_record(pool, q.a as usize);
-    if q.kind == 8 {
-        return kinds::expand_neg(work, pool, left);
-    }
-    let right = PoolList::of_record(pool, q.b as usize);
-    match q.kind {
-        6 => kinds::expand_sum(work, pool, left, right, false),
-        7 => kinds::expand_sum(work, pool, left, right, true),
-        _ => kinds::expand_product(work, pool, left, right),
+    match records::record_at(sheet.words, r).node() {
+        Node::Leaf(q) => kinds::expand_leaf(work, q),
+        Node::Constant(value) => Ok(kinds::expand_constant(work, value)),
+        Node::Add(x, y) => kinds::expand_sum(
+            work,
+            Monomials::of_record(pool, x),
+            Monomials::of_record(pool, y),
+            Sign::Plus,
+        ),
+        Node::Sub(x, y) => kinds::expand_sum(
+            work,
+            Monomials::of_record(pool, x),
+            Monomials::of_record(pool, y),
+            Sign::Minus,
+        ),
+        Node::Neg(x) => Ok(kinds::expand_neg(work, Monomials::of_record(pool, x))),
+        Node::Mul(x, y) => kinds::expand_product(
+            work,
+            Monomials::of_record(pool, x),
+            Monomials::of_record(pool, y),
+        ),
     }
 }
 
 // Writes a list behind the words of the pool that are taken, and its place into the record's two words; hands back how many words are taken then.
-fn store_list(
-    work: &[u32],
-    count: usize,
-    pool: &mut [u32],
-    r: usize,
-    used: usize,
-) -> Result<usize, Refusal>
-    requires { Storing work.now count pool.old r used }
-    ensures { Stores pool.old pool.new r used (held count work.now) result }
+fn store_list(list: &WorkList, pool: &mut [u32], r: usize, used: usize) -> Result<usize, Refusal>
+    requires { Storing pool.old r used }
+    ensures { Stores pool.old pool.new r used list.now result }
 {
-    let size = lists::list_size(work, count);
+    let size = list.list_size();
     if pool.len() - used < size {
         return Err(Refusal {
             reason: Reason::PoolTooShort,
             place: r,
         });
     }
-    lists::write_list(work, count, &mut pool[used..]);
+    list.write_to(&mut pool[used..]);
     pool[2 * r] = used as u32;
-    pool[2 * r + 1] = count as u32;
+    pool[2 * r + 1] = list.len() as u32;
     Ok(used + size)
 }
 
-// Makes the list of a record whose children are expanded, and stores it.
-fn finish_record(
-    sheet: &[u32],
-    work: &mut [u32],
-    pool: &mut [u32],
-    r: usize,
-    used: usize,
-) -> Result<usize, Refusal>
-    requires { Finishing sheet.now r work.old pool.old used }
-    ensures { Finishes sheet.now r (λ d. PoolHolds sheet.now d pool.old used)
-        (Expands sheet.now pool.new result) }
-{
-    let made = make_list(sheet, work, pool, r);
-    let Ok(count) = made else {
-        return Err(Refusal {
-            reason: made.unwrap_err(),
-            place: r,
-        });
-    };
-    store_list(work, count, pool, r, used)
-}
+impl<'a, 'b, 'c> Walk<'a, 'b, 'c> {
+    ghost use Rattle.semantics.specs.Check.{read_sheet};
+    ghost use Rattle.semantics.specs.Walk.{Below};
+    ghost use Rattle.records.specs.Named.{parts_of};
+    ghost use Rattle.expand.specs.Walks.{Starts, ExpandWalking, ExpandReady, Finishing, Finished, Visited, Walked};
 
-// Expands record r with all that it reaches, left child, right child, then itself. It recurses as deep as the longest chain of children,
-// so a level keeps one answer and no record: a word is read when it is needed.
-#[tactic(auto, using(records::proofs::Visits::record_inside))]
-fn expand_node(
-    sheet: &[u32],
-    work: &mut [u32],
-    pool: &mut [u32],
-    r: usize,
-    used: usize,
-) -> Result<usize, Refusal>
-    requires { ExpandReady sheet.now r work.old pool.old used }
-    ensures { Visits sheet.now r (λ d. PoolHolds sheet.now d pool.old used)
-        (Expands sheet.now pool.new result) }
-{
-    let mut answer = Ok(used);
-    if pool[2 * r] != 0 {
-        return answer;
+    // It goes on from a pool whose first `used` words are taken.
+    pub fn new(
+        sheet: CheckedSheet<'a>,
+        work: &'b mut [u32],
+        pool: &'c mut [u32],
+        used: usize,
+    ) -> Walk<'a, 'b, 'c>
+        requires { 4096 ≤ length work.old }
+        ensures work { result.work.ghost_name ≡ work.entry.ghost_name }
+        ensures pool { result.pool.ghost_name ≡ pool.entry.ghost_name }
+        ensures starts { Starts sheet.entry.words.now pool.old used result }
+    {
+        Walk {
+            sheet,
+            work,
+            pool,
+            used,
+        }
     }
-    if records::kind_at(sheet, r) < 6 {
-        answer = finish_record(sheet, work, pool, r, used);
-        return answer;
-    }
-    answer = expand_node(sheet, work, pool, records::left_at(sheet, r), used);
-    let Ok(one) = answer else {
-        return answer;
-    };
-    if records::kind_at(sheet, r) == 8 {
-        answer = finish_record(sheet, work, pool, r, one);
-        return answer;
-    }
-    answer = expand_node(sheet, work, pool, records::right_at(sheet, r), one);
-    let Ok(two) = answer else {
-        return answer;
-    };
-    answer = finish_record(sheet, work, pool, r, two);
-    answer
-}
 
-// Expands the records that are named, one after the other; a refusal ends it.
-pub fn expand_references(
-    sheet: &[u32],
-    names: &[u32],
-    work: &mut [u32],
-    pool: &mut [u32],
-    used: usize,
-) -> Result<usize, Refusal>
-    requires { ExpandWalking sheet.now work.old pool.old used × Below (length (records_of sheet.now)) names.now }
-    ensures { Visiting sheet.now names.now (λ d. PoolHolds sheet.now d pool.old used)
-        (Expands sheet.now pool.new result) }
-{
-    let mut taken = used;
-    for r in names {
-        let answer = expand_node(sheet, work, pool, *r as usize, taken);
-        let Ok(next) = answer else {
-            return answer;
+    // Makes the list of a record whose children are expanded, and stores it. The list lies in the work, so the pool is lent beside it.
+    #[inline(never)]
+    fn finish_record(&mut self, r: usize) -> Result<(), Refusal>
+        requires { Finishing self.old r }
+        ensures { Finished self.old r self.new result }
+    {
+        let work = &mut *self.work;
+        let pool = &mut *self.pool;
+        let made = make_list(self.sheet, work, pool, r);
+        let Ok(list) = made else {
+            return Err(Refusal {
+                reason: made.unwrap_err(),
+                place: r,
+            });
         };
-        taken = next;
-    }
-    Ok(taken)
-}
-
-// Expands a part of each of the interactions from `at` on: the counts, or the fields.
-pub fn expand_part(
-    sheet: &[u32],
-    at: usize,
-    count: usize,
-    part: Part,
-    work: &mut [u32],
-    pool: &mut [u32],
-    used: usize,
-) -> Result<usize, Refusal>
-    requires { ExpandWalking sheet.now work.old pool.old used × AllRootsInside sheet.now at count }
-    ensures { Visiting sheet.now (part_words part sheet.now at count)
-        (λ d. PoolHolds sheet.now d pool.old used) (Expands sheet.now pool.new result) }
-{
-    let mut taken = used;
-    let mut from = at;
-    for _ in 0..count {
-        let names = records::part_at(sheet, from, part);
-        let answer = expand_references(sheet, names, work, pool, taken);
-        let Ok(next) = answer else {
-            return answer;
+        let stored = store_list(&list, pool, r, self.used);
+        let Ok(used) = stored else {
+            return Err(stored.unwrap_err());
         };
-        taken = next;
-        from = records::interaction_at(sheet, from).next;
+        self.used = used;
+        Ok(())
     }
-    Ok(taken)
+
+    // Expands record r with all that it reaches: its children, left before right, then itself; a refusal ends it. It recurses as deep as the
+    // longest chain of children, so a level keeps one answer and no record: a child's number is read when it is needed.
+    #[tactic(auto, using(records::proofs::Visits::record_inside))]
+    fn expand_node(&mut self, r: usize) -> Result<(), Refusal>
+        requires { ExpandReady self.old r }
+        ensures { Visited self.old r self.new result }
+    {
+        let mut answer = Ok(());
+        if self.pool[2 * r] != 0 {
+            return answer;
+        }
+        for i in 0..2 {
+            let Some(child) = records::child_at(self.sheet.words, r, i) else {
+                continue;
+            };
+            answer = self.expand_node(child);
+            let Ok(()) = answer else {
+                return answer;
+            };
+        }
+        answer = self.finish_record(r);
+        answer
+    }
+
+    // Expands the records that are named, one after the other; a refusal ends it.
+    pub fn expand_references(&mut self, names: &[u32]) -> Result<(), Refusal>
+        requires { ExpandWalking self.old × Below (length (records_of self.old.sheet.words.now)) names.now }
+        ensures { Walked self.old names.now self.new result }
+    {
+        for r in names {
+            let answer = self.expand_node(*r as usize);
+            let Ok(()) = answer else {
+                return answer;
+            };
+        }
+        Ok(())
+    }
+
+    // Expands a part of every interaction: the counts, or the fields.
+    pub fn expand_part(&mut self, part: Part) -> Result<(), Refusal>
+        requires { ExpandWalking self.old }
+        ensures { Walked self.old (parts_of part (read_sheet self.old.sheet.words.now).interactions) self.new result }
+    {
+        for x in self.sheet.interactions() {
+            let answer = self.expand_references(x.part(part));
+            let Ok(()) = answer else {
+                return answer;
+            };
+        }
+        Ok(())
+    }
 }

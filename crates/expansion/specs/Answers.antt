@@ -1,6 +1,5 @@
 -- What the answers of the expansions stand for (01, "What each call hands back").
-use Rattle.std.specs.Prelude.{List, [], ◌∷◌, ◌++◌, ℕ, ◌-◌, length, take, replicate, ◌≡◌, Result}
-use Rattle.slices.specs.Lent.{Lent, old, new}
+use Rattle.std.specs.Prelude.{List, [], ◌∷◌, ℕ, Result}
 use Rattle.semantics.specs.Call.{Reply, Outcome, accepted_with}
 use Rattle.answers.specs.Replies.{reply_of}
 use Rattle.answers.specs.declared.Refusal.{Refusal}
@@ -15,13 +14,6 @@ constraint_reply = reply_of (λ (n : Lengths). accepted_with (n.headers ∷ n.va
 abbrev pub constraint_outcome : Result Lengths Refusal → (work pool headers variables terms : List ℕ) → Outcome
 constraint_outcome r work pool headers variables terms =
     record { reply = constraint_reply r; slices = work ∷ pool ∷ headers ∷ variables ∷ terms ∷ [] }
-
--- The first k words of an output, and zeros behind them.
-abbrev pub cut : ℕ → List ℕ → List ℕ
-cut k o = take k o ++ replicate (length o - k) 0
-
-abbrev pub Cut : Lent → ℕ → Type 0
-Cut o k = new o ≡ cut k (old o)
 
 -- The same for the interactions: "the interaction call adds `num_interactions` and `max_fields_len`".
 abbrev pub interaction_reply : Result InteractionLengths Refusal → Reply

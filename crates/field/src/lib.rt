@@ -6,37 +6,32 @@ ghost use Rattle.semantics.specs.Arithmetic.{prime, add_m, sub_m, mul_m, neg_m, 
 
 mod modular;
 
-const PRIME: u32 = 2013265921;
-
-// 2^63 / PRIME, rounded down.
-const RECIPROCAL: u64 = 4581298446;
-
 pub fn add(a: u32, b: u32) -> u32
     ensures { result ≡ add_m prime a b }
 {
-    modular::add(PRIME, a, b)
+    modular::BABY_BEAR.add(a, b)
 }
 
 pub fn sub(a: u32, b: u32) -> u32
     ensures { result ≡ sub_m prime a b }
 {
-    modular::sub(PRIME, a, b)
+    modular::BABY_BEAR.sub(a, b)
 }
 
 pub fn neg(a: u32) -> u32
     ensures { result ≡ neg_m prime a }
 {
-    modular::neg(PRIME, a)
+    modular::BABY_BEAR.neg(a)
 }
 
 pub fn mul(a: u32, b: u32) -> u32
     ensures { result ≡ mul_m prime a b }
 {
-    modular::mul(PRIME, RECIPROCAL, a, b)
+    modular::BABY_BEAR.mul(a, b)
 }
 
 pub fn signed(a: u32) -> i64
     ensures { (result ≡ signed_of prime a) × SignedRange prime result }
 {
-    modular::signed(PRIME, a)
+    modular::BABY_BEAR.signed(a)
 }

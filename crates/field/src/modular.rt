@@ -3,79 +3,89 @@ ghost use Rattle.std.specs.Prelude.{◌≡◌, ◌*◌, ◌%◌, ◌<◌};
 ghost use Rattle.semantics.specs.Arithmetic.{add_m, sub_m, mul_m, neg_m, signed_of, SignedRange};
 ghost use Rattle.field.specs.Modulus.{Modulus, Reciprocal};
 
-// A word as a value; a word is below 3p.
-pub fn reduced(p: u32, x: u32) -> u32
-    requires { Modulus p }
-    ensures { result ≡ x % p }
-{
-    if x < p {
-        return x;
+// A modulus p and m, which is 2^63 / p rounded down: Barrett's reduction has them in place of a division.
+#[derive(Clone, Copy, Debug, PartialEq, Eq)]
+pub struct Barrett {
+    p: u32,
+    m: u64,
+    ghost modulus: { Modulus p },
+    ghost reciprocal: { Reciprocal p m },
+}
+
+pub const BABY_BEAR: Barrett = Barrett {
+    p: 2013265921,
+    m: 4581298446,
+};
+
+impl Barrett {
+    // A word as a value; a word is below 3p.
+    fn reduced(self, x: u32) -> u32
+        ensures { result ≡ x % self.p }
+    {
+        if x < self.p {
+            return x;
+        }
+        let less = x - self.p;
+        if less < self.p { less } else { less - self.p }
     }
-    let less = x - p;
-    if less < p { less } else { less - p }
-}
 
-pub fn add(p: u32, a: u32, b: u32) -> u32
-    requires { Modulus p }
-    ensures { result ≡ add_m p a b }
-{
-    let sum = reduced(p, a) + reduced(p, b);
-    if sum < p { sum } else { sum - p }
-}
-
-pub fn sub(p: u32, a: u32, b: u32) -> u32
-    requires { Modulus p }
-    ensures { result ≡ sub_m p a b }
-{
-    let left = reduced(p, a);
-    let right = reduced(p, b);
-    if right <= left {
-        left - right
-    } else {
-        left + (p - right)
+    pub fn add(self, a: u32, b: u32) -> u32
+        ensures { result ≡ add_m self.p a b }
+    {
+        let sum = self.reduced(a) + self.reduced(b);
+        if sum < self.p { sum } else { sum - self.p }
     }
-}
 
-pub fn neg(p: u32, a: u32) -> u32
-    requires { Modulus p }
-    ensures { result ≡ neg_m p a }
-{
-    let less = reduced(p, a);
-    if less == 0 { 0 } else { p - less }
-}
-
-// The remainder of x by p. m is 2^63 / p; x / 2^30 * m / 2^33 is the quotient or one less.
-fn remainder(p: u32, m: u64, x: u64) -> u32
-    requires { (x < p * p) × Modulus p × Reciprocal p m }
-    ensures { result ≡ x % p }
-{
-    let modulus = p as u64;
-    let quotient = x / 1073741824 * m / 8589934592;
-    let rest = x - quotient * modulus;
-    if rest < modulus {
-        rest as u32
-    } else {
-        (rest - modulus) as u32
+    pub fn sub(self, a: u32, b: u32) -> u32
+        ensures { result ≡ sub_m self.p a b }
+    {
+        let left = self.reduced(a);
+        let right = self.reduced(b);
+        if right <= left {
+            left - right
+        } else {
+            left + (self.p - right)
+        }
     }
-}
 
-pub fn mul(p: u32, m: u64, a: u32, b: u32) -> u32
-    requires { Modulus p × Reciprocal p m }
-    ensures { result ≡ mul_m p a b }
-{
-    let product = reduced(p, a) as u64 * reduced(p, b) as u64;
-    remainder(p, m, product)
-}
+    pub fn neg(self, a: u32) -> u32
+        ensures { result ≡ neg_m self.p a }
+    {
+        let less = self.reduced(a);
+        if less == 0 { 0 } else { self.p - less }
+    }
 
-// A value up to half of p is itself, and above that less p.
-pub fn signed(p: u32, a: u32) -> i64
-    requires { Modulus p }
-    ensures { (result ≡ signed_of p a) × SignedRange p result }
-{
-    let value = reduced(p, a);
-    if value <= p / 2 {
-        value as i64
-    } else {
-        value as i64 - p as i64
+    // The remainder of x by p; x / 2^30 * m / 2^33 is the quotient or one less.
+    fn remainder(self, x: u64) -> u32
+        requires { x < self.p * self.p }
+        ensures { result ≡ x % self.p }
+    {
+        let modulus = self.p as u64;
+        let quotient = x / 1073741824 * self.m / 8589934592;
+        let rest = x - quotient * modulus;
+        if rest < modulus {
+            rest as u32
+        } else {
+            (rest - modulus) as u32
+        }
+    }
+
+    pub fn mul(self, a: u32, b: u32) -> u32
+        ensures { result ≡ mul_m self.p a b }
+    {
+        let product = self.reduced(a) as u64 * self.reduced(b) as u64;
+        self.remainder(product)
+    }
+
+    // A value up to half of p is itself, and above that less p.
+    pub fn signed(self, a: u32) -> i64
+        ensures { (result ≡ signed_of self.p a) × SignedRange self.p result }
+    {
+        let value = self.reduced(a);
+        if value <= self.p / 2 {
+            value as i64
+        } else {
+            value as i64 - self.p as i64
+        }
     }
 }

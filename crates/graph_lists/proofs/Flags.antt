@@ -11,7 +11,7 @@ use borrow.Author.Tests.{eqb-true, eqb-false, ne_eqb, lt-ltb, le-ltb, le-leb, lt
 use Rattle.semantics.specs.Walk.{Below, member}
 use Rattle.semantics.specs.Graph.{set_num, insert_once, sorted_once}
 use Rattle.semantics.proofs.Members.{mem_here, mem_there, mem_get_or}
-use Rattle.records.proofs.Parts.{take_more}
+use Rattle.std.proofs.lemmas.List.{take_more}
 use Rattle.nodes.specs.Memory.{tabulate}
 use Rattle.nodes.proofs.Marks.{tabulate_length, tabulate_from, tabulate_same, tabulate_set}
 use Rattle.graph_lists.specs.Lists.{flag_word, flagged, node_numbers, marks_of, NodesNamed}
@@ -186,4 +186,4 @@ module _ {names s₀ : List ℕ} (h : NodesNamed names s₀) where
           ∙ ap (λ (u : List ℕ). set u (pred (f x)) (flag_word (get_or u (pred (f x)) 0))) e
           ∙ flag_more (length s₀) f h.small nums (pred (f x)) next_node
           ∙ ap (λ (xs : List ℕ). tabulate 0 (length s₀) (flagged f xs)) (sym (map-append (λ (y : ℕ). pred (f y)) (take j names) (x ∷ [])))
-          ∙ ap (λ (xs : List ℕ). tabulate 0 (length s₀) (flagged f (node_numbers f xs))) (sym (take_more names j l))
+          ∙ ap (λ (xs : List ℕ). tabulate 0 (length s₀) (flagged f (node_numbers f xs))) (sym (take_more names j 0 l))

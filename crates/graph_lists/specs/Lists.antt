@@ -1,11 +1,13 @@
 -- The lists of the finished graph, from what scratch and output hold when all records are added.
 use Rattle.std.specs.Prelude.{Bool, true, false, cond, List, [], ◌∷◌, ◌++◌, map, ℕ, zero, suc, pred, ◌+◌, ◌-◌, ◌≤◌, ◌<◌, leb, ltb, length, get_or}
-use Rattle.semantics.specs.Sheet.{encode, length_of}
+use mathlib.Core.List.{flat_map}
+use Rattle.semantics.specs.Sheet.{Interaction, interaction_words, encode, length_of}
 use Rattle.semantics.specs.Check.{prime_of, read_sheet}
 use Rattle.semantics.specs.Walk.{Mem, member, order}
-use Rattle.semantics.specs.Graph.{graph_roots, graph_of}
+use Rattle.semantics.specs.Graph.{graph_roots, renamed, graph_of}
 use Rattle.semantics.specs.Call.{padded}
-use Rattle.records.specs.Access.{IsSheet, records_of, message_length, each_words, count_list_at, fields_at}
+use Rattle.records.specs.Access.{records_of}
+use Rattle.records.specs.Named.{references_of}
 use Rattle.nodes.specs.Memory.{GraphHolds}
 
 -- The nodes of the constraints are flagged in scratch by 65,536 while they are put into ascending order.
@@ -44,32 +46,23 @@ unfoldable pub flagged_among : (k n : ℕ) → List ℕ → List ℕ
 flagged_among k zero scratch = []
 flagged_among k (suc n) scratch = one_if (leb 65536 (marks_of scratch k)) k ++ flagged_among (suc k) n scratch
 
--- The words of an interaction that stands at `at`, its references turned into nodes, and of as many as said.
-unfoldable pub renamed_words : (ws : List ℕ) (scratch : List ℕ) (at : ℕ) → List ℕ
-renamed_words ws scratch at =
-    (get_or ws at 0 ∷ get_or ws (at + 1) 0 ∷ [])
-    ++ (node_numbers (marks_of scratch) (count_list_at ws at)
-    ++ ((message_length ws at ∷ []) ++ node_numbers (marks_of scratch) (fields_at ws at)))
+-- The words of an interaction whose references are turned into nodes, and of several.
+abbrev pub renamed_words : (scratch : List ℕ) → Interaction → List ℕ
+renamed_words scratch x = interaction_words (renamed (λ c. pred (marks_of scratch c)) x)
 
-abbrev pub renamed_all : (ws : List ℕ) (scratch : List ℕ) (at n : ℕ) → List ℕ
-renamed_all ws scratch at n = each_words (renamed_words ws scratch) ws at n
+abbrev pub renamed_all : (scratch : List ℕ) → List Interaction → List ℕ
+renamed_all scratch xs = flat_map (renamed_words scratch) xs
 
--- What turning their references into nodes asks.
-pub record NamedInteraction (ws : List ℕ) (at : ℕ) (scratch : List ℕ) : Type 0 where
-  pub inside : at + (4 + message_length ws at) ≤ length ws
-  pub count : NodesNamed (count_list_at ws at) scratch
-  pub message : NodesNamed (fields_at ws at) scratch
-
-abbrev pub NamedInteractions : (ws : List ℕ) (scratch : List ℕ) (at n : ℕ) → Type 0
-NamedInteractions ws scratch at zero = Unit {0}
-NamedInteractions ws scratch at (suc n) = NamedInteraction ws at scratch × NamedInteractions ws scratch (at + (4 + message_length ws at)) n
+-- What turning the references of an interaction into nodes asks.
+pub record NamedInteraction (x : Interaction) (scratch : List ℕ) : Type 0 where
+  pub short : length x.message ≤ 63
+  pub named : NodesNamed (references_of x) scratch
 
 -- All records that the sheet names are added.
 abbrev pub all_added : List ℕ → List ℕ
 all_added ws = order (records_of ws) (graph_roots (read_sheet ws))
 
 pub record ToWriteLists (ws scratch out : List ℕ) (n : ℕ) : Type 0 where
-  pub checked : IsSheet ws
   pub room : length_of (read_sheet ws) ≤ length out
   pub holds : GraphHolds ws (all_added ws) scratch out n
 

@@ -2,11 +2,15 @@
 #![tactic(auto)]
 
 ghost use Rattle.std.specs.Prelude.{◌≡◌, pred, ◌+◌, ◌%◌, ◌≤◌, ◌<◌, length, get_or, set};
-ghost use Rattle.records.specs.Access.{message_length};
+ghost use Rattle.semantics.specs.Check.{read_sheet};
+ghost use Rattle.records.specs.Named.{references};
 ghost use Rattle.nodes.specs.Memory.{tabulate};
 ghost use Rattle.slices.specs.Putting.{put, Puts};
 ghost use Rattle.graph_lists.specs.Lists.{flag_word, plain_below, flagged, flagged_among, node_numbers, marks_of, NodesNamed};
-ghost use Rattle.graph_lists.specs.Lists.{NamedInteraction, NamedInteractions, renamed_words, renamed_all, ToWriteLists, graph_out, graph_length};
+ghost use Rattle.graph_lists.specs.Lists.{NamedInteraction, renamed_words, renamed_all, ToWriteLists, graph_out, graph_length};
+
+use records::CheckedSheet;
+use records::interactions::Interaction;
 
 // Above every mark: a mark is a node's number counted from 1.
 const FLAG: u32 = 65536;
@@ -70,54 +74,42 @@ fn write_references(names: &[u32], scratch: &[u32], out: &mut [u32], to: usize)
 }
 
 // Writes an interaction with its references turned into nodes, and hands back where the output goes on.
-fn write_interaction(sheet: &[u32], at: usize, scratch: &[u32], out: &mut [u32], to: usize) -> usize
-    requires { NamedInteraction sheet.now at scratch.now × (to + (4 + message_length sheet.now at) ≤ length out.old) }
-    ensures { (out.new ≡ put out.old to (renamed_words sheet.now scratch.now at))
-        × (result ≡ to + (4 + message_length sheet.now at)) }
+fn write_interaction(x: &Interaction, scratch: &[u32], out: &mut [u32], to: usize) -> usize
+    requires { NamedInteraction x.now scratch.now × (to + (4 + length x.now.message) ≤ length out.old) }
+    ensures { Puts out.old to (renamed_words scratch.now x.now) out.new result }
 {
-    let x = records::interaction_at(sheet, at);
-    let y = records::interaction_from(to, x.message);
-    records::copy_bus_and_weight(sheet, at, out, to);
-    out[y.count] = node_number(scratch, sheet[x.count] as usize) as u32;
-    out[y.length] = sheet[x.length];
-    write_references(&sheet[x.fields..x.next], scratch, out, y.fields);
-    y.next
+    out[to] = x.bus();
+    out[to + 1] = x.weight();
+    out[to + 2] = node_number(scratch, x.count() as usize) as u32;
+    out[to + 3] = x.message_length() as u32;
+    write_references(x.fields(), scratch, out, to + 4);
+    to + x.word_count()
 }
 
-// Writes the interactions that stand from `at` on, and hands back where the output goes on.
-fn write_interactions(
-    sheet: &[u32],
-    at: usize,
-    count: usize,
-    scratch: &[u32],
-    out: &mut [u32],
-    to: usize,
-) -> usize
-    requires { NamedInteractions sheet.now scratch.now at count
-        × (to + length (renamed_all sheet.now scratch.now at count) ≤ length out.old) }
-    ensures { Puts out.old to (renamed_all sheet.now scratch.now at count) out.new result }
+// Writes all interactions of the sheet, and hands back where the output goes on.
+fn write_interactions(sheet: CheckedSheet, scratch: &[u32], out: &mut [u32], to: usize) -> usize
+    requires { NodesNamed (references (read_sheet sheet.words.now).interactions) scratch.now
+        × (to + length (renamed_all scratch.now (read_sheet sheet.words.now).interactions) ≤ length out.old) }
+    ensures { Puts out.old to (renamed_all scratch.now (read_sheet sheet.entry.words.now).interactions)
+        out.new result }
 {
-    let mut from = at;
     let mut next = to;
-    for _ in 0..count {
-        let x = records::interaction_at(sheet, from);
-        next = write_interaction(sheet, from, scratch, out, next);
-        from = x.next;
+    for x in sheet.interactions() {
+        next = write_interaction(&x, scratch, out, next);
     }
     next
 }
 
 // Writes the constraints and interactions behind the nodes, and the head; hands back how many words the graph has.
-pub fn write_graph(sheet: &[u32], scratch: &mut [u32], out: &mut [u32], n: usize) -> usize
-    requires { ToWriteLists sheet.now scratch.old out.old n }
-    ensures { (out.new ≡ graph_out (length out.old) sheet.now) × (result ≡ graph_length sheet.now) }
+pub fn write_graph(sheet: CheckedSheet, scratch: &mut [u32], out: &mut [u32], n: usize) -> usize
+    requires { ToWriteLists sheet.words.now scratch.old out.old n }
+    ensures { (out.new ≡ graph_out (length out.old) sheet.entry.words.now) × (result ≡ graph_length sheet.entry.words.now) }
 {
-    flag_nodes(records::constraints(sheet), scratch);
+    flag_nodes(sheet.constraints(), scratch);
     let to = records::records_end(n);
     let next = write_flagged(scratch, n, out, to);
-    let at = records::interactions_at(sheet);
-    let interactions = records::num_interactions(sheet);
-    let end = write_interactions(sheet, at, interactions, scratch, out, next);
+    let interactions = sheet.num_interactions();
+    let end = write_interactions(sheet, scratch, out, next);
     records::put_head(out, n, next - to, interactions);
     end
 }

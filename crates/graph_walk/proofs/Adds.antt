@@ -24,10 +24,11 @@ use Rattle.nodes.specs.declared.Interned.{Interned}
 use Rattle.nodes.specs.declared.rules.Pick.{Pick}
 use Rattle.nodes.specs.Picks.{pick_of}
 use Rattle.nodes.specs.Nodes.{NoneBefore, above_all, Interns}
-use Rattle.nodes.specs.Memory.{built_of, nodes_out, GraphHolds}
+use Rattle.nodes.specs.Memory.{built_of, nodes_out}
 use Rattle.nodes.proofs.States as states
 use Rattle.nodes.proofs.Searches.{from_inside, from_none}
-use Rattle.graph_walk.specs.Walking.{Adding, Picks, pick_of_record}
+use Rattle.graph_walk.specs.declared.Walk.{Walk}
+use Rattle.graph_walk.specs.Walking.{State, Adding, Picks, pick_of_record}
 
 -- The number that a record gets.
 module _ (b : Built) (r : ℕ) where
@@ -40,44 +41,47 @@ module _ (b : Built) (r : ℕ) where
   num_made q = cond_true (eqb r r) (find q b.nodes) (b.num r) (eq-eqb r r refl)
 
 -- A record whose children are added.
-module _ {ws : List ℕ} {r : ℕ} {scratch out : List ℕ} {n : ℕ} (p : Adding ws r scratch out n) where
+module _ {w : Walk} {r : ℕ} (p : Adding w r) where
+  abbrev ws : List ℕ
+  ws = w.sheet.words.now
+
   abbrev E : ℕ
   E = length (records_of ws)
 
   abbrev done : List ℕ
-  done = p.ready.done
+  done = p.walking.done
 
   next : Order ws (r ∷ done)
-  next = order_more ws p.ready.checked done r p.ready.order p.ready.inside p.new p.there
+  next = order_more ws w.sheet.checked done r p.walking.order p.inside p.new p.there
 
   num_next : (built_of ws (r ∷ done)).num r < E
-  num_next = states.num_small ws p.ready.checked (r ∷ done) next r (mem_here r done)
+  num_next = states.num_small ws w.sheet.checked (r ∷ done) next r (mem_here r done)
 
   -- What was picked of it.
-  pub picked : {x y : Pick} → Picks ws r scratch out (pick_of x) → x ≡ y → pick_of y ≡ pick_of_record ws r p.ready.done
-  picked f e = sym (ap pick_of e) ∙ f p.ready.done p.ready.order p.there n p.ready.holds
+  pub picked : {x y : Pick} → Picks w r (pick_of x) → x ≡ y → pick_of y ≡ pick_of_record ws r p.walking.done
+  picked f e = sym (ap pick_of e) ∙ f p.walking.done p.walking.order p.there p.walking.holds
 
   pub record_few : r < 4096
-  record_few = omega (arith, p.ready.inside, few_records ws p.ready.checked)
+  record_few = omega (arith, p.inside, few_records ws w.sheet.checked)
 
-  pub in_scratch : r < length scratch
-  in_scratch = omega (arith, p.ready.inside, states.scratch_length ws done scratch out n p.ready.holds)
+  pub in_scratch : r < length w.scratch.now
+  in_scratch = omega (arith, p.inside, states.scratch_length ws done w.scratch.now w.out.now w.n p.walking.holds)
 
-  pub present_few : (k : ℕ) → graph.present k ≡ pick_of_record ws r p.ready.done → k < 4096
+  pub present_few : (k : ℕ) → graph.present k ≡ pick_of_record ws r p.walking.done → k < 4096
   unfolding built_of build add_record
   present_few k e =
       let small : k < E = subst (λ (j : ℕ). j < E) (ap (λ (q : graph.Pick). (take_in (built_of ws done) r q).num r) (sym e) ∙ num_present (built_of ws done) r k) num_next in
-      omega (arith, few_records ws p.ready.checked)
+      omega (arith, few_records ws w.sheet.checked)
 
-  module _ (q : Record) (e : graph.make q ≡ pick_of_record ws r p.ready.done) where
+  module _ (q : Record) (e : graph.make q ≡ pick_of_record ws r p.walking.done) where
     abbrev ns : List Record
     ns = (built_of ws done).nodes
 
-    made_few : find q (built_of ws p.ready.done).nodes < 4096
+    made_few : find q (built_of ws p.walking.done).nodes < 4096
     unfolding built_of build add_record
     made_few =
         let small : find q ns < E = subst (λ (j : ℕ). j < E) (ap (λ (q : graph.Pick). (take_in (built_of ws done) r q).num r) (sym e) ∙ num_made (built_of ws done) r q) num_next in
-        omega (arith, few_records ws p.ready.checked)
+        omega (arith, few_records ws w.sheet.checked)
 
     -- Where the search for its node begins.
     module _ (from : ℕ) (f : from ≡ above_all (children (node_of q))) where
@@ -86,32 +90,33 @@ module _ {ws : List ℕ} {r : ℕ} {scratch out : List ℕ} {n : ℕ} (p : Addin
       lows =
           each_low prime 0 (intern q ns)
           (subst (λ (x : graph.Pick). Each (GoodRecord prime) 0 (take_in (built_of ws done) r x).nodes) (sym e)
-          (states.kept ws p.ready.checked (r ∷ done) next).good)
+          (states.kept ws w.sheet.checked (r ∷ done) next).good)
 
-      pub search_inside : from ≤ n
-      search_inside = omega (arith, p.ready.holds.count_is, from_inside q ns lows from f)
+      pub search_inside : from ≤ w.n
+      search_inside = omega (arith, p.walking.holds.count_is, from_inside q ns lows from f)
 
-      search_none : NoneBefore from q (built_of ws p.ready.done).nodes
+      search_none : NoneBefore from q (built_of ws p.walking.done).nodes
       search_none = from_none q ns lows from f
 
       -- What interning it came to.
-      module _ {v : Interned} {o : List ℕ} (i : Interns out n from q v o) where
-        pub interned : (v.index ≡ find q ns) × (o ≡ nodes_out (length out) (intern q ns)) × (v.count ≡ length (intern q ns))
-        interned = i ns p.ready.holds.out_is p.ready.holds.count_is search_none
+      module _ {v : Interned} {o : List ℕ} (i : Interns w.out.now w.n from q v o) where
+        pub interned : (v.index ≡ find q ns) × (o ≡ nodes_out (length w.out.now) (intern q ns)) × (v.count ≡ length (intern q ns))
+        interned = i ns p.walking.holds.out_is p.walking.holds.count_is search_none
 
         pub index_few : v.index < 4096
         index_few = omega (arith, interned.0, made_few)
 
   -- Room for its node.
-  pub room_more : place 5 (n + 1) ≤ length out
+  pub room_more : place 5 (w.n + 1) ≤ length w.out.now
   room_more =
-      let few : n + 1 ≤ E = omega (arith, p.ready.holds.count_is, states.few_nodes ws p.ready.checked done r p.ready.order p.ready.inside p.new) in
-      omega (arith, place_most 5 (n + 1) E few, p.ready.room)
+      let few : w.n + 1 ≤ E = omega (arith, p.walking.holds.count_is, states.few_nodes ws w.sheet.checked done r p.walking.order p.inside p.new) in
+      omega (arith, place_most 5 (w.n + 1) E few, w.room)
 
   -- The same for any order of which the state holds.
-  abbrev pub at_order : (d : List ℕ) → Order ws d → member r d ≡ false → There ws r d → GraphHolds ws d scratch out n → Adding ws r scratch out n
+  abbrev pub at_order : (d : List ℕ) → Order ws d → member r d ≡ false → There ws r d → State w d → Adding w r
   at_order d o new there h = record {
-    ready = record { checked = p.ready.checked; inside = p.ready.inside; room = p.ready.room; done = d; order = o; holds = h };
+    walking = record { done = d; order = o; holds = h };
+    inside = p.inside;
     new = new;
     there = there;
   }

@@ -1,189 +1,161 @@
 -- The rule for a record, from the words of the sheet, scratch and output.
 use mathlib.Core.Path.{◌≡◌, refl, sym, ap, ◌∙◌}
-use mathlib.Core.Bool.{cond}
-use mathlib.Core.List.{List}
+use mathlib.Core.List.{List, [], ◌∷◌}
 use Prim.Native.Nat.{ℕ, suc, ◌+◌, ◌-◌, ◌≤◌, ◌<◌}
 use native.Mathlib.Omega.{arith}
-use lib.Dec.{eqb}
 use lib.ListN.{length, get_or}
-use borrow.Author.Tests.{eqb-true, eqb-false}
 use Rattle.semantics.specs.Arithmetic.{prime}
-use Rattle.semantics.specs.Answer.{good}
 use Rattle.semantics.specs.Sheet.{Record, place}
-use Rattle.semantics.specs.Check.{read_sheet, check}
-use Rattle.semantics.specs.Value.{Node, node_of, record_at}
-use Rattle.semantics.specs.Walk.{Mem, children_at}
+use Rattle.semantics.specs.Value.{Leaf, Node, leaf, const, add, sub, neg, mul, node_of, record_at}
+use Rattle.semantics.specs.Walk.{Mem, children, children_at}
 use Rattle.semantics.specs.Graph as graph
 use Rattle.semantics.specs.Graph.{Built, node_for, pick, add_rule, sub_rule, neg_rule, mul_rule}
-use Rattle.semantics.proofs.Basics.{by_test}
+use Rattle.semantics.proofs.Members.{mem_here, mem_there}
 use Rattle.semantics.proofs.Places.{place_below}
 use Rattle.semantics.proofs.Orders.{distinct_length}
 use Rattle.records.specs.declared.Record as declared
 use Rattle.records.specs.Access.{five_words, node_in, records_of}
+use Rattle.records.specs.Nodes.{shown_node}
 use Rattle.records.specs.Orders.{Order, There}
 use Rattle.records.proofs.Steps.{child_low}
-use Rattle.records.proofs.Visits.{kind_limits, is, kind_is, a_is, b_is, c_is, has_a, has_b}
+use Rattle.records.proofs.Visits.{is, c_is, node_is, child_of}
 use Rattle.nodes.specs.declared.rules.Child.{Child}
-use Rattle.nodes.specs.Picks.{view_of}
-use Rattle.nodes.specs.Memory.{built_of, GraphHolds}
-use Rattle.nodes.proofs.RuleLaws.{seen, view_add, view_sub, view_mul, view_neg}
-use Rattle.nodes.proofs.NodeLaws.{child_sees}
+use Rattle.nodes.specs.Memory.{built_of}
+use Rattle.nodes.proofs.NodeLaws.{node_in_lem}
 use Rattle.nodes.proofs.States as states
-use Rattle.graph_walk.specs.Walking.{AddReady, Adding, pick_of_record}
-
--- What a rule gives, by the kind of the record.
-module _ (p : ℕ) (b : Built) (r : Record) where
-  flat_pick : r.kind < 6 → pick p b r (node_of r) ≡ graph.make r
-  unfolding node_of pick
-  flat_pick h =
-      let P : Node → Type 0 = λ k. pick p b r k ≡ graph.make r in
-      by_test P (eqb r.kind 5) (λ e. refl)
-      (λ _. by_test P (eqb r.kind 6) (λ e. absurd (omega (arith, eqb-true r.kind 6 e)))
-      (λ _. by_test P (eqb r.kind 7) (λ e. absurd (omega (arith, eqb-true r.kind 7 e)))
-      (λ _. by_test P (eqb r.kind 8) (λ e. absurd (omega (arith, eqb-true r.kind 8 e)))
-      (λ _. by_test P (eqb r.kind 9) (λ e. absurd (omega (arith, eqb-true r.kind 9 e))) (λ _. refl)))))
-
-  neg_pick : r.kind ≡ 8 → pick p b r (node_of r) ≡ neg_rule p (b.num r.a) (node_for b r.a) r.c
-  unfolding node_of pick
-  neg_pick e = rw e
-
-  abbrev two_rule : (k x y : ℕ) (m n : Node) (g : ℕ) → graph.Pick
-  two_rule k x y m n g = cond (eqb k 6) (add_rule p x y m n g) (cond (eqb k 7) (sub_rule p x y m n g) (mul_rule p x y m n g))
-
-  two_pick : 6 ≤ r.kind → r.kind ≤ 9 → (r.kind ≡ 8 → ⊥)
-      → pick p b r (node_of r) ≡ two_rule r.kind (b.num r.a) (b.num r.b) (node_for b r.a) (node_for b r.b) r.c
-  unfolding node_of pick
-  two_pick l h n =
-      let R : graph.Pick = two_rule r.kind (b.num r.a) (b.num r.b) (node_for b r.a) (node_for b r.b) r.c in
-      let P : Node → Type 0 = λ k. pick p b r k ≡ R in
-      by_test P (eqb r.kind 5) (λ e. absurd (omega (arith, eqb-true r.kind 5 e)))
-      (λ _. by_test P (eqb r.kind 6) (λ e. rw e)
-      (λ e₆. by_test P (eqb r.kind 7) (λ e. rw (e₆, e))
-      (λ e₇. by_test P (eqb r.kind 8) (λ e. absurd (n (eqb-true r.kind 8 e)))
-      (λ _. by_test P (eqb r.kind 9) (λ e. rw (e₆, e₇))
-      (λ e₉. absurd (omega (arith, eqb-false r.kind 6 e₆, eqb-false r.kind 7 e₇, n, eqb-false r.kind 9 e₉)))))))
-
--- The rules over what the code reads of the children.
-module _ (p : ℕ) {k k' x x' y y' g g' : ℕ} {m n : Node} (u v : Record) (b : Built) (r : Record) where
-  views : k ≡ k' → x ≡ x' → y ≡ y' → g ≡ g' → m ≡ seen u → n ≡ seen v → two_rule p b r k x y m n g ≡ two_rule p b r k' x' y' (node_of u) (node_of v) g'
-  views ek ex ey eg em en =
-      (λ i. two_rule p b r (ek i) (ex i) (ey i) (em i) (en i) (eg i))
-      ∙ rw (view_add p x' y' u v g', view_sub p x' y' u v g', view_mul p x' y' u v g')
+use Rattle.graph_walk.specs.declared.Walk.{Walk}
+use Rattle.graph_walk.specs.Walking.{State, Adding, pick_of_record}
 
 -- What the code reads of a built child.
-abbrev pub Reads : (scratch out : List ℕ) (c : ℕ) → Child → Type 0
-Reads scratch out c x =
-    (x.number ≡ get_or scratch c 0 - 1) × (x.kind ≡ (node_in out (get_or scratch c 0 - 1)).kind) × (x.a ≡ (node_in out (get_or scratch c 0 - 1)).a)
+abbrev pub Reads : Walk → (c : ℕ) → Child → Type 0
+Reads w c x =
+    (x.number ≡ get_or w.scratch.now c 0 - 1) × (shown_node x.node ≡ node_of (node_in w.out.now (get_or w.scratch.now c 0 - 1)))
 
--- What is known when the node of record r is picked: its words q, and that its children are added.
-pub record Picking (ws : List ℕ) (r : ℕ) (q : declared.Record) (done scratch out : List ℕ) (n : ℕ) : Type 0 where
-  pub checked : check prime ws ≡ good (read_sheet ws)
-  pub inside : r < length (records_of ws)
-  pub words_are : five_words q ≡ node_in ws r
-  pub order : Order ws done
-  pub there : There ws r done
-  pub holds : GraphHolds ws done scratch out n
+-- What is known when the node of record r is picked: its words q, that it is m, and that its children are added.
+pub record Picking (w : Walk) (r : ℕ) (q : declared.Record) (m : Node) (done : List ℕ) : Type 0 where
+  pub inside : r < length (records_of w.sheet.words.now)
+  pub words_are : five_words q ≡ node_in w.sheet.words.now r
+  pub node_is : m ≡ node_of (five_words q)
+  pub order : Order w.sheet.words.now done
+  pub there : There w.sheet.words.now r done
+  pub holds : State w done
 
 -- The same of any order of which the state holds, and of the one that is asked for.
-module _ {ws : List ℕ} {r : ℕ} {q : declared.Record} {scratch out : List ℕ} {k : ℕ} (e : five_words q ≡ node_in ws r) where
-  pub picking : AddReady ws r scratch out k → {done : List ℕ} {n : ℕ} → Order ws done → There ws r done → GraphHolds ws done scratch out n
-      → Picking ws r q done scratch out n
-  picking p o t h = record { checked = p.checked; inside = p.inside; words_are = e; order = o; there = t; holds = h }
+module _ {w : Walk} {r : ℕ} {q : declared.Record} {m : Node} (e : five_words q ≡ node_in w.sheet.words.now r) (i : m ≡ node_of (five_words q)) (p : Adding w r) where
+  pub picking : {done : List ℕ} → Order w.sheet.words.now done → There w.sheet.words.now r done → State w done → Picking w r q m done
+  picking o t h = record { inside = p.inside; words_are = e; node_is = i; order = o; there = t; holds = h }
 
-  pub asked : (p : Adding ws r scratch out k) → Picking ws r q p.ready.done scratch out k
-  asked p = picking p.ready p.ready.order p.there p.ready.holds
+  pub asked : Picking w r q m p.walking.done
+  asked = picking p.walking.order p.there p.walking.holds
 
-module _ {ws : List ℕ} {r : ℕ} {q : declared.Record} {done scratch out : List ℕ} {n : ℕ} (b : Picking ws r q done scratch out n) where
+module _ {w : Walk} {r : ℕ} {q : declared.Record} {m : Node} {done : List ℕ} (b : Picking w r q m done) where
+  abbrev ws : List ℕ
+  ws = w.sheet.words.now
+
+  abbrev scratch : List ℕ
+  scratch = w.scratch.now
+
+  abbrev out : List ℕ
+  out = w.out.now
+
   abbrev R : Record
   R = record_at (records_of ws) r
 
   abbrev B : Built
   B = built_of ws done
 
-  kind_same : q.kind ≡ R.kind
-  kind_same = kind_is ws b.checked r b.inside q b.words_are
+  pub c_same : q.c ≡ R.c
+  c_same = c_is ws w.sheet.checked r b.inside q b.words_are
 
-  a_same : q.a ≡ R.a
-  a_same = a_is ws b.checked r b.inside q b.words_are
+  -- The rule for it.
+  pub rule_is : pick prime B R m ≡ pick_of_record ws r done
+  rule_is = ap (pick prime B R) (node_is ws w.sheet.checked r b.inside q b.words_are b.node_is)
 
-  b_same : q.b ≡ R.b
-  b_same = b_is ws b.checked r b.inside q b.words_are
+  module _ (c : ℕ) (named : Mem c (children m)) where
+    mem : Mem c (children_at (records_of ws) r)
+    mem = child_of ws w.sheet.checked r b.inside q b.words_are b.node_is c named
 
-  c_same : q.c ≡ R.c
-  c_same = c_is ws b.checked r b.inside q b.words_are
-
-  left_in : 6 ≤ q.kind → Mem q.a (children_at (records_of ws) r)
-  left_in = has_a ws b.checked r b.inside q b.words_are
-
-  right_in : 6 ≤ q.kind → (q.kind ≡ 8 → ⊥) → Mem q.b (children_at (records_of ws) r)
-  right_in = has_b ws b.checked r b.inside q b.words_are
-
-  module _ (c : ℕ) (m : Mem c (children_at (records_of ws) r)) where
     below : c < length (records_of ws)
-    below = omega (arith, child_low ws b.checked r c m, b.inside)
+    below = omega (arith, child_low ws w.sheet.checked r c mem, b.inside)
 
     -- Where a child's node stands.
     num_is : get_or scratch c 0 ≡ suc (B.num c)
-    num_is = states.scratch_num ws done scratch out n b.holds c below (b.there c m)
+    num_is = states.scratch_num ws done scratch out w.n b.holds c below (b.there c mem)
 
     num_low : B.num c < length B.nodes
-    num_low = states.num_below ws b.checked done b.order c (b.there c m)
+    num_low = states.num_below ws w.sheet.checked done b.order c (b.there c mem)
 
-    child_there : place 5 (length (records_of ws)) ≤ length out
-        → (c < length scratch) × (0 < get_or scratch c 0) × (place 5 (get_or scratch c 0 - 1) + 5 ≤ length out)
-    child_there room =
-        let few = (states.kept ws b.checked done b.order).few in
+    pub child_there : (c < length scratch) × (0 < get_or scratch c 0) × (place 5 (get_or scratch c 0 - 1) + 5 ≤ length out)
+    child_there =
+        let few = (states.kept ws w.sheet.checked done b.order).few in
         let d = distinct_length (length (records_of ws)) done b.order.distinct b.order.below in
         let small : get_or scratch c 0 - 1 < length (records_of ws) = omega (arith, num_is, num_low) in (
-          omega (arith, below, states.scratch_length ws done scratch out n b.holds),
+          omega (arith, below, states.scratch_length ws done scratch out w.n b.holds),
           omega (arith, num_is),
-          omega (arith, place_below 5 _ _ small),
+          omega (arith, place_below 5 _ _ small, w.room),
         )
 
-    module _ (x : Child) (f : Reads scratch out c x) where
+    module _ (x : Child) (f : Reads w c x) where
       at_num : get_or scratch c 0 - 1 ≡ B.num c
       at_num = omega (arith, num_is)
 
-      child_number : x.number ≡ B.num c
+      pub child_number : x.number ≡ B.num c
       child_number = f.0 ∙ at_num
 
-      child_view : view_of x ≡ seen (record_at B.nodes (B.num c))
-      child_view =
-          child_sees out (length out) B.nodes b.holds.out_is (B.num c) num_low x
-          (f.1 ∙ ap (λ (k : ℕ). (node_in out k).kind) at_num) (f.2 ∙ ap (λ (k : ℕ). (node_in out k).a) at_num)
+      pub child_node : shown_node x.node ≡ node_for B c
+      unfolding node_for
+      child_node = f.1 ∙ ap (λ (k : ℕ). node_of (node_in out k)) at_num ∙ ap node_of (node_in_lem out (length out) B.nodes b.holds.out_is (B.num c) num_low)
 
-  -- What reading the left child's node asks, and the right one's.
-  pub left_there : 6 ≤ q.kind → place 5 (length (records_of ws)) ≤ length out
-      → (q.a < length scratch) × (0 < get_or scratch q.a 0) × (place 5 (get_or scratch q.a 0 - 1) + 5 ≤ length out)
-  left_there k = child_there q.a (left_in k)
+-- A left child is among the children, and a right one.
+pub left_in : (x y : ℕ) → Mem x (x ∷ y ∷ [])
+left_in x y = mem_here x (y ∷ [])
 
-  pub right_there : 6 ≤ q.kind → (q.kind ≡ 8 → ⊥) → place 5 (length (records_of ws)) ≤ length out
-      → (q.b < length scratch) × (0 < get_or scratch q.b 0) × (place 5 (get_or scratch q.b 0 - 1) + 5 ≤ length out)
-  right_there k k₈ = child_there q.b (right_in k k₈)
+pub right_in : (x y : ℕ) → Mem y (x ∷ y ∷ [])
+right_in x y = mem_there y x (y ∷ []) (mem_here y [])
 
-  pub picks_flat : q.kind < 6 → graph.make (five_words q) ≡ pick_of_record ws r done
-  picks_flat k = ap graph.make (is ws b.checked r b.inside q b.words_are) ∙ sym (flat_pick prime B R (omega (arith, kind_same)))
+-- A leaf and a constant go in as they are.
+module _ {w : Walk} {r : ℕ} {q : declared.Record} {done : List ℕ} where
+  own : {m : Node} (b : Picking w r q m done)
+      → pick prime (built_of w.sheet.words.now done) (record_at (records_of w.sheet.words.now) r) m ≡ graph.make (record_at (records_of w.sheet.words.now) r)
+      → graph.make (five_words q) ≡ pick_of_record w.sheet.words.now r done
+  own b e = ap graph.make (is w.sheet.words.now w.sheet.checked r b.inside q b.words_are) ∙ sym e ∙ rule_is b
 
-  pub picks_neg : (k : q.kind ≡ 8) (x : Child)
-      → Reads scratch out q.a x
-      → neg_rule prime x.number (view_of x) q.c ≡ pick_of_record ws r done
-  unfolding node_for
-  picks_neg k x f =
-      let m = left_in (omega arith) in
-      (λ i. neg_rule prime (child_number q.a m x f i) (child_view q.a m x f i) (c_same i))
-      ∙ view_neg prime (B.num q.a) (record_at B.nodes (B.num q.a)) R.c
-      ∙ ap (λ (a : ℕ). neg_rule prime (B.num a) (node_for B a) R.c) a_same
-      ∙ sym (neg_pick prime B R (sym kind_same ∙ k))
+  pub picks_leaf : {v : Leaf} → Picking w r q (leaf v) done → graph.make (five_words q) ≡ pick_of_record w.sheet.words.now r done
+  unfolding pick
+  picks_leaf b = own b refl
 
-  pub picks_two : (k : 6 ≤ q.kind) (k₈ : q.kind ≡ 8 → ⊥) (x y : Child)
-      → Reads scratch out q.a x
-      → Reads scratch out q.b y
-      → two_rule prime B R q.kind x.number y.number (view_of x) (view_of y) q.c ≡ pick_of_record ws r done
-  unfolding node_for
-  picks_two k k₈ x y f g =
-      let m = left_in k in
-      let t = right_in k k₈ in
-      views prime (record_at B.nodes (B.num q.a)) (record_at B.nodes (B.num q.b)) B R
-      kind_same (child_number q.a m x f) (child_number q.b t y g) c_same (child_view q.a m x f) (child_view q.b t y g)
-      ∙ (λ i. two_rule prime B R R.kind (B.num (a_same i)) (B.num (b_same i)) (node_for B (a_same i)) (node_for B (b_same i)) R.c)
-      ∙ sym (two_pick prime B R (omega (arith, kind_same)) (kind_limits ws b.checked r b.inside).1 (λ z. k₈ (kind_same ∙ z)))
+  pub picks_const : {k : ℕ} → Picking w r q (const k) done → graph.make (five_words q) ≡ pick_of_record w.sheet.words.now r done
+  unfolding pick
+  picks_const b = own b refl
+
+  -- Another one goes in by its rule.
+  pub picks_neg : {x : ℕ} → Picking w r q (neg x) done → (k : Child) → Reads w x k
+      → neg_rule prime k.number (shown_node k.node) q.c ≡ pick_of_record w.sheet.words.now r done
+  unfolding pick children
+  picks_neg {x} b k f =
+      let m : Mem x (x ∷ []) = mem_here x [] in
+      (λ i. neg_rule prime (child_number b x m k f i) (child_node b x m k f i) (c_same b i)) ∙ rule_is b
+
+  two : (x y : ℕ) {m : Node} (b : Picking w r q m done) → Mem x (children m) → Mem y (children m)
+      → (k j : Child) → Reads w x k → Reads w y j → (rule : (l r : ℕ) (m n : Node) (g : ℕ) → graph.Pick)
+      → rule k.number j.number (shown_node k.node) (shown_node j.node) q.c
+      ≡ rule ((built_of w.sheet.words.now done).num x) ((built_of w.sheet.words.now done).num y)
+      (node_for (built_of w.sheet.words.now done) x) (node_for (built_of w.sheet.words.now done) y) (record_at (records_of w.sheet.words.now) r).c
+  two x y b l h k j f g rule =
+      λ i. rule (child_number b x l k f i) (child_number b y h j g i) (child_node b x l k f i) (child_node b y h j g i) (c_same b i)
+
+  module _ {x y : ℕ} where
+    pub picks_add : Picking w r q (add x y) done → (k j : Child) → Reads w x k → Reads w y j
+        → add_rule prime k.number j.number (shown_node k.node) (shown_node j.node) q.c ≡ pick_of_record w.sheet.words.now r done
+    unfolding pick children
+    picks_add b k j f g = two x y b (left_in x y) (right_in x y) k j f g (add_rule prime) ∙ rule_is b
+
+    pub picks_sub : Picking w r q (sub x y) done → (k j : Child) → Reads w x k → Reads w y j
+        → sub_rule prime k.number j.number (shown_node k.node) (shown_node j.node) q.c ≡ pick_of_record w.sheet.words.now r done
+    unfolding pick children
+    picks_sub b k j f g = two x y b (left_in x y) (right_in x y) k j f g (sub_rule prime) ∙ rule_is b
+
+    pub picks_mul : Picking w r q (mul x y) done → (k j : Child) → Reads w x k → Reads w y j
+        → mul_rule prime k.number j.number (shown_node k.node) (shown_node j.node) q.c ≡ pick_of_record w.sheet.words.now r done
+    unfolding pick children
+    picks_mul b k j f g = two x y b (left_in x y) (right_in x y) k j f g (mul_rule prime) ∙ rule_is b

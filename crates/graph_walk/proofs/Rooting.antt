@@ -1,136 +1,131 @@
 -- Adding the records that some words name.
 use mathlib.Core.Path.{◌≡◌, refl, sym, subst, ◌∙◌}
 use mathlib.Core.List.{List, [], ◌∷◌, ◌++◌}
-use Prim.Native.Nat.{ℕ, ◌+◌, ◌-◌, ◌≤◌, ◌<◌}
-use lib.ListN.{length, get_or, take, drop}
-use Rattle.semantics.specs.Sheet.{place}
+use Prim.Native.Nat.{ℕ, ◌+◌, ◌<◌}
+use lib.ListN.{length, get_or, take}
 use Rattle.semantics.specs.Walk.{Below, children_at, fold_left, visit}
 use Rattle.semantics.proofs.Members.{mem_get_or}
-use Rattle.records.specs.declared.Interaction.{Interaction}
-use Rattle.records.specs.Access.{records_of, message_length, interaction_from, count_list_at, fields_at, root_words, RootsInside, AllRootsInside}
-use Rattle.records.specs.Orders.{Visits}
-use Rattle.records.proofs.Rooting.{order_walk, visiting_none, visiting_one, visiting_both, fields_below, roots_below, Passed, passed_none, passed_done, passed_next, passed_more}
-use Rattle.records.proofs.Parts.{take_more, mem_take}
-use Rattle.records.proofs.Interactions.{fields_named, count_named}
-use Rattle.graph_walk.specs.Walking.{AddReady, AddWalking, State, Walks}
+use Rattle.semantics.specs.Sheet.{Interaction}
+use Rattle.semantics.specs.Check.{read_sheet}
+use Rattle.semantics.proofs.GraphSheets.{InteractionFacts}
+use Rattle.records.specs.Access.{records_of}
+use Rattle.records.specs.Named.{references_of, references}
+use Rattle.records.specs.Orders.{Order, Visiting}
+use Rattle.records.proofs.Rooting.{order_walk, visiting_none, visiting_one, visiting_both}
+use Rattle.records.proofs.Named.{all_references_below, Passed, passed_none, passed_below, passed_done, next_facts, passed_more}
+use Rattle.std.proofs.lemmas.List.{take_more}
+use Rattle.records.proofs.Parts.{mem_take}
+use Rattle.graph_walk.specs.declared.Walk.{Walk}
+use Rattle.graph_walk.specs.Walking.{State, Same, AddWalking, Visited, Walks}
 
--- What one interaction names: its fields, then its count.
-abbrev roots_at : (ws : List ℕ) (at : ℕ) → List ℕ
-roots_at ws at = fields_at ws at ++ count_list_at ws at
+pub same_as : (w : Walk) → Same w w
+same_as w = record { sheet = refl; scratch = refl; out = refl; long = refl }
 
-module _ (ws : List ℕ) where
-  abbrev E : ℕ
-  E = length (records_of ws)
+pub same_on : {u v w : Walk} → Same u v → Same v w → Same u w
+same_on s t = record { sheet = t.sheet ∙ s.sheet; scratch = t.scratch ∙ s.scratch; out = t.out ∙ s.out; long = t.long ∙ s.long }
 
-  -- One list of records after another.
-  pub walks_both : {s o : List ℕ} {n : ℕ} (p : AddWalking ws s o n) (xs ys : List ℕ) → Below E xs → (s₁ o₁ : List ℕ) (n₁ : ℕ) (s₂ o₂ : List ℕ) (n₂ : ℕ)
-      → Walks ws xs s o n s₁ o₁ n₁ → Walks ws ys s₁ o₁ n₁ s₂ o₂ n₂ → Walks ws (xs ++ ys) s o n s₂ o₂ n₂
-  walks_both {s} {o} {n} p xs ys b s₁ o₁ n₁ s₂ o₂ n₂ = visiting_both ws p.checked xs ys b (State ws s o n) (State ws s₁ o₁ n₁) (State ws s₂ o₂ n₂)
+-- How many records the sheet has.
+abbrev pub size : Walk → ℕ
+size w = length (records_of w.sheet.words.now)
 
-  -- What is asked again.
-  unfoldable pub walking_after : (roots : List ℕ) → Below E roots → (s o : List ℕ) (n : ℕ) (s₁ o₁ : List ℕ) (n₁ : ℕ) → AddWalking ws s o n → length o₁ ≡ length o
-      → Walks ws roots s o n s₁ o₁ n₁ → AddWalking ws s₁ o₁ n₁
-  walking_after roots b s o n s₁ o₁ n₁ p k f = record {
-    checked = p.checked;
-    room = subst (λ (j : ℕ). place 5 E ≤ j) (sym k) p.room;
-    done = fold_left (visit (children_at (records_of ws)) E) p.done roots;
-    order = order_walk ws p.checked roots b p.done p.order;
-    holds = f p.done p.order p.holds;
-  }
+-- What is below it stays below.
+pub still_inside : {v w : Walk} → Same v w → {r : ℕ} → r < size v → r < size w
+still_inside s {r} = subst (λ (ws : List ℕ). r < length (records_of ws)) (sym s.sheet)
 
-  unfoldable pub ready_root : (r : ℕ) → r < E → (s o : List ℕ) (n : ℕ) → AddWalking ws s o n → AddReady ws r s o n
-  ready_root r l s o n p = record { checked = p.checked; inside = l; room = p.room; done = p.done; order = p.order; holds = p.holds }
+pub still_below : {v w : Walk} → Same v w → (xs : List ℕ) → Below (size v) xs → Below (size w) xs
+still_below s xs = subst (λ (ws : List ℕ). Below (length (records_of ws)) xs) (sym s.sheet)
+
+pub walks_none : (w : Walk) → Walks w [] w
+walks_none w = (same_as w, visiting_none w.sheet.words.now (State w))
+
+pub walks_one : {v w : Walk} (r : ℕ) → r < size v → Visited v r w → Walks v (r ∷ []) w
+walks_one {v} {w} r l f = (f.0, visiting_one v.sheet.words.now v.sheet.checked r l (State v) (State w) f.1)
+
+-- One list of records after another.
+pub walks_both : {u v w : Walk} (xs ys : List ℕ) → Below (size u) xs → Walks u xs v → Walks v ys w → Walks u (xs ++ ys) w
+walks_both {u} {v} {w} xs ys b f g = (
+  same_on f.0 g.0,
+  visiting_both u.sheet.words.now u.sheet.checked xs ys b (State u) (State v) (State w) f.1 (subst (λ (ws : List ℕ). Visiting ws ys (State v) (State w)) f.0.sheet g.1),
+)
+
+-- What is asked again.
+unfoldable pub walking_after : {v w : Walk} (roots : List ℕ) → Below (size v) roots → AddWalking v → Walks v roots w → AddWalking w
+walking_after {v} {w} roots b p f =
+    let done : List ℕ = fold_left (visit (children_at (records_of v.sheet.words.now)) (size v)) p.done roots in
+    record {
+      done = done;
+      order = subst (λ (ws : List ℕ). Order ws done) (sym f.0.sheet) (order_walk v.sheet.words.now v.sheet.checked roots b p.done p.order);
+      holds = f.1 p.done p.order p.holds;
+    }
 
 -- What holds while the records that are named are added.
-pub record Naming (ws names : List ℕ) (s₀ o₀ : List ℕ) (n : ℕ) (s o : List ℕ) (u j : ℕ) : Type 0 where
-  pub walks : Walks ws (take j names) s₀ o₀ n s o u
-  pub out_length : length o ≡ length o₀
+pub record Naming (u : Walk) (names : List ℕ) (v : Walk) (j : ℕ) : Type 0 where
+  pub walks : Walks u (take j names) v
 
-module _ {ws names : List ℕ} {s₀ o₀ : List ℕ} {n : ℕ} (p : AddWalking ws s₀ o₀ n) (below : Below (length (records_of ws)) names) where
-  pub naming_none : Naming ws names s₀ o₀ n s₀ o₀ n 0
-  naming_none = record { walks = visiting_none ws (State ws s₀ o₀ n); out_length = refl }
+pub naming_none : {u : Walk} {names : List ℕ} → Naming u names u 0
+naming_none {u} = record { walks = walks_none u }
 
-  module _ {s o : List ℕ} {u j : ℕ} (h : Naming ws names s₀ o₀ n s o u j) where
-    so_far : Below (length (records_of ws)) (take j names)
-    so_far x m = below x (mem_take x j names m)
+module _ {u : Walk} {names : List ℕ} (p : AddWalking u) (below : Below (size u) names) {v : Walk} {j : ℕ} (h : Naming u names v j) (l : j < length names) where
+  so_far : Below (size u) (take j names)
+  so_far x m = below x (mem_take x j names m)
 
-    module _ (l : j < length names) where
-      abbrev r : ℕ
-      r = get_or names j 0
+  abbrev r : ℕ
+  r = get_or names j 0
 
-      inside : r < length (records_of ws)
-      inside = below r (mem_get_or names j l)
+  inside : r < size v
+  inside = still_inside h.walks.0 (below r (mem_get_or names j l))
 
-      pub naming_ready : AddReady ws r s o u
-      naming_ready = ready_root ws r inside s o u (walking_after ws (take j names) so_far s₀ o₀ n s o u p h.out_length h.walks)
+  pub naming_ready : AddWalking v × (r < size v)
+  naming_ready = (walking_after (take j names) so_far p h.walks, inside)
 
-      pub naming_more : (s₁ o₁ : List ℕ) (u₁ : ℕ) → length o₁ ≡ length o → Visits ws r (State ws s o u) (State ws s₁ o₁ u₁)
-          → Naming ws names s₀ o₀ n s₁ o₁ u₁ (j + 1)
-      naming_more s₁ o₁ u₁ k f = record {
-        walks =
-            subst (λ (xs : List ℕ). Walks ws xs s₀ o₀ n s₁ o₁ u₁) (sym (take_more names j l))
-            (walks_both ws p (take j names) (r ∷ []) so_far s o u s₁ o₁ u₁ h.walks
-            (visiting_one ws p.checked r inside (State ws s o u) (State ws s₁ o₁ u₁) f));
-        out_length = k ∙ h.out_length;
-      }
-
--- The fields of an interaction are added, then its count.
-module _ {ws : List ℕ} {at : ℕ} {s₀ o₀ : List ℕ} {n : ℕ} (p : AddWalking ws s₀ o₀ n) (h : RootsInside ws at) {x : Interaction}
-    (e : x ≡ interaction_from at (message_length ws at)) where
-  abbrev fields : List ℕ
-  fields = take (x.next - x.fields) (drop x.fields ws)
-
-  pub fields_inside : Below (length (records_of ws)) fields
-  fields_inside = subst (Below (length (records_of ws))) (sym (fields_named ws at x e)) (fields_below ws at h)
-
-  abbrev count : ℕ
-  count = get_or ws x.count 0
-
-  count_inside : count < length (records_of ws)
-  count_inside = subst (λ (z : Interaction). get_or ws z.count 0 < length (records_of ws)) (sym e) h.count
-
-  module _ {s o : List ℕ} {u : ℕ} (k : length o ≡ length o₀) (f : Walks ws fields s₀ o₀ n s o u) where
-    pub count_ready : AddReady ws count s o u
-    count_ready = ready_root ws count count_inside s o u (walking_after ws fields fields_inside s₀ o₀ n s o u p k f)
-
-    pub interaction_walked : (s₁ o₁ : List ℕ) (u₁ : ℕ) → Visits ws count (State ws s o u) (State ws s₁ o₁ u₁) → Walks ws (roots_at ws at) s₀ o₀ n s₁ o₁ u₁
-    interaction_walked s₁ o₁ u₁ g =
-        subst (λ (xs : List ℕ). Walks ws xs s₀ o₀ n s₁ o₁ u₁) (λ i. fields_named ws at x e i ++ sym (count_named ws at x e h.inside) i)
-        (walks_both ws p fields (count ∷ []) fields_inside s o u s₁ o₁ u₁ f
-        (visiting_one ws p.checked count count_inside (State ws s o u) (State ws s₁ o₁ u₁) g))
-
--- What holds while the interactions are added.
-pub record Rooting (ws : List ℕ) (at count : ℕ) (s₀ o₀ : List ℕ) (n : ℕ) (s o : List ℕ) (u from i : ℕ) : Type 0 where
-  pub roots : List ℕ
-  pub passed : Passed (roots_at ws) ws at count from i roots
-  pub walks : Walks ws roots s₀ o₀ n s o u
-  pub out_length : length o ≡ length o₀
-
-module _ {ws : List ℕ} {at count : ℕ} {s₀ o₀ : List ℕ} {n : ℕ} (p : AddWalking ws s₀ o₀ n) where
-  pub rooting_none : AllRootsInside ws at count → Rooting ws at count s₀ o₀ n s₀ o₀ n at 0
-  rooting_none h = record {
-    roots = [];
-    passed = passed_none (roots_at ws) ws at count h;
-    walks = visiting_none ws (State ws s₀ o₀ n);
-    out_length = refl;
+  pub naming_more : {w : Walk} → Visited v r w → Naming u names w (j + 1)
+  naming_more {w} f = record {
+    walks =
+        subst (λ (xs : List ℕ). Walks u xs w) (sym (take_more names j 0 l))
+        (walks_both (take j names) (r ∷ []) so_far h.walks (walks_one r inside f));
   }
 
-  module _ {s o : List ℕ} {u from i : ℕ} (h : Rooting ws at count s₀ o₀ n s o u from i) where
-    pub rooting_walking : AddWalking ws s o u
-    rooting_walking = walking_after ws h.roots h.passed.below s₀ o₀ n s o u p h.out_length h.walks
+-- What holds while the interactions are added; `left` are still to add.
+pub record Rooting (u v : Walk) (left : List Interaction) : Type 0 where
+  pub roots : List ℕ
+  pub passed : Passed references_of u.sheet.words.now left roots
+  pub walks : Walks u roots v
 
-    pub rooting_done : count ≤ i → Walks ws (root_words ws at count) s₀ o₀ n s o u
-    rooting_done l = subst (λ (xs : List ℕ). Walks ws xs s₀ o₀ n s o u) (passed_done (roots_at ws) ws at count from i h.roots h.passed l) h.walks
+module _ {u : Walk} (p : AddWalking u) where
+  pub rooting_none : {left : List Interaction} → left ≡ (read_sheet u.sheet.words.now).interactions → Rooting u u left
+  rooting_none e = record { roots = []; passed = passed_none u.sheet.checked e; walks = walks_none u }
 
-    module _ (l : i < count) where
-      pub next_roots : RootsInside ws from
-      next_roots = passed_next (roots_at ws) ws at count from i h.roots h.passed l
+  module _ {v : Walk} {left : List Interaction} (h : Rooting u v left) where
+    so_far_below : Below (size u) h.roots
+    so_far_below = passed_below h.passed (all_references_below u.sheet.words.now u.sheet.checked)
 
-      pub rooting_more : (s₁ o₁ : List ℕ) (u₁ from' : ℕ) → from' ≡ from + (4 + message_length ws from) → length o₁ ≡ length o
-          → Walks ws (roots_at ws from) s o u s₁ o₁ u₁ → Rooting ws at count s₀ o₀ n s₁ o₁ u₁ from' (i + 1)
-      rooting_more s₁ o₁ u₁ from' e k f = record {
-        roots = h.roots ++ roots_at ws from;
-        passed = passed_more (roots_at ws) ws at count from i h.roots h.passed l (roots_below ws from next_roots) from' e;
-        walks = walks_both ws p h.roots (roots_at ws from) h.passed.below s o u s₁ o₁ u₁ h.walks f;
-        out_length = k ∙ h.out_length;
-      }
+    pub rooting_walking : AddWalking v
+    rooting_walking = walking_after h.roots so_far_below p h.walks
+
+    pub rooting_done : left ≡ [] → Walks u (references (read_sheet u.sheet.words.now).interactions) v
+    rooting_done e = subst (λ (xs : List ℕ). Walks u xs v) (passed_done h.passed e) h.walks
+
+    -- The fields of the next are added, then its count.
+    module _ {x : Interaction} {rest : List Interaction} (e : left ≡ x ∷ rest) {fields : List ℕ} (fields_are : fields ≡ x.message) where
+      facts : InteractionFacts (size u) x
+      facts = next_facts h.passed e
+
+      pub fields_inside : Below (size v) fields
+      fields_inside = still_below h.walks.0 fields (subst (Below (size u)) (sym fields_are) facts.message)
+
+      module _ {v₁ : Walk} (f : Walks v fields v₁) {count : ℕ} (count_is : count ≡ x.count) where
+        count_inside : count < size v₁
+        count_inside = still_inside f.0 (still_inside h.walks.0 (subst (λ (c : ℕ). c < size u) (sym count_is) facts.count))
+
+        pub count_ready : AddWalking v₁ × (count < size v₁)
+        count_ready = (walking_after fields fields_inside rooting_walking f, count_inside)
+
+        pub rooting_more : {v₂ : Walk} → Visited v₁ count v₂ → Rooting u v₂ rest
+        rooting_more {v₂} g = record {
+          roots = h.roots ++ references_of x;
+          passed = passed_more h.passed e;
+          walks =
+              walks_both h.roots (references_of x) so_far_below h.walks
+              (subst (λ (xs : List ℕ). Walks v xs v₂) (λ i. fields_are i ++ (count_is i ∷ []))
+              (walks_both fields (count ∷ []) fields_inside f (walks_one count count_inside g)));
+        }

@@ -20,11 +20,10 @@ use Rattle.semantics.proofs.Sorting.{all_within}
 use Rattle.semantics.proofs.Order.{before_vars_trans, before_vars_total}
 use Rattle.std.specs.declared.cmp.Ordering.{Ordering}
 use Rattle.std.specs.declared.cmp.Ordering.TheVariants.{Less, Equal, Greater}
-use Rattle.std.specs.Prelude.{Some}
 use Rattle.std.specs.Prelude.{Ok, Err}
 use Rattle.monomial.specs.Words.{read_monomial}
 use Rattle.monomial.specs.Orders.{chosen, order_of}
-use Rattle.group.specs.Grouped.{Tally, tally, Ascends, tallied_total, none, tally_row, tallied, RowInside, Rows, Spot, Between, CountedMore}
+use Rattle.group.specs.Grouped.{Tally, tally, Ascends, tallied_total, none, tally_row, tallied, RowInside, Rows, Spot, Between, RowsAre}
 use Rattle.group.proofs.Tallies.{once, again, tally_nil, tally_less, tally_more, tally_same, tally_ascends}
 use Rattle.group.proofs.Headers.{tallied_length, tallied_at, vars_at_lem, count_at, total_at}
 
@@ -144,7 +143,7 @@ module _ (n k : ℕ) (H P v : List ℕ) (r : Rows n H P) where
   pub there_small : Spot v (tallied n H P) (Ok k) → get_or H (4 * k + 3) 0 ≤ tallied_total (tallied n H P)
   there_small s = subst (λ (x : ℕ). x ≤ tallied_total (tallied n H P)) (count_at n k H P (there_lt s)) (total_at (tallied n H P) k s.0)
 
-  pub count_more : Spot v (tallied n H P) (Ok k) → CountedMore (set H (4 * k + 3) (get_or H (4 * k + 3) 0 + 1)) P (tally v (tallied n H P)) (Some n)
+  pub count_more : Spot v (tallied n H P) (Ok k) → RowsAre n (set H (4 * k + 3) (get_or H (4 * k + 3) 0 + 1)) P (tally v (tallied n H P))
   unfolding tallied
   count_more s =
       let h = there_lt s in

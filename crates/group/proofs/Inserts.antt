@@ -15,14 +15,13 @@ use Rattle.semantics.specs.Call.{zeros}
 use Rattle.semantics.specs.Lists.{All}
 use Rattle.semantics.proofs.Calls.{drop_zeros}
 use Rattle.std.specs.Prelude.{Err}
-use Rattle.std.specs.Prelude.{Some}
-use Rattle.group.specs.Grouped.{Tally, tally, tally_all, tally_row, tallied, Ascends, RowInside, Rows, Spot, CountedMore}
-use Rattle.group.specs.declared.pending.Waiting.{Waiting}
+use Rattle.group.specs.Grouped.{Tally, tally, tally_all, tally_row, tallied, Ascends, RowInside, Rows, Spot, RowsAre}
+use Rattle.group.specs.declared.waits.Waiting.{Waiting}
 use Rattle.group.specs.Waiting.{PlaceInside, nobody, waiting_vars, Batch, batched}
 use Rattle.group.proofs.Tallies.{once, tally_ascends}
 use Rattle.group.proofs.Headers.{tallied_length}
 use Rattle.group.proofs.Counting.{tally_missing, all_insert, tally_once, read_vars}
-use Rattle.group.proofs.Waits.{waiting_from, waiting_end, spot_from, tally_from, length_waiting, missing_le_missing, batched_is}
+use Rattle.group.proofs.Awaiting.{waiting_from, waiting_end, spot_from, tally_from, length_waiting, missing_le_missing, batched_is}
 
 -- A row put in.
 module _ (m k : ℕ) (W P v : List ℕ) (r : Rows m W P) (s : Spot v (tallied m W P) (Err k)) where
@@ -30,7 +29,7 @@ module _ (m k : ℕ) (W P v : List ℕ) (r : Rows m W P) (s : Spot v (tallied m 
   inner_le = subst (λ (x : ℕ). k ≤ x) (tallied_length m W P) s.0
 
   pub row_in : (at c : ℕ) (W' : List ℕ) → at + 2 + c ≤ length P → c ≤ 14 → v ≡ take c (drop (at + 2) P)
-      → W' ≡ take (4 * k) W ++ ((at ∷ 0 ∷ c ∷ 1 ∷ []) ++ drop (4 * k) W) → CountedMore W' P (tally v (tallied m W P)) (Some (m + 1))
+      → W' ≡ take (4 * k) W ++ ((at ∷ 0 ∷ c ∷ 1 ∷ []) ++ drop (4 * k) W) → RowsAre (m + 1) W' P (tally v (tallied m W P))
   unfolding tallied
   row_in at c W' i f e w =
       let h = inner_le in
@@ -139,7 +138,7 @@ module _ {n b : ℕ} {H₀ P : List ℕ} {ws : List Waiting} (t : Batch n b H₀
       let o = t.rows_are.room in
       omega arith
 
-  pub insert_start : 4 * b ≤ length H₀ - 4 * n → Inserting H₀ n P ws b H₀ n b
+  pub insert_start : 4 * n + 4 * b ≤ length H₀ → Inserting H₀ n P ws b H₀ n b
   unfolding tallied tally_all
   insert_start h =
       let o = t.rows_are.room in
@@ -223,7 +222,7 @@ module _ {n b : ℕ} {H₀ P : List ℕ} {ws : List Waiting} (t : Batch n b H₀
           low = λ a y s' a'. missing_le_missing a v A y k s' l (a' h);
         }
 
-    pub insert_done : j ≤ 0 → CountedMore H P (batched n b H₀ P ws) (Some (n + b))
+    pub insert_done : j ≤ 0 → RowsAre (n + b) H P (batched n b H₀ P ws)
     insert_done h =
         let z : j ≡ 0 = omega arith in
         let x : n + (b - 0) ≡ n + b = omega arith in

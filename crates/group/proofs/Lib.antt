@@ -6,10 +6,12 @@ pub mod Headers
 pub mod Counting
 pub mod Searching
 pub mod PoolLists
+pub mod KeptPlaces
 pub mod RowTotals
 pub mod RowOffsets
 pub mod Placements
 pub mod RowVariables
-pub mod Waits
+pub mod Awaiting
 pub mod Inserts
-pub mod Runs
+pub mod Tallying
+pub mod Starts

@@ -1,56 +1,52 @@
 -- One term more in the slices, and the items of a list one after another.
 use mathlib.Core.Path.{◌≡◌, refl, sym, ◌∙◌, ap, subst}
-use mathlib.Core.Bool.{Bool, true, false, cond}
 use mathlib.Core.List.{List, [], ◌∷◌, ◌++◌, map, flat_map, append_assoc, append-nil}
 use Prim.Native.Nat.{ℕ, zero, suc, ◌+◌, ◌*◌, ◌-◌, ◌≤◌, ◌<◌}
 use native.Mathlib.Numerals.{add-one}
 use native.Mathlib.Omega.{arith}
 use Rattle.std.proofs.Math.Nat.{mul-le-mul_left}
-use lib.Dec.{eqb}
-use lib.ListN.{length, get_or, drop, set, length-append, length-set}
+use lib.ListN.{length, get_or, set, length-append, length-set}
 use lib.Seq.{sets, length-sets, drop-set-lt, get_or-set_other, get_or-set_same}
-use borrow.Author.Tests.{eq-eqb, ne_eqb}
 use Rattle.slices.proofs.Rows.{rows_length, word_at, rows_set}
 use Rattle.slices.specs.Rows.{rows}
 use Rattle.slices.proofs.Lists.{map_set, flat_length}
 use Rattle.semantics.specs.Monomial.{Monomial}
-use Rattle.semantics.specs.Group.{Item, items_of, constraint_term, interaction_term}
+use Rattle.semantics.specs.Group.{Item, constraint_term, interaction_term}
 use Rattle.semantics.specs.Call.{zeros, padded}
 use Rattle.semantics.specs.Lists.{All}
-use Rattle.semantics.proofs.Basics.{cond_true, cond_false}
 use Rattle.semantics.proofs.Sorting.{all_within}
 use Rattle.semantics.proofs.Grouping.{constraint_wide, interaction_wide}
 use Rattle.semantics.proofs.Lists.{get_or_map}
 use Rattle.semantics.proofs.Calls.{padded_is, padded_length}
 use Rattle.std.specs.Prelude.{Ok, Err}
-use Rattle.monomial.specs.Words.{read_monomial, list_in, read_list}
-use Rattle.monomial.proofs.ListLaws.{list_in_suc}
 use Rattle.group.specs.declared.place.Form.{Form}
 use Rattle.group.specs.declared.place.Form.TheVariants.{Constraint, Interaction}
+use Rattle.group.specs.declared.place.Label.{Label}
+use Rattle.group.specs.declared.place.Label.TheVariants as label
 use Rattle.group.specs.Grouped.{Tally, Ascends, tallied_count, tallied_total, none, tallied, tally_row, RowInside, Rows, Spot, select, placed, cursors, RoomForTerms, column}
-use Rattle.group.specs.Grouped.{Standing, term_of, term_width, item_at, items_at, Placing, ToPlace, Places}
+use Rattle.group.specs.Grouped.{monomial_in, MonomialInside, list_of, InPool, kept_of, term_of, term_width, form_at, words_at, item_at, items_at, Placing, ToPlace, Places}
 use Rattle.group.proofs.Gathering.{less_is, more_is}
 use Rattle.group.proofs.Places.{select_append, select_same, Fit, room_fit, spot, cursor_at, cursor_step, place_step}
 use Rattle.group.proofs.Headers.{tallied_length}
 use Rattle.group.proofs.RowTotals.{words, column_words}
 use Rattle.group.proofs.Counting.{all_set, row_long, tally_row_cursor}
-use Rattle.group.proofs.PoolLists.{left_suc, standing_next}
+use Rattle.group.specs.Waiting.{PlaceInside}
+use Rattle.group.specs.declared.Groups.{Groups}
+use Rattle.group.specs.Groups.{Same, MayPlace, Placed}
+use Rattle.group.proofs.Tallying.{same_as, same_on}
+use Rattle.group.proofs.PoolLists.{stands}
+use Rattle.group.proofs.KeptPlaces.{kept_inside, kept_items}
 
 -- The two forms of a term.
 pub term_wide : (b : Form) (t : Item) → length (term_of b t) ≡ term_width b
 term_wide Constraint t = constraint_wide t
 term_wide Interaction t = interaction_wide t
 
-module _ (T T' : List ℕ) (at i f c : ℕ) where
-  pub put_interaction : T' ≡ sets T (3 * at) (c ∷ i ∷ f ∷ []) → (t : Item) → t.index ≡ i → t.field ≡ f → t.coef ≡ c
-      → T' ≡ sets T (term_width Interaction * at) (term_of Interaction t)
-  unfolding interaction_term
-  put_interaction h t p q r = h ∙ (λ j. sets T (3 * at) (sym r j ∷ sym p j ∷ sym q j ∷ []))
-
-  pub put_constraint : T' ≡ sets T (2 * at) (i ∷ c ∷ []) → (t : Item) → t.index ≡ i → t.field ≡ f → t.coef ≡ c
-      → T' ≡ sets T (term_width Constraint * at) (term_of Constraint t)
-  unfolding constraint_term
-  put_constraint h t p q r = h ∙ (λ j. sets T (2 * at) (sym p j ∷ sym r j ∷ []))
+-- The words of a term under a label are those of the item.
+pub label_words : (l : Label) (m : Monomial) → words_at l m.coef ≡ term_of (form_at l) (item_at l m)
+unfolding constraint_term interaction_term
+label_words (label.Constraint i) m = refl
+label_words (label.Interaction i f) m = refl
 
 -- The cursor of row k changed.
 module _ (n k x : ℕ) (H P : List ℕ) (r : Rows n H P) (h : k < n) where
@@ -172,6 +168,10 @@ module _ {b : Form} {gs : List Tally} {n : ℕ} {H P T : List ℕ} {done : List 
   row_four : length (get_or (rows 4 n H) k []) ≡ 4
   row_four = row_long n k H row_lt p.rows_are.room
 
+  -- The rows stay rows when the cursor goes on.
+  pub cursor_kept : (x : ℕ) → Rows n (set H (4 * k + 1) x) P
+  cursor_kept x = cursor_rows n k x H P p.rows_are row_lt
+
   pub place_one : (H' T' : List ℕ) → T' ≡ sets T (term_width b * get_or H (4 * k + 1) 0) (term_of b t) → H' ≡ set H (4 * k + 1) (get_or H (4 * k + 1) 0 + 1)
       → Placing b gs n H' P T' (done ++ (t ∷ []))
   place_one H' T' tt' hh =
@@ -199,25 +199,6 @@ module _ {b : Form} {gs : List Tally} {n : ℕ} {H P T : List ℕ} {done : List 
         fits = omega arith;
         small = p.small;
       }
-
--- The items of one monomial, and of a list monomial by monomial.
-module _ (index field : ℕ) (m : Monomial) where
-  pub items_none : m.coef ≡ 0 → items_at index field (m ∷ []) ≡ []
-  unfolding items_of
-  items_none e = cond_true (eqb m.coef 0) [] (item_at index field m ∷ []) (eq-eqb m.coef 0 e)
-
-  pub items_one : (m.coef ≡ 0 → ⊥) → items_at index field (m ∷ []) ≡ item_at index field m ∷ []
-  unfolding items_of
-  items_one e = cond_false (eqb m.coef 0) [] (item_at index field m ∷ []) (ne_eqb m.coef 0 e)
-
-  items_cons : (ms : List Monomial) → items_at index field (m ∷ ms) ≡ items_at index field (m ∷ []) ++ items_at index field ms
-  unfolding items_of
-  items_cons ms = go (eqb m.coef 0)
-    where
-      go : (b : Bool) → cond b (items_at index field ms) (item_at index field m ∷ items_at index field ms)
-          ≡ cond b [] (item_at index field m ∷ []) ++ items_at index field ms
-      go true = refl
-      go false = refl
 
 -- While the items `all` are placed, of which `rest` are left.
 pub record Going (b : Form) (n : ℕ) (P H₀ T₀ : List ℕ) (all : List Item) (H T : List ℕ) (rest : List Item) : Type 0 where
@@ -263,37 +244,68 @@ module _ (b : Form) (n : ℕ) (P H₀ T₀ : List ℕ) (all : List Item) where
       subst (λ (l : List Item). Placing b gs n H P T (done ++ l))
       (sym (append-nil g.front) ∙ ap (λ (l : List Item). g.front ++ l) (sym e) ∙ g.whole) (g.placing gs done x y)
 
--- While a list is placed.
-pub record Listing (b : Form) (n : ℕ) (P : List ℕ) (index field at count : ℕ) (H₀ T₀ H T : List ℕ) (place i : ℕ) : Type 0 where
-  pub standing : Standing (count - i) P place
-  pub going : Going b n P H₀ T₀ (items_at index field (list_in P at count)) H T (items_at index field (list_in P place (count - i)))
+-- The items of the monomials that stand at some places.
+abbrev pub items_on : Label → (pool places : List ℕ) → List Item
+items_on l pool places = map (λ (at : ℕ). item_at l (monomial_in pool at)) places
 
-module _ {b : Form} {n : ℕ} {P : List ℕ} {index field at count : ℕ} {H₀ T₀ : List ℕ} where
-  module _ {H T : List ℕ} {place i : ℕ} (g : Listing b n P index field at count H₀ T₀ H T place i) (h : i < count) where
-    next_list : items_at index field (list_in P place (count - i))
-        ≡ items_at index field (read_monomial (drop place P) ∷ []) ++ items_at index field (list_in P (place + 2 + get_or P place 0) (count - (i + 1)))
-    next_list =
-        ap (λ (m : ℕ). items_at index field (list_in P place m)) (left_suc count i h)
-        ∙ ap (items_at index field) (list_in_suc P place (count - (i + 1)))
-        ∙ items_cons index field (read_monomial (drop place P)) (list_in P (place + 2 + get_or P place 0) (count - (i + 1)))
+-- While a record's list is placed: the monomials that stand at `left` are still to come.
+pub record Listing (l : Label) (node : ℕ) (g₀ : Groups) (T₀ : List ℕ) (g : Groups) (T left : List ℕ) : Type 0 where
+  pub same : Same g₀ g
+  pub rows_are : g.n ≡ g₀.n
+  pub inside : All (PlaceInside g₀.pool.now) left
+  pub going : Going (form_at l) g₀.n g₀.pool.now g₀.headers.now T₀ (items_at l (list_of g₀.pool.now node)) g.headers.now T (items_on l g₀.pool.now left)
 
-    pub listing_asks : ToPlace b n H₀ P T₀ (items_at index field (list_in P at count)) → ToPlace b n H P T (items_at index field (read_monomial (drop place P) ∷ []))
-    listing_asks t = going_asks b n P H₀ T₀ (items_at index field (list_in P at count)) H T _ _ _ next_list g.going t
+pub listing_start : (l : Label) (node : ℕ) (g : Groups) (T left : List ℕ) → InPool g.pool.now node → left ≡ kept_of g.pool.now node → Listing l node g T g T left
+listing_start l node g T left s e =
+    let P : List ℕ = g.pool.now in
+    let at : ℕ = get_or P (2 * node) 0 in
+    let n : ℕ = get_or P (2 * node + 1) 0 in
+    record {
+      same = same_as g;
+      rows_are = refl;
+      inside = subst (All (PlaceInside P)) (sym e) (kept_inside P at n (stands P node s));
+      going = record {
+        long = refl;
+        terms_long = refl;
+        front = [];
+        whole = ap (items_on l P) e ∙ kept_items l P at n;
+        placing = λ gs done x y. subst (Placing (form_at l) gs g.n g.headers.now P T) (sym (append-nil done)) x;
+      };
+    }
 
-    pub listing_step : (H' T' : List ℕ) → length H' ≡ length H → length T' ≡ length T
-        → Places b n P H T H' T' (items_at index field (read_monomial (drop place P) ∷ []))
-        → Listing b n P index field at count H₀ T₀ H' T' (place + (2 + get_or P place 0)) (i + 1)
-    listing_step H' T' lh lt does =
-        let e : place + 2 + get_or P place 0 ≡ place + (2 + get_or P place 0) = omega arith in
-        subst (λ (x : ℕ). Listing b n P index field at count H₀ T₀ H' T' x (i + 1)) e
-        (record {
-          standing = (standing_next count i place P h g.standing).3;
-          going = going_step b n P H₀ T₀ (items_at index field (list_in P at count)) H T _ _ _ next_list g.going H' T' lh lt does;
-        })
+module _ {l : Label} {node : ℕ} {g₀ : Groups} {T₀ : List ℕ} {g : Groups} {T left : List ℕ} (t : Listing l node g₀ T₀ g T left) where
+  module _ {at : ℕ} {left' : List ℕ} (e : left ≡ at ∷ left') where
+    -- What is asked and done for groups with the same rows over the same pool is so for these.
+    pub listing_asks : MayPlace (form_at l) g₀ T₀ (items_at l (list_of g₀.pool.now node))
+        → MayPlace (form_at l) g T (item_at l (monomial_in g.pool.now at) ∷ []) × (get_or g.pool.now at 0 ≤ 14) × MonomialInside g.pool.now at
+    listing_asks m =
+        let P : List ℕ = g₀.pool.now in
+        let i = (subst (All (PlaceInside P)) e t.inside).0 in
+        let h = going_asks (form_at l) g₀.n P g₀.headers.now T₀ _ g.headers.now T _ (item_at l (monomial_in P at) ∷ []) (items_on l P left') (ap (items_on l P) e) t.going m in
+        subst (λ (Q : List ℕ). ToPlace (form_at l) g.n g.headers.now Q T (item_at l (monomial_in Q at) ∷ []) × (get_or Q at 0 ≤ 14) × MonomialInside Q at) (sym t.same.pool)
+        (subst (λ (n : ℕ). ToPlace (form_at l) n g.headers.now P T (item_at l (monomial_in P at) ∷ [])) (sym t.rows_are) h, i.0, i.1)
 
-  pub listing_done : {H T : List ℕ} {place i : ℕ} → Listing b n P index field at count H₀ T₀ H T place i → count ≤ i
-      → Places b n P H₀ T₀ H T (items_at index field (list_in P at count))
-  unfolding items_of read_list
-  listing_done {H} {T} {place} {i} g h =
-      let z : count - i ≡ 0 = omega arith in
-      going_done b n P H₀ T₀ (items_at index field (list_in P at count)) H T _ (ap (λ (m : ℕ). items_at index field (list_in P place m)) z) g.going
+    pub listing_step : {g' : Groups} {T' : List ℕ} → length T' ≡ length T → Placed (form_at l) g T g' T' (item_at l (monomial_in g.pool.now at) ∷ [])
+        → Listing l node g₀ T₀ g' T' left'
+    listing_step {g'} {T'} lt does =
+        let P : List ℕ = g₀.pool.now in
+        let p =
+        subst (λ (n : ℕ). Places (form_at l) n P g.headers.now T g'.headers.now T' (item_at l (monomial_in P at) ∷ [])) t.rows_are
+        (subst (λ (Q : List ℕ). Places (form_at l) g.n Q g.headers.now T g'.headers.now T' (item_at l (monomial_in Q at) ∷ [])) t.same.pool does.places) in
+        record {
+          same = same_on t.same does.same;
+          rows_are = does.rows ∙ t.rows_are;
+          inside = (subst (All (PlaceInside P)) e t.inside).1;
+          going =
+              going_step (form_at l) g₀.n P g₀.headers.now T₀ _ g.headers.now T _ (item_at l (monomial_in P at) ∷ []) (items_on l P left') (ap (items_on l P) e) t.going
+              g'.headers.now T' does.same.long lt p;
+        }
+
+  pub listing_done : left ≡ [] → Placed (form_at l) g₀ T₀ g T (items_at l (list_of g₀.pool.now node))
+  listing_done e = record {
+    same = t.same;
+    rows = t.rows_are;
+    places =
+        going_done (form_at l) g₀.n g₀.pool.now g₀.headers.now T₀ (items_at l (list_of g₀.pool.now node)) g.headers.now T _
+        (ap (items_on l g₀.pool.now) e) t.going;
+  }

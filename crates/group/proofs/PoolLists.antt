@@ -2,48 +2,25 @@
 use mathlib.Core.Path.{◌≡◌, refl, sym, ◌∙◌, ap, subst}
 use mathlib.Core.Bool.{Bool, true, false, cond}
 use mathlib.Core.List.{List, [], ◌∷◌, ◌++◌, append_assoc}
-use Prim.Native.Nat.{ℕ, suc, ◌+◌, ◌*◌, ◌-◌, ◌≤◌, ◌<◌}
+use Prim.Native.Nat.{ℕ, suc, ◌+◌, ◌*◌, ◌≤◌}
 use native.Mathlib.Omega.{arith}
 use lib.Dec.{eqb}
 use lib.ListN.{length, get_or, take, drop, take-append-drop}
 use lib.Seq.{get_or-drop, drop-drop, take_at, drop_at}
-use borrow.Author.Tests.{eq-eqb, ne_eqb}
 use Rattle.slices.proofs.Lists.{get_or_front}
 use Rattle.semantics.specs.Monomial.{Monomial}
 use Rattle.semantics.specs.Expand.{list_size}
 use Rattle.semantics.specs.Group.{Root, items_of}
 use Rattle.semantics.specs.Lists.{All}
-use Rattle.semantics.proofs.Basics.{by_test, cond_true, cond_false}
-use Rattle.monomial.specs.Words.{monomial_words, list_words, read_monomial, read_list, list_in, Fits, Stored}
-use Rattle.monomial.proofs.ListLaws.{words_cons, size_cons, one_length, words_length, front_count, stored_list, list_in_suc}
-use Rattle.group.specs.Grouped.{Tally, tally_all, non_zero, MonomialInside, Standing, list_of, InPool}
-use Rattle.group.proofs.Tallies.{vars_of, tally_all_append}
+use Rattle.semantics.proofs.Basics.{by_test}
+use Rattle.monomial.specs.Words.{monomial_words, list_words, read_monomial, Fits, Stored}
+use Rattle.monomial.proofs.ListLaws.{words_cons, size_cons, one_length, words_length, front_count, stored_list}
+use Rattle.group.specs.Grouped.{non_zero, Standing, list_of, InPool}
+use Rattle.group.proofs.Tallies.{vars_of}
 
 pub read_coef : (P : List ℕ) (at : ℕ) → (read_monomial (drop at P)).coef ≡ get_or P (at + 1) 0
 unfolding read_monomial
 read_coef P at = get_or-drop at P 1 0
-
--- A monomial is counted unless its coefficient is 0.
-module _ (m : Monomial) where
-  pub non_zero_none : m.coef ≡ 0 → non_zero (m ∷ []) ≡ []
-  unfolding non_zero
-  non_zero_none e = cond_true (eqb m.coef 0) [] (m.vars ∷ []) (eq-eqb m.coef 0 e)
-
-  pub non_zero_kept : (m.coef ≡ 0 → ⊥) → non_zero (m ∷ []) ≡ m.vars ∷ []
-  unfolding non_zero
-  non_zero_kept e = cond_false (eqb m.coef 0) [] (m.vars ∷ []) (ne_eqb m.coef 0 e)
-
-pub non_zero_cons : (m : Monomial) (ms : List Monomial) → non_zero (m ∷ ms) ≡ non_zero (m ∷ []) ++ non_zero ms
-unfolding non_zero
-non_zero_cons m ms = go (eqb m.coef 0)
-  where
-    go : (b : Bool) → cond b (non_zero ms) (m.vars ∷ non_zero ms) ≡ cond b [] (m.vars ∷ []) ++ non_zero ms
-    go true = refl
-    go false = refl
-
-pub non_zero_one : (m : Monomial) → length (non_zero (m ∷ [])) ≤ 1
-unfolding non_zero
-non_zero_one m = by_test (λ (l : List (List ℕ)). length l ≤ 1) (eqb m.coef 0) (λ e. omega arith) (λ e. omega arith)
 
 pub non_zero_length : (ms : List Monomial) → length (non_zero ms) ≤ length ms
 unfolding non_zero
@@ -62,29 +39,6 @@ items_vars r (m ∷ ms) = go (eqb m.coef 0) (items_vars r ms)
         ≡ cond b (non_zero ms) (m.vars ∷ non_zero ms)
     go true ih = ih
     go false ih = ap (λ (l : List (List ℕ)). m.vars ∷ l) ih
-
-pub left_suc : (count i : ℕ) → i < count → count - i ≡ suc (count - (i + 1))
-left_suc count i h = omega arith
-
-pub standing_next : (count i place : ℕ) (P : List ℕ) → i < count → Standing (count - i) P place
-    → (get_or P place 0 ≤ 14) × MonomialInside P place × (place ≤ 4294967295) × Standing (count - (i + 1)) P (place + 2 + get_or P place 0)
-standing_next count i place P h s = subst (λ (m : ℕ). Standing m P place) (left_suc count i h) s
-
--- What is left of a list, once its next monomial is counted.
-pub left_next : (count i place : ℕ) (P : List ℕ) (gs : List Tally) → i < count
-    → tally_all (non_zero (list_in P (place + 2 + get_or P place 0) (count - (i + 1)))) (tally_all (non_zero (read_monomial (drop place P) ∷ [])) gs)
-    ≡ tally_all (non_zero (list_in P place (count - i))) gs
-left_next count i place P gs h =
-    let r : ℕ = count - (i + 1) in
-    let m : Monomial = read_monomial (drop place P) in
-    let l : List Monomial = list_in P (place + 2 + get_or P place 0) r in
-    let e : non_zero (list_in P place (count - i)) ≡ non_zero (m ∷ []) ++ non_zero l =
-    ap (λ (x : ℕ). non_zero (list_in P place x)) (left_suc count i h) ∙ ap non_zero (list_in_suc P place r) ∙ non_zero_cons m l in
-    sym (tally_all_append (non_zero (m ∷ [])) (non_zero l) gs) ∙ ap (λ (x : List (List ℕ)). tally_all x gs) (sym e)
-
-pub left_none : (count i place : ℕ) (P : List ℕ) (gs : List Tally) → count ≤ i → tally_all (non_zero (list_in P place (count - i))) gs ≡ gs
-unfolding non_zero tally_all read_list
-left_none count i place P gs h = let z : count - i ≡ 0 = omega arith in ap (λ (x : ℕ). tally_all (non_zero (list_in P place x)) gs) z
 
 -- A stored list, taken apart: its first monomial, and the rest.
 module _ (m : Monomial) (ms : List Monomial) (P : List ℕ) (at : ℕ)

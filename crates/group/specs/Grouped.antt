@@ -1,5 +1,5 @@
 -- Grouping in memory: rows of four words while monomials are counted, the terms as they are placed, and the finished headers.
-use Rattle.std.specs.Prelude.{◌≡◌, Option, Some, None, Result, Ok, Err, true, cond, ℕ, zero, suc, ◌+◌, ◌*◌, ◌-◌, ◌≤◌, ◌<◌, eqb, length, get_or, take, drop, set}
+use Rattle.std.specs.Prelude.{◌≡◌, Result, Ok, Err, true, cond, ℕ, zero, suc, ◌+◌, ◌*◌, ◌-◌, ◌≤◌, ◌<◌, eqb, length, get_or, take, drop, set}
 use mathlib.Core.List.{List, [], ◌∷◌, ◌++◌, map, flat_map}
 use Rattle.slices.specs.Rows.{rows}
 use Rattle.semantics.specs.Monomial.{BeforeVars, Monomial, before_vars}
@@ -9,6 +9,8 @@ use Rattle.semantics.specs.Lists.{AscendBy, All}
 use Rattle.monomial.specs.Words.{read_monomial, list_in, Stored}
 use Rattle.group.specs.declared.place.Form.{Form}
 use Rattle.group.specs.declared.place.Form.TheVariants.{Constraint, Interaction}
+use Rattle.group.specs.declared.place.Label.{Label}
+use Rattle.group.specs.declared.place.Label.TheVariants as label
 
 -- A choice by where one variable list stands, seen from another: before it, behind it, or the same.
 unfoldable pub by_order : {X : Type 0} → (v w : List ℕ) → (less more same : X) → X
@@ -108,10 +110,9 @@ Between v gs low high =
     × ((i : ℕ) → i < low → before_vars (get_or gs i none).vars v ≡ true)
     × ((i : ℕ) → high ≤ i → i < length gs → before_vars v (get_or gs i none).vars ≡ true)
 
--- After counting: the rows have these tallies, or the slice is too short for them.
-abbrev pub CountedMore : (headers pool : List ℕ) (gs : List Tally) → Option ℕ → Type 0
-CountedMore headers pool gs (Some n) = Rows n headers pool × (tallied n headers pool ≡ gs)
-CountedMore headers pool gs None = length headers < 4 * length gs
+-- n rows with these tallies.
+abbrev pub RowsAre : (n : ℕ) (headers pool : List ℕ) (gs : List Tally) → Type 0
+RowsAre n headers pool gs = Rows n headers pool × (tallied n headers pool ≡ gs)
 
 -- The variables of the monomials whose coefficient is not 0.
 unfoldable pub non_zero : List Monomial → List (List ℕ)
@@ -132,10 +133,11 @@ Standing zero pool at = Unit {0}
 Standing (suc n) pool at =
     (get_or pool at 0 ≤ 14) × MonomialInside pool at × (at ≤ 4294967295) × Standing n pool (at + 2 + get_or pool at 0)
 
--- What counting `count` monomials asks: the rows so far, the monomials in the pool, and no more counted in all than a word can hold.
-abbrev pub ToCount : (n : ℕ) (headers pool : List ℕ) (at count : ℕ) → Type 0
-ToCount n headers pool at count =
-    Rows n headers pool × Standing count pool at × (tallied_total (tallied n headers pool) + count ≤ 4294967295)
+-- The places of the n monomials that stand from `at` on, those whose coefficient is 0 left out.
+unfoldable pub kept_places : (pool : List ℕ) (at n : ℕ) → List ℕ
+kept_places pool at zero = []
+kept_places pool at (suc n) =
+    cond (eqb (get_or pool (at + 1) 0) 0) (kept_places pool (at + 2 + get_or pool at 0) n) (at ∷ kept_places pool (at + 2 + get_or pool at 0) n)
 
 -- The list of record i in the pool.
 abbrev pub list_of : (pool : List ℕ) (i : ℕ) → List Monomial
@@ -143,6 +145,10 @@ list_of pool i = list_in pool (get_or pool (2 * i) 0) (get_or pool (2 * i + 1) 0
 
 abbrev pub InPool : (pool : List ℕ) (i : ℕ) → Type 0
 InPool pool i = Stored pool i (list_of pool i)
+
+-- The places of the monomials of its list, those whose coefficient is 0 left out.
+abbrev pub kept_of : (pool : List ℕ) (i : ℕ) → List ℕ
+kept_of pool i = kept_places pool (get_or pool (2 * i) 0) (get_or pool (2 * i + 1) 0)
 
 -- One word of each row, and the sum of some words.
 unfoldable pub column : (word n : ℕ) (headers : List ℕ) → List ℕ
@@ -166,12 +172,29 @@ abbrev pub term_width : Form → ℕ
 term_width Constraint = 2
 term_width Interaction = 3
 
--- A monomial as an item, and the items of a list, for a label.
-abbrev pub item_at : (index field : ℕ) → Monomial → Item
-item_at index field m = record { vars = m.vars; index = index; field = field; coef = m.coef }
+-- The form of the terms under a label, its index and its field, and the words of a term with a coefficient.
+abbrev pub form_at : Label → Form
+form_at (label.Constraint i) = Constraint
+form_at (label.Interaction i f) = Interaction
 
-abbrev pub items_at : (index field : ℕ) → List Monomial → List Item
-items_at index field ms = items_of (record { node = 0; index = index; field = field }) ms
+abbrev pub index_at : Label → ℕ
+index_at (label.Constraint i) = i
+index_at (label.Interaction i f) = i
+
+abbrev pub field_at : Label → ℕ
+field_at (label.Constraint i) = 0
+field_at (label.Interaction i f) = f
+
+abbrev pub words_at : Label → (coef : ℕ) → List ℕ
+words_at (label.Constraint i) c = i ∷ c ∷ []
+words_at (label.Interaction i f) c = c ∷ i ∷ f ∷ []
+
+-- A monomial as an item, and the items of a list, for a label.
+abbrev pub item_at : Label → Monomial → Item
+item_at l m = record { vars = m.vars; index = index_at l; field = field_at l; coef = m.coef }
+
+abbrev pub items_at : Label → List Monomial → List Item
+items_at l ms = items_of (record { node = 0; index = index_at l; field = field_at l }) ms
 
 -- Headers and terms while the items `done` are placed into the groups `gs`.
 pub record Placing (form : Form) (gs : List Tally) (n : ℕ) (headers pool terms : List ℕ) (done : List Item) : Type 0 where

@@ -1,2 +1,4 @@
 pub mod Grouped
 pub mod Waiting
+pub mod Groups
+pub mod OneProof

@@ -1,27 +1,27 @@
 -- The rows before and after the terms are placed, and the slices of a family when all is written.
-use mathlib.Core.Path.{◌≡◌, refl, sym, ◌∙◌, ap, subst}
+use mathlib.Core.Path.{◌≡◌, refl, sym, ◌∙◌, ap}
 use mathlib.Core.Bool.{cond}
 use mathlib.Core.List.{List, [], ◌∷◌, ◌++◌, map, flat_map}
 use Prim.Native.Nat.{ℕ, zero, suc, ◌+◌, ◌*◌, ◌-◌, ◌≤◌}
 use native.Mathlib.Omega.{arith}
 use lib.Dec.{eqb}
-use lib.ListN.{length, get_or, take, drop, set, replicate, length-append, length-drop, length-replicate, take-append-drop}
+use lib.ListN.{length, get_or, take, drop, set, length-append, length-drop, take-append-drop}
 use lib.Seq.{get_or-set_other, get_or-set_same, length-take-le, take-add, take-append_seam}
 use Rattle.slices.proofs.Rows.{rows_length}
 use Rattle.slices.specs.Rows.{rows}
 use Rattle.semantics.specs.Monomial.{Monomial}
-use Rattle.semantics.specs.Group.{Root, Item, items_of}
+use Rattle.semantics.specs.Group.{Item, items_of}
 use Rattle.semantics.specs.Call.{zeros, padded}
 use Rattle.semantics.specs.Lists.{All}
 use Rattle.semantics.proofs.Calls.{zeros_add, zeros_long, padded_is}
 use Rattle.group.specs.declared.place.Form.{Form}
-use Rattle.group.specs.Grouped.{Tally, tally_all, Ascends, tallied_total, tally_row, tallied, RowInside, Rows, column, sum, totalled, cursors, select, placed}
-use Rattle.group.specs.Grouped.{items_at, term_of, term_width, Placing, vars_in, tallied_headers, InPool, vars_named}
+use Rattle.group.specs.Grouped.{Tally, tally_all, tallied_total, tally_row, tallied, RowInside, Rows, column, sum, totalled, cursors, select, placed}
+use Rattle.group.specs.Grouped.{term_of, term_width, Placing, vars_in, tallied_headers, InPool, vars_named}
 use Rattle.group.proofs.Tallies.{total_all, length_all}
 use Rattle.group.proofs.Places.{placed_none}
 use Rattle.group.proofs.Headers.{tallied_length}
 use Rattle.group.proofs.RowTotals.{words, column_words}
-use Rattle.group.proofs.Counting.{tally_row_cursor, row_count}
+use Rattle.group.proofs.Counting.{row_count}
 use Rattle.grouping.proofs.NamedLists.{vars_length}
 
 -- Every row has four words.
@@ -35,23 +35,7 @@ rows_four (suc n) H h =
     let d : length (drop 4 H) ≡ length H - 4 = length-drop 4 H in
     (length-take-le 4 H (omega arith), rows_four n (drop 4 H) (omega arith))
 
--- Cursors set to the totals: the tallies stay, and each cursor is where the first term goes.
-start_tallies : (P : List ℕ) (s : ℕ) (rs : List (List ℕ)) → map (tally_row P) (totalled 1 3 s rs) ≡ map (tally_row P) rs
-unfolding totalled
-start_tallies P s [] = refl
-start_tallies P s (row ∷ rs) =
-    ap (λ (g : Tally). g ∷ map (tally_row P) (totalled 1 3 (s + get_or row 3 0) rs)) (tally_row_cursor P row s)
-    ∙ ap (λ (l : List Tally). tally_row P row ∷ l) (start_tallies P (s + get_or row 3 0) rs)
-
-start_inside : (P : List ℕ) (s : ℕ) (rs : List (List ℕ)) → All (RowInside P) rs → All (RowInside P) (totalled 1 3 s rs)
-unfolding totalled
-start_inside P s [] a = tt
-start_inside P s (row ∷ rs) a =
-    let x : get_or (set row 1 s) 0 0 ≡ get_or row 0 0 = get_or-set_other row 1 0 s 0 (λ z. absurd (omega arith)) in
-    let y : get_or (set row 1 s) 2 0 ≡ get_or row 2 0 = get_or-set_other row 1 2 s 0 (λ z. absurd (omega arith)) in
-    let b = a.0 in
-    ((omega (arith, b.0), omega (arith, b.1)), start_inside P (s + get_or row 3 0) rs a.1)
-
+-- Cursors set to the totals: each is where the first term goes.
 start_cursors : (P : List ℕ) (s : ℕ) (rs : List (List ℕ)) → Four rs → words 1 (totalled 1 3 s rs) ≡ cursors s (map (tally_row P) rs) []
 unfolding totalled cursors select
 start_cursors P s [] a = refl
@@ -73,23 +57,17 @@ zeros_padded ws m n e h =
     let b : n - m ≡ n - length ws = omega arith in
     ap zeros (sym a) ∙ zeros_add m (n - m) ∙ ap (λ (k : ℕ). zeros m ++ zeros k) b ∙ ap (λ (l : List ℕ). l ++ zeros (n - length ws)) (sym e) ∙ sym (padded_is ws n)
 
-pub placing_start : (b : Form) (n : ℕ) (H H' P T : List ℕ) → Rows n H P → rows 4 n H' ≡ totalled 1 3 0 (rows 4 n H) → drop (4 * n) H' ≡ drop (4 * n) H
-    → length H' ≡ length H → Vacant (placed (term_of b) (term_width b) (tallied n H P) []) T → tallied_total (tallied n H P) ≤ 4294967295
+pub placing_start : (b : Form) (n : ℕ) (H H' P T : List ℕ) → Rows n H P → Rows n H' P → tallied n H' P ≡ tallied n H P
+    → rows 4 n H' ≡ totalled 1 3 0 (rows 4 n H) → Vacant (placed (term_of b) (term_width b) (tallied n H P) []) T → tallied_total (tallied n H P) ≤ 4294967295
     → Placing b (tallied n H P) n H' P T []
 unfolding tallied
-placing_start b n H H' P T r e d l v s =
+placing_start b n H H' P T r r' t e v s =
     let m = r.room in
-    let t : tallied n H' P ≡ tallied n H P = ap (map (tally_row P)) e ∙ start_tallies P 0 (rows 4 n H) in
     let z = placed_none (term_of b) (term_width b) (tallied n H P) in
     let q : length (placed (term_of b) (term_width b) (tallied n H P) []) ≡ term_width b * tallied_total (tallied n H P) =
     ap length z ∙ zeros_long (term_width b * tallied_total (tallied n H P)) in
     record {
-      rows_are = record {
-        room = omega arith;
-        inside = subst (All (RowInside P)) (sym e) (start_inside P 0 (rows 4 n H) r.inside);
-        ascends = subst Ascends (sym t) r.ascends;
-        rest = d ∙ r.rest ∙ ap (λ (i : ℕ). zeros (i - 4 * n)) (sym l);
-      };
+      rows_are = r';
       tallies_are = t;
       cursors_are = column_words 1 n H' ∙ ap (words 1) e ∙ start_cursors P 0 (rows 4 n H) (rows_four n H m);
       terms_are = v.0 ∙ zeros_padded (placed (term_of b) (term_width b) (tallied n H P) []) (term_width b * tallied_total (tallied n H P)) (length T) z (omega (arith, v.1));
@@ -185,12 +163,13 @@ headers_filled n H H' P r e d l =
     ∙ ap (λ (x : List ℕ). x ++ drop (4 * n) H') (sym (rows_flat n H') ∙ ap flat e ∙ flat_headers P 0 0 (rows 4 n H) (rows_four n H r.room) r.inside)
     ∙ ap (λ (x : List ℕ). hs ++ x) (d ∙ r.rest ∙ ap zeros q) ∙ sym (padded_is hs (length H'))
 
--- The items of a root carry its label.
-pub items_label : (r : Root) (ms : List Monomial) → items_of r ms ≡ items_at r.index r.field ms
+-- The items of a root carry its label, whatever record it names.
+pub items_label : (c index field : ℕ) (ms : List Monomial)
+    → items_of (record { node = c; index = index; field = field }) ms ≡ items_of (record { node = 0; index = index; field = field }) ms
 unfolding items_of
-items_label r [] = refl
-items_label r (m ∷ ms) =
-    ap (λ (l : List Item). cond (eqb m.coef 0) l (record { vars = m.vars; index = r.index; field = r.field; coef = m.coef } ∷ l)) (items_label r ms)
+items_label c index field [] = refl
+items_label c index field (m ∷ ms) =
+    ap (λ (l : List Item). cond (eqb m.coef 0) l (record { vars = m.vars; index = index; field = field; coef = m.coef } ∷ l)) (items_label c index field ms)
 
 pub total_nil : tallied_total [] ≡ 0
 unfolding tallied_total
@@ -210,10 +189,6 @@ family_small n H P references g a h =
 pub vacant_terms : (b : Form) (gs : List Tally) (T : List ℕ) → T ≡ zeros (length T) → term_width b * tallied_total gs ≤ length T
     → Vacant (placed (term_of b) (term_width b) gs []) T
 vacant_terms b gs T e h = (e, let q = ap length (placed_none (term_of b) (term_width b) gs) ∙ zeros_long (term_width b * tallied_total gs) in omega arith)
-
-pub zeros_again : (T : List ℕ) (k : ℕ) → T ≡ replicate k 0 → T ≡ zeros (length T)
-unfolding zeros
-zeros_again T k e = e ∙ ap (λ (n : ℕ). replicate n 0) (sym (ap length e ∙ length-replicate {A = ℕ} k 0))
 
 -- Words that were written to the front of a slice.
 pub written_starts : (ws s s' : List ℕ) → length ws ≤ length s → length s' ≡ length s → s' ≡ ws ++ drop (length ws) s

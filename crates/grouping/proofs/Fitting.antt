@@ -11,7 +11,8 @@ use Rattle.slices.specs.Rows.{rows}
 use Rattle.slices.proofs.Lists.{flat_length}
 use Rattle.semantics.specs.Arithmetic.{prime}
 use Rattle.semantics.specs.Monomial.{Monomial, list_at}
-use Rattle.semantics.specs.Check.{read_sheet}
+use Rattle.semantics.specs.Answer.{good}
+use Rattle.semantics.specs.Check.{read_sheet, check}
 use Rattle.semantics.specs.Group.{Root, Item, items_of, items, Group, groups, headers, variables, terms, layout}
 use Rattle.semantics.specs.Call.{zeros, padded, first_short}
 use Rattle.semantics.specs.Lists.{All}
@@ -24,7 +25,7 @@ use Rattle.semantics.proofs.RecordLists.{lists_ascend}
 use Rattle.records.specs.Access.{records_of}
 use Rattle.records.proofs.Steps.{inside}
 use Rattle.monomial.specs.Words.{Stored}
-use Rattle.std.specs.Prelude.{Option, Some, None, Result, Ok, Err}
+use Rattle.std.specs.Prelude.{Option, Result, Ok, Err}
 use Rattle.grouping.specs.declared.Family.{Family}
 use Rattle.grouping.specs.declared.Family.TheVariants.{Constraints, Counts, Fields}
 use Rattle.grouping.specs.declared.Lengths.{Lengths}
@@ -32,8 +33,11 @@ use Rattle.grouping.specs.declared.Short.{Short}
 use Rattle.grouping.specs.declared.Short.TheVariants.{Headers, Variables, Terms}
 use Rattle.group.specs.declared.place.Form.{Form}
 use Rattle.group.specs.declared.place.Form.TheVariants.{Constraint, Interaction}
-use Rattle.group.specs.Grouped.{Tally, tally_all, tallied_total, tallied, Rows, CountedMore, select, tallied_count, placed, RoomForTerms, column, sum, list_of, InPool, vars_named, term_of}
-use Rattle.group.specs.Grouped.{term_width, Placing, Places, vars_in, tallied_headers}
+use Rattle.group.specs.declared.Groups.{Groups}
+use Rattle.group.specs.Groups.{tallies, Same, Counted}
+use Rattle.group.proofs.Tallying.{moved}
+use Rattle.group.specs.Grouped.{Tally, tally_all, tallied_total, tallied, Rows, select, tallied_count, placed, RoomForTerms, column, sum, list_of, InPool, vars_named, term_of}
+use Rattle.group.specs.Grouped.{term_width, totalled, ToPlace, Placing, Places, vars_in, tallied_headers}
 use Rattle.grouping.specs.Families.{roots_of, nodes_of, ToTally, ToPlaceRoots, Grouping, groups_of, Measured, Front, Laid}
 use Rattle.group.proofs.Gathering.{gathered}
 use Rattle.group.proofs.Tallies.{counted, counted_gathered, gathered_whole, count_all}
@@ -42,7 +46,7 @@ use Rattle.group.proofs.Places.{placed_all}
 use Rattle.group.proofs.Headers.{tallied_length}
 use Rattle.group.proofs.PoolLists.{stored_in}
 use Rattle.group.proofs.Placements.{term_wide}
-use Rattle.grouping.proofs.Finished.{total_is, vars_total, total_nil, family_small}
+use Rattle.grouping.proofs.Finished.{total_is, vars_total, vars_few, total_nil, headers_filled, written_starts, family_small}
 use Rattle.grouping.proofs.RootItems.{items_named}
 use Rattle.monomial.proofs.ListLaws.{stored_list}
 
@@ -93,14 +97,6 @@ module _ (term : Item → List ℕ) (gs : List Group) (a b c : ℕ) where
           ∙ cond_true (leb (length (variables gs)) b) _ 2 (le-leb (length (variables gs)) b k)
           ∙ cond_true (leb (length (terms term gs)) c) _ 3 (le-leb (length (terms term gs)) c l)
 
--- No rows yet.
-rows_none : (H P : List ℕ) → H ≡ zeros (length H) → Rows 0 H P × (tallied 0 H P ≡ [])
-unfolding tallied rows
-rows_none H P e =
-    let z : length H ≡ length H - 4 * 0 = omega arith in
-    let d : 4 * 0 ≡ 0 = omega arith in
-    (record { room = omega arith; inside = tt; ascends = tt; rest = ap (λ (k : ℕ). drop k H) d ∙ e ∙ ap zeros z }, refl)
-
 -- Words in front of a slice, and zeros behind them.
 pub padded_starts : (words slice : List ℕ) → slice ≡ padded words (length slice) → Front words slice
 padded_starts words slice e =
@@ -133,10 +129,10 @@ pub record Started (ws P : List ℕ) (roots : List Root) (b : Form) (n : ℕ) (H
   pub placing : Placing b (tallied n H P) n H₁ P T₁ []
 
 -- Each family of a checked sheet.
-pub known : (f : Family) {ws P : List ℕ} → Grouping ws P (roots_of f (read_sheet ws)) → Known ws P (roots_of f (read_sheet ws))
-known Constraints {ws} g = record { grouping = g; labels = constraint_labels (read_sheet ws); few = omega (arith, constraints_few prime (read_sheet ws) (inside ws g.checked)) }
-known Counts {ws} g = record { grouping = g; labels = count_labels (read_sheet ws); few = omega (arith, counts_few prime (read_sheet ws) (inside ws g.checked)) }
-known Fields {ws} g = record { grouping = g; labels = field_labels (read_sheet ws); few = omega (arith, fields_few prime (read_sheet ws) (inside ws g.checked)) }
+pub known : (f : Family) {ws P : List ℕ} → check prime ws ≡ good (read_sheet ws) → Grouping ws P (roots_of f (read_sheet ws)) → Known ws P (roots_of f (read_sheet ws))
+known Constraints {ws} checked g = record { grouping = g; labels = constraint_labels (read_sheet ws); few = omega (arith, constraints_few prime (read_sheet ws) (inside ws checked)) }
+known Counts {ws} checked g = record { grouping = g; labels = count_labels (read_sheet ws); few = omega (arith, counts_few prime (read_sheet ws) (inside ws checked)) }
+known Fields {ws} checked g = record { grouping = g; labels = field_labels (read_sheet ws); few = omega (arith, fields_few prime (read_sheet ws) (inside ws checked)) }
 
 module _ {ws P : List ℕ} {roots : List Root} (f : Known ws P roots) where
   abbrev list : ℕ → List Monomial
@@ -166,51 +162,55 @@ module _ {ws P : List ℕ} {roots : List Root} (f : Known ws P roots) where
   unfolding nodes_of
   nodes_few = let e = length-map roots (λ (r : Root). r.node) in omega (arith, f.few)
 
-  abbrev tallies : List Tally
-  tallies = tally_all (vars_named P (nodes_of roots)) []
+  abbrev all : List Tally
+  all = tally_all (vars_named P (nodes_of roots)) []
 
   groups_are : groups list roots ≡ gathered (items (list_of P) roots)
   groups_are = groups_gathered list (lists_ascend prime (records_of ws)) roots f.labels ∙ ap gathered agree
 
-  counted_are : map counted (groups list roots) ≡ tallies
+  counted_are : map counted (groups list roots) ≡ all
   counted_are =
       ap (map counted) groups_are ∙ counted_gathered (items (list_of P) roots) ∙ ap (λ (l : List (List ℕ)). tally_all l []) (items_named P roots)
 
-  headers_size : length (headers 0 0 (groups list roots)) ≡ 4 * length tallies
+  headers_size : length (headers 0 0 (groups list roots)) ≡ 4 * length all
   headers_size = headers_length 0 0 (groups list roots) ∙ ap (λ (k : ℕ). 4 * k) (sym (length-map (groups list roots) counted) ∙ ap length counted_are)
 
-  room_is : RoomForTerms tallies (items (list_of P) roots)
+  room_is : RoomForTerms all (items (list_of P) roots)
   room_is v =
       let e = ap (λ (l : List (List ℕ)). tallied_count v (tally_all l [])) (sym (items_named P roots)) ∙ count_all v (items (list_of P) roots) in
       omega arith
 
--- Counting starts with no rows; the references are those of the roots' records.
-module _ {ws P : List ℕ} {roots : List Root} (f : Known ws P roots) {H references : List ℕ} (z : H ≡ zeros (length H)) (e : references ≡ nodes_of roots) where
-  pub fit_start : ToTally 0 H P references
+-- Counting starts with no groups; the references are those of the roots' records.
+module _ {ws : List ℕ} {roots : List Root} (g : Groups) (f : Known ws g.pool.now roots) {references : List ℕ} (z : tallies g ≡ []) (e : references ≡ nodes_of roots) where
+  pub fit_start : ToTally g references
   fit_start =
-      let r = rows_none H P z in
-      let t = ap tallied_total r.1 ∙ total_nil in
+      let t = ap tallied_total z ∙ total_nil in
       let l = ap length e in
       let k = nodes_few f in
-      record { rows_are = r.0; lists = subst (All (InPool P)) (sym e) (named f); small = omega arith }
+      record { lists = subst (All (InPool g.pool.now)) (sym e) (named f); small = omega arith }
 
-  pub fit_counted : (H' : List ℕ) (u : Option ℕ) → CountedMore H' P (tally_all (vars_named P references) (tallied 0 H P)) u
-      → CountedMore H' P (tally_all (vars_named P (nodes_of roots)) []) u
-  fit_counted H' u c = subst (λ (gs : List Tally). CountedMore H' P gs u) (λ i. tally_all (vars_named P (e i)) ((rows_none H P z).1 i)) c
+  pub fit_counted : (h : Groups) (u : Option (Unit {0})) → Counted g h (tally_all (vars_named g.pool.now references) (tallies g)) u
+      → Counted g h (tally_all (vars_named g.pool.now (nodes_of roots)) []) u
+  fit_counted h u c = subst (λ (gs : List Tally). Counted g h gs u) (λ i. tally_all (vars_named g.pool.now (e i)) (z i)) c
 
 -- What counting answers.
-module _ {ws P : List ℕ} {roots : List Root} (f : Known ws P roots) (H : List ℕ) (u : Option ℕ) (c : CountedMore H P (tally_all (vars_named P (nodes_of roots)) []) u) where
-  pub fit_full : u ≡ None → (b : Form) (W T : List ℕ) → Laid (term_of b) (groups_of ws roots) H W T (Err Headers)
-  fit_full e b W T =
-      let d = subst (CountedMore H P (tally_all (vars_named P (nodes_of roots)) [])) e c in
+module _ {ws P : List ℕ} {roots : List Root} (f : Known ws P roots) (g : Groups) (q : g.pool.now ≡ P) where
+  pub fit_full : length g.headers.now < 4 * length (tally_all (vars_named g.pool.now (nodes_of roots)) [])
+      → (b : Form) (H W T : List ℕ) → length H ≡ length g.headers.now → Laid (term_of b) (groups_of ws roots) H W T (Err Headers)
+  fit_full d b H W T l =
       let s = headers_size f in
+      let e = ap (λ (Q : List ℕ). length (tally_all (vars_named Q (nodes_of roots)) [])) q in
       short_one (term_of b) (groups_of ws roots) (length H) (length W) (length T) (omega arith)
 
-  pub fit_rows : {n : ℕ} → u ≡ Some n → Rowed ws P roots n H
-  fit_rows {n} e =
-      let d = subst (CountedMore H P (tally_all (vars_named P (nodes_of roots)) [])) e c in
-      let s = family_small n H P (nodes_of roots) d.1 (named f) (nodes_few f) in
-      record { known = f; rows_are = d.0; tallies_are = d.1; total_small = s.0; rows_few = s.1 }
+  pub fit_rows : (h : Groups) → Same g h × (tallies h ≡ tally_all (vars_named g.pool.now (nodes_of roots)) []) → Rowed ws P roots h.n h.headers.now
+  fit_rows h d =
+      let p = d.0.pool ∙ q in
+      let r = subst (Rows h.n h.headers.now) p h.rows in
+      let t : tallied h.n h.headers.now P ≡ tally_all (vars_named P (nodes_of roots)) [] =
+      subst (λ (Q : List ℕ). tallied h.n h.headers.now Q ≡ tally_all (vars_named Q (nodes_of roots)) []) q
+      (subst (λ (Q : List ℕ). tallied h.n h.headers.now Q ≡ tally_all (vars_named g.pool.now (nodes_of roots)) []) d.0.pool d.1) in
+      let s = family_small h.n h.headers.now P (nodes_of roots) t (named f) (nodes_few f) in
+      record { known = f; rows_are = r; tallies_are = t; total_small = s.0; rows_few = s.1 }
 
 -- A term has at most three words.
 width_few : (b : Form) → term_width b ≤ 3
@@ -219,11 +219,11 @@ width_few Interaction = omega arith
 
 -- The rows are counted.
 module _ {ws P : List ℕ} {roots : List Root} {n : ℕ} {H : List ℕ} (r : Rowed ws P roots n H) where
-  pub fit_room : (b : Form) {w : ℕ} → w ≡ term_width b → (4 * n ≤ length H) × (n ≤ 16777216) × (sum (column 3 n H) ≤ 16777216) × (w ≤ 3)
+  pub fit_room : (b : Form) {w : ℕ} → w ≡ term_width b → (n ≤ 16777216) × (sum (column 3 n H) ≤ 16777216) × (w ≤ 3)
   fit_room b e =
       let t = total_is n H P r.rows_are in
       let s = r.total_small in
-      (r.rows_are.room, r.rows_few, omega arith, omega (arith, width_few b))
+      (r.rows_few, omega arith, omega (arith, width_few b))
 
   sizes : (b : Form)
       → (length (headers 0 0 (groups_of ws roots)) ≡ 4 * n) × (length (variables (groups_of ws roots)) ≡ sum (column 2 n H))
@@ -246,19 +246,19 @@ module _ {ws P : List ℕ} {roots : List Root} {n : ℕ} {H : List ℕ} (r : Row
     fit_fits {c} m = record { rowed = r; measured = subst (λ (w : ℕ). Measures w (Ok c)) q m }
 
     -- Variables or terms have no room.
-    pub fit_short : (k : Short) → Measures w (Err k) → Laid (term_of b) (groups_of ws roots) H W T (Err k)
-    fit_short k m = go k (subst (λ (w : ℕ). Measures w (Err k)) q m)
+    pub fit_short : (H' : List ℕ) → length H' ≡ length H → (k : Short) → Measures w (Err k) → Laid (term_of b) (groups_of ws roots) H' W T (Err k)
+    fit_short H' l k m = go k (subst (λ (w : ℕ). Measures w (Err k)) q m)
       where
-        go : (k : Short) → Measures (term_width b) (Err k) → Laid (term_of b) (groups_of ws roots) H W T (Err k)
+        go : (k : Short) → Measures (term_width b) (Err k) → Laid (term_of b) (groups_of ws roots) H' W T (Err k)
         go Headers m = absurd m
         go Variables m =
             let s = sizes b in
             let o = r.rows_are.room in
-            short_two (term_of b) (groups_of ws roots) (length H) (length W) (length T) (omega (arith, s.0)) (omega (arith, s.1, m))
+            short_two (term_of b) (groups_of ws roots) (length H') (length W) (length T) (omega (arith, s.0)) (omega (arith, s.1, m))
         go Terms m =
             let s = sizes b in
             let o = r.rows_are.room in
-            short_three (term_of b) (groups_of ws roots) (length H) (length W) (length T) (omega (arith, s.0)) (omega (arith, s.1, m.0)) (omega (arith, s.2, m.1))
+            short_three (term_of b) (groups_of ws roots) (length H') (length W) (length T) (omega (arith, s.0)) (omega (arith, s.1, m.0)) (omega (arith, s.2, m.1))
 
 pub fit_terms : {ws P : List ℕ} {roots : List Root} {b : Form} {n : ℕ} {H W T : List ℕ} {c : Lengths} → Fits ws P roots b n H W T c
     → term_width b * tallied_total (tallied n H P) ≤ length T
@@ -273,45 +273,57 @@ module _ {ws P : List ℕ} {roots : List Root} {b : Form} {n : ℕ} {H W T : Lis
   room_now : RoomForTerms (tallied n H P) (items (list_of P) roots)
   room_now = λ v. subst (λ (l : List Tally). length (select v (items (list_of P) roots)) ≤ tallied_count v l) (sym r.tallies_are) (room_is r.known v)
 
-  pub fit_place : ToPlaceRoots b n H₁ P T₁ roots
-  fit_place = record {
-    to_place = record { gs = tallied n H P; done = []; placing = g.placing; room = room_now };
-    lists = in_pool r.known;
+  -- The groups that the terms are placed into are those of the rows.
+  pub fit_place : (h : Groups) → h.n ≡ n → h.pool.now ≡ P → h.headers.now ≡ H₁ → ToPlaceRoots b h T₁ roots
+  fit_place h m p e = record {
+    to_place =
+        subst (λ (l : List ℕ). ToPlace b h.n l h.pool.now T₁ (items (list_of h.pool.now) roots)) (sym e)
+        (moved (λ (k : ℕ) (Q : List ℕ). ToPlace b k H₁ Q T₁ (items (list_of Q) roots)) (sym m) (sym p)
+        (record { gs = tallied n H P; done = []; placing = g.placing; room = room_now }));
+    lists = subst (λ (Q : List ℕ). All (λ (r : Root). InPool Q r.node) roots) (sym p) (in_pool r.known);
   }
 
   module _ (H₂ T₂ : List ℕ) (p : Places b n P H₁ T₁ H₂ T₂ (items (list_of P) roots)) where
     placed_now : Placing b (tallied n H P) n H₂ P T₂ (items (list_of P) roots)
     placed_now = p (tallied n H P) [] g.placing room_now
 
-    pub fit_finish : Rows n H₂ P × (n ≤ 16777216) × (tallied_total (tallied n H₂ P) ≤ 16777216) × (length (vars_in (tallied n H₂ P)) ≤ length W)
-    fit_finish =
-        let t = placed_now.tallies_are in
-        let a = ap tallied_total t in
-        let d = ap (λ (l : List Tally). length (vars_in l)) t in
+    pub fit_variables : length (vars_in (tallied n H₂ P)) ≤ length W
+    fit_variables =
+        let d = ap (λ (l : List Tally). length (vars_in l)) placed_now.tallies_are in
         let v = vars_total n H P r.rows_are in
+        omega (arith, g.fits.measured.3)
+
+    pub fit_offsets : (4 * n ≤ length H₂) × (sum (column 2 n H₂) ≤ 4294967295) × (sum (column 3 n H₂) ≤ 4294967295)
+    fit_offsets =
+        let a = ap tallied_total placed_now.tallies_are in
+        let t = total_is n H₂ P placed_now.rows_are in
         let s = r.total_small in
-        (placed_now.rows_are, r.rows_few, omega arith, omega (arith, g.fits.measured.3))
+        (placed_now.rows_are.room, omega (arith, vars_few n H₂ P placed_now.rows_are, r.rows_few), omega arith)
 
     -- All is written.
-    pub fit_written : (H₃ W₃ : List ℕ) → length H₃ ≡ length H → length W₃ ≡ length W → length T₂ ≡ length T
-        → Front (tallied_headers 0 0 (tallied n H₂ P)) H₃ → Front (vars_in (tallied n H₂ P)) W₃ → Laid (term_of b) (groups_of ws roots) H₃ W₃ T₂ (Ok c)
-    fit_written H₃ W₃ lh lv lt x y =
-        let s = sizes r b in
-        let o = r.rows_are.room in
-        let h = g.fits.measured in
-        let gs : List Group = groups_of ws roots in
-        let t : tallied n H₂ P ≡ map counted gs = placed_now.tallies_are ∙ r.tallies_are ∙ sym (counted_are r.known) in
-        let hs = ap (tallied_headers 0 0) t ∙ headers_are 0 0 gs in
-        let vw = ap vars_in t ∙ vars_are gs in
-        let ts : placed (term_of b) (term_width b) (tallied n H P) (items (list_of P) roots) ≡ terms (term_of b) gs =
-        ap (λ (l : List Tally). placed (term_of b) (term_width b) l (items (list_of P) roots)) (r.tallies_are ∙ sym (counted_are r.known) ∙ ap (map counted) (groups_are r.known))
-        ∙ placed_all (term_of b) (term_width b) (term_wide b) (gathered (items (list_of P) roots)) (items (list_of P) roots) (gathered_whole (items (list_of P) roots))
-        ∙ ap (terms (term_of b)) (sym (groups_are r.known)) in (
-          short_none (term_of b) gs (length H₃) (length W₃) (length T₂) (omega (arith, s.0)) (omega (arith, s.1, h.3)) (omega (arith, s.2, h.4)),
-          subst (λ (w : List ℕ). Front w H₃) hs x,
-          subst (λ (w : List ℕ). Front w W₃) vw y,
-          subst (λ (w : List ℕ). Front w T₂) ts (padded_starts (placed (term_of b) (term_width b) (tallied n H P) (items (list_of P) roots)) T₂ placed_now.terms_are),
-          h.0 ∙ sym s.0,
-          h.1 ∙ sym s.1,
-          h.2 ∙ sym s.2,
-        )
+    module _ (H₃ W₃ : List ℕ) (lh : length H₃ ≡ length H₂) (lw : length W₃ ≡ length W) (lt : length T₂ ≡ length T)
+        (offsets : (rows 4 n H₃ ≡ totalled 1 3 0 (totalled 0 2 0 (rows 4 n H₂))) × (drop (4 * n) H₃ ≡ drop (4 * n) H₂))
+        (written : W₃ ≡ vars_in (tallied n H₂ P) ++ drop (length (vars_in (tallied n H₂ P))) W) where
+      pub fit_written : length H₂ ≡ length H → Laid (term_of b) (groups_of ws roots) H₃ W₃ T₂ (Ok c)
+      fit_written lh₂ =
+          let s = sizes r b in
+          let o = r.rows_are.room in
+          let h = g.fits.measured in
+          let gs : List Group = groups_of ws roots in
+          let x = padded_starts (tallied_headers 0 0 (tallied n H₂ P)) H₃ (headers_filled n H₂ H₃ P placed_now.rows_are offsets.0 offsets.1 lh) in
+          let y = written_starts (vars_in (tallied n H₂ P)) W W₃ fit_variables lw written in
+          let t : tallied n H₂ P ≡ map counted gs = placed_now.tallies_are ∙ r.tallies_are ∙ sym (counted_are r.known) in
+          let hs = ap (tallied_headers 0 0) t ∙ headers_are 0 0 gs in
+          let vw = ap vars_in t ∙ vars_are gs in
+          let ts : placed (term_of b) (term_width b) (tallied n H P) (items (list_of P) roots) ≡ terms (term_of b) gs =
+          ap (λ (l : List Tally). placed (term_of b) (term_width b) l (items (list_of P) roots)) (r.tallies_are ∙ sym (counted_are r.known) ∙ ap (map counted) (groups_are r.known))
+          ∙ placed_all (term_of b) (term_width b) (term_wide b) (gathered (items (list_of P) roots)) (items (list_of P) roots) (gathered_whole (items (list_of P) roots))
+          ∙ ap (terms (term_of b)) (sym (groups_are r.known)) in (
+            short_none (term_of b) gs (length H₃) (length W₃) (length T₂) (omega (arith, s.0)) (omega (arith, s.1, h.3)) (omega (arith, s.2, h.4)),
+            subst (λ (w : List ℕ). Front w H₃) hs x,
+            subst (λ (w : List ℕ). Front w W₃) vw y,
+            subst (λ (w : List ℕ). Front w T₂) ts (padded_starts (placed (term_of b) (term_width b) (tallied n H P) (items (list_of P) roots)) T₂ placed_now.terms_are),
+            h.0 ∙ sym s.0,
+            h.1 ∙ sym s.1,
+            h.2 ∙ sym s.2,
+          )

@@ -1,14 +1,17 @@
 // The families of a checked sheet, grouped: headers, variables and terms, or the first slice that is too short.
 #![tactic(auto)]
 
-ghost use Rattle.std.specs.Prelude.{◌≡◌, ◌*◌, ◌≤◌, length};
+ghost use Rattle.std.specs.Prelude.{◌≡◌, ◌≤◌, length};
 ghost use Rattle.semantics.specs.Check.{read_sheet};
-ghost use Rattle.group.specs.Grouped.{tallied, Rows, column, sum, term_of, term_width, vars_in, tallied_headers};
-ghost use Rattle.grouping.specs.Families.{roots_of, form_of, short_number, FewTerms, StartsPlacing, Measured, Front, Grouping, Laid, groups_of};
+ghost use Rattle.group.specs.Grouped.{column, sum, term_of, term_width};
+ghost use Rattle.group.specs.Groups.{tallies, Same};
+ghost use Rattle.grouping.specs.Families.{roots_of, form_of, short_number, FewTerms, StartsPlacing, Measured, Grouping, Laid, groups_of};
 
 mod families;
 
-use group::{place, totals};
+use group::place::Form;
+use group::{Groups, totals};
+use records::CheckedSheet;
 
 // Which records of a sheet are grouped: its constraints, the counts of its interactions, or their fields.
 #[derive(Clone, Copy, Debug, PartialEq, Eq)]
@@ -19,19 +22,26 @@ pub enum Family {
 }
 
 impl Family {
-    // How many words a term has.
-    fn width(self) -> usize
-        ensures { result ≡ term_width (form_of self) }
+    // The form of its terms.
+    fn form(self) -> Form
+        ensures { result ≡ form_of self }
     {
         match self {
-            Family::Constraints => 2,
-            Family::Counts | Family::Fields => 3,
+            Family::Constraints => Form::Constraint,
+            Family::Counts | Family::Fields => Form::Interaction,
         }
+    }
+
+    // How many words a term has.
+    pub fn width(self) -> usize
+        ensures { result ≡ term_width (form_of self) }
+    {
+        self.form().width()
     }
 }
 
 // How many words each list takes.
-#[derive(Clone, Copy, Debug, PartialEq, Eq)]
+#[derive(Clone, Copy, Debug, Default, PartialEq, Eq)]
 pub struct Lengths {
     pub headers: usize,
     pub variables: usize,
@@ -54,76 +64,61 @@ impl Short {
     }
 }
 
-// Whether variables and terms have room; the headers of n rows stand in their slice.
-fn room_for(
-    headers: &[u32],
-    n: usize,
-    width: usize,
-    variables: usize,
-    terms: usize,
-) -> Result<Lengths, Short>
-    requires { (4 * n ≤ length headers.now) × (n ≤ 16777216) × (sum (column 3 n headers.now) ≤ 16777216) × (width ≤ 3) }
-    ensures { Measured n width
-        (sum (column 2 n headers.now)) (sum (column 3 n headers.now)) variables terms result }
+// Whether variables and terms have room; the headers of the groups stand in their slice.
+fn room_for(groups: &Groups, width: usize, variables: usize, terms: usize) -> Result<Lengths, Short>
+    requires { (groups.now.n ≤ 16777216) × (sum (column 3 groups.now.n groups.now.headers.now) ≤ 16777216) × (width ≤ 3) }
+    ensures { Measured groups.now.n width
+        (sum (column 2 groups.now.n groups.now.headers.now)) (sum (column 3 groups.now.n groups.now.headers.now)) variables terms result }
 {
-    let v = totals::column_total(headers, n, totals::VARIABLES);
+    let v = groups.column_total(totals::VARIABLES);
     if variables < v {
         return Err(Short::Variables);
     }
-    let t = totals::column_total(headers, n, totals::TERMS);
+    let t = groups.column_total(totals::TERMS);
     if terms < width * t {
         return Err(Short::Terms);
     }
     Ok(Lengths {
-        headers: 4 * n,
+        headers: 4 * groups.count(),
         variables: v,
         terms: width * t,
     })
 }
 
-// Makes the slices ready for terms.
-fn start_groups(headers: &mut [u32], n: usize, pool: &[u32], terms: &mut [u32])
-    requires { Rows n headers.old pool.now × FewTerms n headers.old pool.now }
-    ensures { StartsPlacing (tallied n headers.old pool.now) n
-        headers.new pool.now terms.new (length terms.old) }
+// Makes headers and terms ready for terms.
+fn start_groups(groups: &mut Groups, terms: &mut [u32])
+    requires { FewTerms groups.old }
+    ensures { Same groups.old groups.new × (groups.new.n ≡ groups.old.n)
+        × StartsPlacing (tallies groups.old) groups.new terms.new (length terms.old) }
 {
     terms.fill(0);
-    totals::start_terms(headers, n);
-}
-
-// Writes the variables of the rows, and the offsets.
-fn finish_groups(headers: &mut [u32], n: usize, pool: &[u32], variables: &mut [u32])
-    requires { Rows n headers.old pool.now × (n ≤ 16777216) × FewTerms n headers.old pool.now
-        × (length (vars_in (tallied n headers.old pool.now)) ≤ length variables.old) }
-    ensures { Front (tallied_headers 0 0 (tallied n headers.old pool.now)) headers.new
-        × Front (vars_in (tallied n headers.old pool.now)) variables.new }
-{
-    place::write_variables(headers, n, pool, variables);
-    totals::fill_offsets(headers, n);
+    groups.start_terms();
 }
 
 // The lists of a family of a checked sheet.
 pub fn group_family(
-    sheet: &[u32],
+    sheet: CheckedSheet,
     pool: &[u32],
     family: Family,
     headers: &mut [u32],
     variables: &mut [u32],
     terms: &mut [u32],
 ) -> Result<Lengths, Short>
-    requires { Grouping sheet.now pool.now (roots_of family (read_sheet sheet.now)) }
+    requires { Grouping sheet.words.now pool.now (roots_of family (read_sheet sheet.words.now)) }
     ensures { Laid (term_of (form_of family))
-        (groups_of sheet.now (roots_of family (read_sheet sheet.now)))
+        (groups_of sheet.entry.words.now (roots_of family (read_sheet sheet.entry.words.now)))
         headers.new variables.new terms.new result }
 {
-    headers.fill(0);
-    let counted = families::tally_family(sheet, family, headers, pool);
-    let Some(n) = counted else {
+    let mut groups = Groups::new(headers, pool);
+    let counted = families::tally_family(sheet, family, &mut groups);
+    let Some(()) = counted else {
         return Err(Short::Headers);
     };
-    let lengths = room_for(headers, n, family.width(), variables.len(), terms.len())?;
-    start_groups(headers, n, pool, terms);
-    families::place_family(sheet, family, headers, n, pool, terms);
-    finish_groups(headers, n, pool, variables);
+    let lengths = room_for(&groups, family.width(), variables.len(), terms.len())?;
+    start_groups(&mut groups, terms);
+    families::place_family(sheet, family, &mut groups, terms);
+    groups.write_variables(variables);
+    let n = groups.count();
+    totals::fill_offsets(headers, n);
     Ok(lengths)
 }

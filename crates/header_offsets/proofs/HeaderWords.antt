@@ -8,7 +8,7 @@ use lib.ListN.{length, get_or, set, take, drop, replicate, length-append, length
 use lib.Seq.{take-suc, get_or-drop, get_or-take, length-take-le, take_all, set_at}
 use Rattle.slices.specs.Putting.{put}
 use Rattle.slices.specs.Rows.{rows}
-use Rattle.slices.proofs.Puts.{put_none, put_behind, stores_put}
+use Rattle.slices.proofs.Puts.{put_none, put_behind}
 use Rattle.slices.proofs.Rows.{rows_length, rows_split}
 use Rattle.header_offsets.specs.declared.MonomialHeader.{MonomialHeader}
 use Rattle.header_offsets.specs.Headers.{no_header, header_in, headers_in, header_words}
@@ -24,12 +24,6 @@ header_read ws at =
     λ i. record { var_offset = a i; term_offset = sym (get_or-drop at ws 1 0) i; num_vars = sym (get_or-drop at ws 2 0) i; num_terms = sym (get_or-drop at ws 3 0) i }
 
 -- The words of a header stored.
-pub header_stored : (ws : List ℕ) (at : ℕ) (h : MonomialHeader) → at + 4 ≤ length ws
-    → set (set (set (set ws at h.var_offset) (at + 1) h.term_offset) (at + 2) h.num_vars) (at + 3) h.num_terms
-    ≡ take at ws ++ (header_words (h ∷ []) ++ drop (at + 4) ws)
-unfolding header_words
-header_stored ws at h l = stores_put ws at h.var_offset (h.term_offset ∷ h.num_vars ∷ h.num_terms ∷ []) l
-
 -- Headers are rows of four words.
 in_row : (ws : List ℕ) → header_in (take 4 ws) ≡ header_in ws
 unfolding header_in

@@ -2,3 +2,4 @@ pub mod Offsets
 pub mod Filling
 pub mod HeaderWords
 pub mod Chunks
+pub mod Written

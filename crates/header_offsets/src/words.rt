@@ -21,10 +21,12 @@ fn put_header(words: &mut [u32], at: usize, header: MonomialHeader)
     requires { at + 4 ≤ length words.old }
     ensures { words.new ≡ take at words.old ++ (header_words (header ∷ []) ++ drop (at + 4) words.old) }
 {
-    words[at] = header.var_offset;
-    words[at + 1] = header.term_offset;
-    words[at + 2] = header.num_vars;
-    words[at + 3] = header.num_terms;
+    words[at..at + 4].copy_from_slice(&[
+        header.var_offset,
+        header.term_offset,
+        header.num_vars,
+        header.num_terms,
+    ]);
 }
 
 // The k headers whose words stand from `at` on, and headers of four zeros.

@@ -1,23 +1,26 @@
 // The lists of a checked sheet's interactions, and the two numbers.
 #![tactic(auto)]
 
-ghost use Rattle.std.specs.Prelude.{◌≡◌, [], ◌∷◌, ◌++◌, ◌*◌, ◌≤◌, length};
+ghost use Rattle.std.specs.Prelude.{ℕ, ◌≡◌, [], ◌*◌, ◌≤◌, length};
 ghost use Rattle.semantics.specs.Check.{read_sheet};
 ghost use Rattle.semantics.specs.Walk.{order};
 ghost use Rattle.semantics.specs.Group.{count_roots, field_roots};
-ghost use Rattle.semantics.specs.Call.{interactions_of};
-ghost use Rattle.records.specs.Access.{IsSheet, counts_of, fields_of, records_of, AllRootsInside};
+ghost use Rattle.semantics.specs.Call.{max_fields_len_of, interactions_of};
+ghost use Rattle.records.specs.Access.{records_of};
 ghost use Rattle.expand.specs.Walking.{Expands};
 ghost use Rattle.grouping.specs.Families.{Grouping};
-ghost use Rattle.constraint_lists.specs.Lists.{on_read};
-ghost use Rattle.interaction_lists.specs.Lists.{longest_from, InteractionsAre, interactions_fitted};
+ghost use Rattle.constraint_lists.specs.Lists.{SameScratch, scratch_lengths, on_read};
+ghost use Rattle.interaction_lists.specs.Lists.{InteractionsAre, interactions_fitted, counts_then_fields};
 
-use answers::{Reason, Refusal};
+use answers::Refusal;
+use constraint_lists::{Outputs, Scratch};
+use expand::Walk;
 use grouping::{Family, Lengths};
-use records::Part;
+use records::CheckedSheet;
+use records::interactions::Part;
 
 // How many words each list of the interactions takes, and the two numbers.
-#[derive(Clone, Copy, Debug, PartialEq, Eq)]
+#[derive(Clone, Copy, Debug, Default, PartialEq, Eq)]
 pub struct InteractionLengths {
     pub numerators: Lengths,
     pub denominators: Lengths,
@@ -26,80 +29,57 @@ pub struct InteractionLengths {
 }
 
 // Expands the counts of all interactions of a checked sheet, then all fields.
-fn walk_interactions(
-    s: &[u32],
-    records: usize,
-    work: &mut [u32],
-    pool: &mut [u32],
-) -> Result<usize, Refusal>
-    requires { IsSheet s.now × (records ≡ length (records_of s.now)) × (4096 ≤ length work.old) × (2 * records ≤ length pool.old) }
-    ensures { Expands s.now pool.new result
-        (order (records_of s.now)
-        (counts_of (read_sheet s.now).interactions ++ fields_of (read_sheet s.now).interactions)) }
+fn walk_interactions(sheet: CheckedSheet, work: &mut [u32], pool: &mut [u32]) -> Result<(), Refusal>
+    requires { (4096 ≤ length work.old) × (2 * length (records_of sheet.words.now) ≤ length pool.old) }
+    ensures { (used : ℕ) × Expands sheet.entry.words.now pool.new used result
+        (order (records_of sheet.entry.words.now) (counts_then_fields (read_sheet sheet.entry.words.now).interactions)) }
 {
+    let records = sheet.num_records();
     let heads = 2 * records;
-    pool[..heads].fill(0);
-    let at = records::interactions_at(s);
-    let interactions = records::num_interactions(s);
-    let counted = expand::expand_part(s, at, interactions, Part::Count, work, pool, heads);
-    let Ok(used) = counted else {
+    constraint_lists::clear_heads(pool, records);
+    let mut walk = Walk::new(sheet, work, pool, heads);
+    let counted = walk.expand_part(Part::Count);
+    let Ok(()) = counted else {
         return counted;
     };
-    expand::expand_part(s, at, interactions, Part::Fields, work, pool, used)
+    walk.expand_part(Part::Fields)
 }
 
-// The largest message length of the interactions from `at` on.
-fn max_fields_len(s: &[u32], at: usize, interactions: usize) -> usize
-    requires { AllRootsInside s.now at interactions }
-    ensures { result ≡ longest_from s.now at interactions }
+// The largest message length of the interactions.
+fn max_fields_len(sheet: CheckedSheet) -> usize
+    ensures { result ≡ max_fields_len_of (read_sheet sheet.entry.words.now) }
 {
-    let mut most = 0;
-    let mut from = at;
-    for _i in 0..interactions {
-        let x = records::interaction_at(s, from);
-        most = most.max(x.message);
-        from = x.next;
+    let mut most: usize = 0;
+    for x in sheet.interactions() {
+        most = most.max(x.message_length());
     }
     most
 }
 
 // Groups the counts and the fields of a checked sheet's interactions.
 fn group_interactions(
-    s: &[u32],
+    sheet: CheckedSheet,
     pool: &[u32],
-    headers: &mut [u32],
-    variables: &mut [u32],
-    terms: &mut [u32],
-    denom_headers: &mut [u32],
-    denom_variables: &mut [u32],
-    denom_terms: &mut [u32],
+    numerators: &mut Outputs,
+    denominators: &mut Outputs,
 ) -> Result<InteractionLengths, Refusal>
-    requires { Grouping s.now pool.now (count_roots (read_sheet s.now))
-        × Grouping s.now pool.now (field_roots (read_sheet s.now)) }
-    ensures { InteractionsAre 0 result
-        (headers ∷ variables ∷ terms ∷ denom_headers ∷ denom_variables ∷ denom_terms ∷ [])
-        (on_read s.now interactions_fitted) }
+    requires { Grouping sheet.words.now pool.now (count_roots (read_sheet sheet.words.now))
+        × Grouping sheet.words.now pool.now (field_roots (read_sheet sheet.words.now)) }
+    ensures { InteractionsAre [] numerators denominators result (on_read sheet.entry.words.now interactions_fitted) }
 {
-    let counted = grouping::group_family(s, pool, Family::Counts, headers, variables, terms);
-    let Ok(numerators) = counted else {
-        return Err(constraint_lists::too_short(counted.unwrap_err(), 0));
+    let counted = numerators.group(sheet, pool, Family::Counts, 0);
+    let Ok(counts) = counted else {
+        return Err(counted.unwrap_err());
     };
-    let listed = grouping::group_family(
-        s,
-        pool,
-        Family::Fields,
-        denom_headers,
-        denom_variables,
-        denom_terms,
-    );
-    let Ok(denominators) = listed else {
-        return Err(constraint_lists::too_short(listed.unwrap_err(), 3));
+    let listed = denominators.group(sheet, pool, Family::Fields, 3);
+    let Ok(fields) = listed else {
+        return Err(listed.unwrap_err());
     };
-    let interactions = records::num_interactions(s);
-    let longest = max_fields_len(s, records::interactions_at(s), interactions);
+    let interactions = sheet.num_interactions();
+    let longest = max_fields_len(sheet);
     Ok(InteractionLengths {
-        numerators,
-        denominators,
+        numerators: counts,
+        denominators: fields,
         num_interactions: interactions,
         max_fields_len: longest,
     })
@@ -107,46 +87,22 @@ fn group_interactions(
 
 // The lists of a checked sheet's interactions: counts in the numerators, fields in the denominators.
 pub fn expand_checked(
-    s: &[u32],
-    records: usize,
-    work: &mut [u32],
-    pool: &mut [u32],
-    headers: &mut [u32],
-    variables: &mut [u32],
-    terms: &mut [u32],
-    denom_headers: &mut [u32],
-    denom_variables: &mut [u32],
-    denom_terms: &mut [u32],
+    sheet: CheckedSheet,
+    scratch: &mut Scratch,
+    numerators: &mut Outputs,
+    denominators: &mut Outputs,
 ) -> Result<InteractionLengths, Refusal>
-    requires { IsSheet s.now × (records ≡ length (records_of s.now)) }
-    ensures { InteractionsAre 2 result
-        (work ∷ pool ∷ headers ∷ variables ∷ terms ∷ denom_headers ∷ denom_variables ∷ denom_terms ∷ [])
-        (on_read s.now interactions_of) }
+    ensures same { SameScratch scratch.old scratch.new }
+    ensures lists { InteractionsAre (scratch_lengths scratch.old) numerators denominators result
+        (on_read sheet.entry.words.now interactions_of) }
 {
-    if work.len() < 4096 {
-        return Err(Refusal {
-            reason: Reason::ScratchTooShort,
-            place: 4096,
-        });
-    }
-    if pool.len() < 2 * records {
-        return Err(Refusal {
-            reason: Reason::ScratchTooShort,
-            place: 2 * records,
-        });
-    }
-    let walked = walk_interactions(s, records, work, pool);
-    let Ok(_used) = walked else {
+    let checked = scratch.check(sheet);
+    let Ok(_) = checked else {
+        return Err(checked.unwrap_err());
+    };
+    let walked = walk_interactions(sheet, scratch.work, scratch.pool);
+    let Ok(()) = walked else {
         return Err(walked.unwrap_err());
     };
-    group_interactions(
-        s,
-        pool,
-        headers,
-        variables,
-        terms,
-        denom_headers,
-        denom_variables,
-        denom_terms,
-    )
+    group_interactions(sheet, scratch.pool, numerators, denominators)
 }

@@ -18,8 +18,8 @@ use Rattle.semantics.specs.Call.{constraint_outputs, constraint_call, interactio
 use Rattle.semantics.proofs.Basics.{by_test}
 use Rattle.semantics.proofs.Demands.{Expanded, expanded}
 use Rattle.semantics.proofs.Grouping.{constraint_wide, interaction_wide}
-use Rattle.listing.specs.declared.headers.Family.{Family}
-use Rattle.listing.specs.declared.headers.Family.TheVariants.{Constraints, Numerators, Denominators}
+use Rattle.grouping.specs.declared.Family.{Family}
+use Rattle.grouping.specs.declared.Family.TheVariants.{Constraints, Counts, Fields}
 use Rattle.listing.specs.Families.{width_of, family_lines, HeadersInside}
 use Rattle.listing.proofs.Layouts.{most_of, layout_inside, family_most}
 
@@ -104,7 +104,7 @@ module _ (p : ℕ) (ws : List ℕ) (work pool : ℕ) where
         handed Constraints constraint_term constraint_wide (groups (list_at p x.sheet.records) (constraint_roots x.sheet)) _ _ _ h v t
         (x.words 0) (x.words 1) (x.words 2) (omega (arith, fits 0 (omega arith))) (fits 1 (omega arith)) (omega (arith, fits 2 (omega arith)))
 
-  -- Numerators and denominators, for slices of at most 4 h, v and 3 t words each.
+  -- Counts and denominators, for slices of at most 4 h, v and 3 t words each.
   module _ (hs-lent v ts-lent h t : ℕ) (few : hs-lent ≤ 4 * h) (less : ts-lent ≤ 3 * t)
       (a : Accepted (interaction_call p ws (work ∷ pool ∷ hs-lent ∷ v ∷ ts-lent ∷ hs-lent ∷ v ∷ ts-lent ∷ []))) where
     abbrev call : Outcome
@@ -131,14 +131,14 @@ module _ (p : ℕ) (ws : List ℕ) (work pool : ℕ) where
     unfolding interaction_call told
     told_fits j l = output_fits p ws work pool lent all_roots (interaction_outputs p) interaction_numbers enough a j (omega (arith, six told.sheet))
 
-    pub numerators_handed : Handed Numerators (handed_back 2 call 0) (handed_back 2 call 1) (handed_back 2 call 2) h v t
+    pub numerators_handed : Handed Counts (handed_back 2 call 0) (handed_back 2 call 1) (handed_back 2 call 2) h v t
     unfolding interaction_outputs family layout
     numerators_handed =
-        handed Numerators interaction_term interaction_wide (groups (list_at p told.sheet.records) (count_roots told.sheet)) _ _ _ h v t
+        handed Counts interaction_term interaction_wide (groups (list_at p told.sheet.records) (count_roots told.sheet)) _ _ _ h v t
         (told.words 0) (told.words 1) (told.words 2) (omega (arith, told_fits 0 (omega arith))) (told_fits 1 (omega arith)) (omega (arith, told_fits 2 (omega arith)))
 
-    pub denominators_handed : Handed Denominators (handed_back 2 call 3) (handed_back 2 call 4) (handed_back 2 call 5) h v t
+    pub denominators_handed : Handed Fields (handed_back 2 call 3) (handed_back 2 call 4) (handed_back 2 call 5) h v t
     unfolding interaction_outputs family layout
     denominators_handed =
-        handed Denominators interaction_term interaction_wide (groups (list_at p told.sheet.records) (field_roots told.sheet)) _ _ _ h v t
+        handed Fields interaction_term interaction_wide (groups (list_at p told.sheet.records) (field_roots told.sheet)) _ _ _ h v t
         (told.words 3) (told.words 4) (told.words 5) (omega (arith, told_fits 3 (omega arith))) (told_fits 4 (omega arith)) (omega (arith, told_fits 5 (omega arith)))

@@ -10,15 +10,15 @@ use Rattle.slices.specs.Rows.{rows}
 use Rattle.slices.proofs.Rows.{rows_front}
 use Rattle.semantics.specs.Group.{listed_at, listed}
 use Rattle.semantics.specs.Sheetlist.{header_lines}
-use Rattle.listing.specs.declared.headers.Family.{Family}
-use Rattle.listing.specs.declared.headers.Family.TheVariants.{Constraints, Numerators, Denominators}
+use Rattle.grouping.specs.declared.Family.{Family}
+use Rattle.grouping.specs.declared.Family.TheVariants.{Constraints, Counts, Fields}
 use Rattle.listing.specs.Families.{letter_of, width_of, line_of, term_lines, header_line, header_text, header_of, family_lines, HeaderInside, HeadersInside}
 use Rattle.listing.proofs.Rows.{row_lines}
 
 pub some_words : (family : Family) → 0 < width_of family
 some_words Constraints = omega arith
-some_words Numerators = omega arith
-some_words Denominators = omega arith
+some_words Counts = omega arith
+some_words Fields = omega arith
 
 -- The lines of the first m terms.
 terms_front : (family : Family) (m : ℕ) (ws : List ℕ) → width_of family * m ≤ length ws

@@ -11,8 +11,8 @@ use Rattle.semantics.specs.Arithmetic.{prime}
 use Rattle.semantics.specs.Group.{Item, Group, headers, variables, terms, listed}
 use Rattle.semantics.specs.Sheetlist.{header_lines}
 use Rattle.semantics.proofs.Grouping.{shown, listed_layout, headers_length}
-use Rattle.listing.specs.declared.headers.Family.{Family}
-use Rattle.listing.specs.declared.headers.Family.TheVariants.{Constraints, Numerators, Denominators}
+use Rattle.grouping.specs.declared.Family.{Family}
+use Rattle.grouping.specs.declared.Family.TheVariants.{Constraints, Counts, Fields}
 use Rattle.listing.specs.Families.{letter_of, width_of, line_of, header_line, family_lines, HeadersInside}
 use Rattle.listing.proofs.Heads.{some_words}
 use Rattle.listing.proofs.Lengths.{header_length, t_most, u_most, w_most}
@@ -96,13 +96,13 @@ module _ (term : Item → List ℕ) (width : ℕ) (wide : (t : Item) → length 
 -- The bytes of a family's term at most, and of its lists.
 abbrev pub most_of : Family → ℕ
 most_of Constraints = 25
-most_of Numerators = 25
-most_of Denominators = 36
+most_of Counts = 25
+most_of Fields = 36
 
 line_most : (family : Family) (t : List ℕ) → length (line_of family t) ≤ most_of family
 line_most Constraints t = t_most prime t
-line_most Numerators t = u_most prime t
-line_most Denominators t = w_most prime t
+line_most Counts t = u_most prime t
+line_most Fields t = w_most prime t
 
 pub family_most : (family : Family) (term : Item → List ℕ) → ((t : Item) → length (term t) ≡ width_of family) → (gs : List Group) (h v t : ℕ)
     → length (headers 0 0 gs) ≤ 4 * h → length (variables gs) ≤ v → length (terms term gs) ≤ width_of family * t

@@ -7,7 +7,7 @@ use borrow.Author.Tests.{eq-eqb, ne_eqb}
 use Rattle.semantics.specs.Arithmetic.{prime}
 use Rattle.semantics.specs.Call.{Outcome, Accepted, handed_back, builder_call, max_rotation_call, constraint_call, interaction_call}
 use Rattle.semantics.specs.Sheetlist.{decimal, line, dag_text, end_text, refused_text, step, interaction_lines, constraint_lines, graph_lines, sheet_lines, constraint_step, interaction_step}
-use Rattle.listing.specs.declared.headers.Family.TheVariants.{Constraints, Numerators, Denominators}
+use Rattle.grouping.specs.declared.Family.TheVariants.{Constraints, Counts, Fields}
 use Rattle.listing.specs.Families.{family_lines}
 
 -- An accepted step goes on, and a refused one ends the output.
@@ -34,8 +34,8 @@ abbrev pub expands_interactions : (graph : List ℕ) → Outcome
 expands_interactions graph = interaction_call prime graph (4096 ∷ 4096 ∷ 512 ∷ 512 ∷ 512 ∷ 512 ∷ 512 ∷ 512 ∷ [])
 
 -- What each prints.
-pub interaction_prints : (o : Outcome) → family_lines Numerators (handed_back 2 o 0) (handed_back 2 o 1) (handed_back 2 o 2)
-    ++ (family_lines Denominators (handed_back 2 o 3) (handed_back 2 o 4) (handed_back 2 o 5) ++ line (end_text ∷ []))
+pub interaction_prints : (o : Outcome) → family_lines Counts (handed_back 2 o 0) (handed_back 2 o 1) (handed_back 2 o 2)
+    ++ (family_lines Fields (handed_back 2 o 3) (handed_back 2 o 4) (handed_back 2 o 5) ++ line (end_text ∷ []))
     ≡ interaction_lines prime o
 unfolding interaction_lines
 interaction_prints o = refl

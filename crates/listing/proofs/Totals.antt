@@ -9,7 +9,7 @@ use Rattle.semantics.specs.Arithmetic.{prime}
 use Rattle.semantics.specs.Call.{Outcome, Accepted, handed_back, reader_call}
 use Rattle.semantics.specs.Sheetlist.{line, dag_text, end_text, read_text, cons_text, inter_text, step, interaction_lines, constraint_lines, graph_lines, sheet_lines, sheetlist, constraint_step}
 use Rattle.semantics.proofs.Basics.{by_test}
-use Rattle.listing.specs.declared.headers.Family.TheVariants.{Constraints, Numerators, Denominators}
+use Rattle.grouping.specs.declared.Family.TheVariants.{Constraints, Counts, Fields}
 use Rattle.listing.specs.Families.{family_lines}
 use Rattle.listing.proofs.Lengths.{dag_most, refused_most, end_length}
 use Rattle.listing.proofs.Steps.{builds, rotates, expands_constraints, expands_interactions, dag_line}
@@ -26,8 +26,8 @@ interactions_most : (graph : List ℕ) → Accepted (expands_interactions graph)
 unfolding interaction_lines
 interactions_most graph a =
     let i = expands_interactions graph in
-    let n : List ℕ = family_lines Numerators (handed_back 2 i 0) (handed_back 2 i 1) (handed_back 2 i 2) in
-    let d : List ℕ = family_lines Denominators (handed_back 2 i 3) (handed_back 2 i 4) (handed_back 2 i 5) in
+    let n : List ℕ = family_lines Counts (handed_back 2 i 0) (handed_back 2 i 1) (handed_back 2 i 2) in
+    let d : List ℕ = family_lines Fields (handed_back 2 i 3) (handed_back 2 i 4) (handed_back 2 i 5) in
     omega (
       arith,
       length-append n (d ++ line (end_text ∷ [])),

@@ -1,29 +1,29 @@
--- The three families of lists: constraints, numerators, denominators (01, "Checked examples").
+-- The three families of lists: of constraints, of counts (numerators), of fields (denominators) (01, "Checked examples").
 use mathlib.Core.List.{List, [], ◌∷◌, ◌++◌, map, flat_map}
 use Rattle.std.specs.Prelude.{ℕ, ◌+◌, ◌*◌, ◌/◌, ◌≤◌, ◌<◌, length, get_or, take, drop}
 use Rattle.semantics.specs.Arithmetic.{prime}
 use Rattle.semantics.specs.Group.{Listed, listed_at, listed}
 use Rattle.semantics.specs.Sheetlist.{decimal, hex_digits, signed, line, t_line, u_line, w_line, header_lines}
 use Rattle.slices.specs.Rows.{rows}
-use Rattle.listing.specs.declared.headers.Family.{Family}
-use Rattle.listing.specs.declared.headers.Family.TheVariants.{Constraints, Numerators, Denominators}
+use Rattle.group.specs.Grouped.{term_width}
+use Rattle.grouping.specs.declared.Family.{Family}
+use Rattle.grouping.specs.declared.Family.TheVariants.{Constraints, Counts, Fields}
+use Rattle.grouping.specs.Families.{form_of}
 
 -- "`m`, `n`, `d`": the letter of a header.
 abbrev pub letter_of : Family → ℕ
 letter_of Constraints = 109
-letter_of Numerators = 110
-letter_of Denominators = 100
+letter_of Counts = 110
+letter_of Fields = 100
 
 -- A term's number of words, and its line.
 abbrev pub width_of : Family → ℕ
-width_of Constraints = 2
-width_of Numerators = 3
-width_of Denominators = 3
+width_of family = term_width (form_of family)
 
 abbrev pub line_of : Family → List ℕ → List ℕ
 line_of Constraints = t_line prime
-line_of Numerators = u_line prime
-line_of Denominators = w_line prime
+line_of Counts = u_line prime
+line_of Fields = w_line prime
 
 -- The line of a letter, numbers and a coefficient.
 abbrev pub term_line : (letter : ℕ) → List ℕ → (coefficient : ℕ) → List ℕ

@@ -4,82 +4,72 @@ ghost use Rattle.listing.specs.Putting.{Room, Writes};
 ghost use Rattle.listing.specs.Families.{letter_of, width_of, term_lines, header_line, header_of, family_lines, HeaderInside, HeadersInside};
 
 use crate::output::Out;
-use crate::terms::put_term;
+use grouping::Family;
 
-// The three families of lists.
+// The letter of a family's headers.
+fn letter(family: Family) -> u8
+    ensures { result ≡ letter_of family }
+{
+    match family {
+        Family::Constraints => b'm',
+        Family::Counts => b'n',
+        Family::Fields => b'd',
+    }
+}
+
+// The three lists of a family, as words.
 #[derive(Clone, Copy)]
-pub enum Family {
-    Constraints,
-    Numerators,
-    Denominators,
+pub struct Lists<'a> {
+    pub headers: &'a [u32],
+    pub variables: &'a [u32],
+    pub terms: &'a [u32],
 }
 
-impl Family {
-    // The letter of a family's headers.
-    fn letter(self) -> u8
-        ensures { result ≡ letter_of self }
+impl<'a> Out<'a> {
+    // The lines of terms, from their words.
+    fn put_terms(&mut self, family: Family, terms: &[u32])
+        requires { Room self.old (term_lines family terms.now) }
+        ensures { Writes self.old (term_lines family terms.now) self.new }
     {
-        match self {
-            Family::Constraints => b'm',
-            Family::Numerators => b'n',
-            Family::Denominators => b'd',
+        for term in terms.chunks_exact(family.width()) {
+            self.put_term(family, term);
         }
     }
 
-    // How many words a family's terms have.
-    fn width(self) -> usize
-        ensures { result ≡ width_of self }
+    // A header's line: its letter and its variables.
+    fn put_header_line(&mut self, letter: u8, variables: &[u32])
+        requires { Room self.old (header_line letter variables.now) }
+        ensures { Writes self.old (header_line letter variables.now) self.new }
     {
-        match self {
-            Family::Constraints => 2,
-            Family::Numerators => 3,
-            Family::Denominators => 3,
+        self.put_byte(letter);
+        self.put_variables(variables);
+        self.put_byte(b'\n')
+    }
+
+    // A header of four words, with its variables and its terms of the lists.
+    fn put_header(&mut self, family: Family, header: &[u32], lists: Lists)
+        requires { (length header.now ≡ 4) × HeaderInside (width_of family) header.now lists.variables.now lists.terms.now
+            × Room self.old (header_of family lists.variables.now lists.terms.now header.now) }
+        ensures { Writes self.old (header_of family lists.entry.variables.now lists.entry.terms.now header.now) self.new }
+    {
+        let step = family.width();
+        let vars = header[0] as usize;
+        let first = step * header[1] as usize;
+        let num_vars = header[2] as usize;
+        let num_words = step * header[3] as usize;
+        self.put_header_line(letter(family), &lists.variables[vars..vars + num_vars]);
+        self.put_terms(family, &lists.terms[first..first + num_words])
+    }
+
+    // All headers of a family.
+    pub fn put_headers(&mut self, family: Family, lists: Lists)
+        requires { HeadersInside (width_of family) lists.headers.now lists.variables.now lists.terms.now
+            × Room self.old (family_lines family lists.headers.now lists.variables.now lists.terms.now) }
+        ensures { Writes self.old
+            (family_lines family lists.entry.headers.now lists.entry.variables.now lists.entry.terms.now) self.new }
+    {
+        for header in lists.headers.chunks_exact(4) {
+            self.put_header(family, header, lists);
         }
-    }
-}
-
-// The lines of terms, from their words.
-fn put_terms(out: &mut Out, family: Family, terms: &[u32])
-    requires { Room out.old (term_lines family terms.now) }
-    ensures { Writes out.old (term_lines family terms.now) out.new }
-{
-    for term in terms.chunks_exact(family.width()) {
-        put_term(out, family, term);
-    }
-}
-
-// A header's line: its letter and its variables.
-fn put_header_line(out: &mut Out, letter: u8, variables: &[u32])
-    requires { Room out.old (header_line letter variables.now) }
-    ensures { Writes out.old (header_line letter variables.now) out.new }
-{
-    out.put_byte(letter);
-    out.put_variables(variables);
-    out.put_byte(b'\n')
-}
-
-// A header of four words, with its terms.
-fn put_header(out: &mut Out, family: Family, header: &[u32], variables: &[u32], terms: &[u32])
-    requires { (length header.now ≡ 4) × HeaderInside (width_of family) header.now variables.now terms.now
-        × Room out.old (header_of family variables.now terms.now header.now) }
-    ensures { Writes out.old (header_of family variables.now terms.now header.now) out.new }
-{
-    let step = family.width();
-    let vars = header[0] as usize;
-    let first = step * header[1] as usize;
-    let num_vars = header[2] as usize;
-    let num_words = step * header[3] as usize;
-    put_header_line(out, family.letter(), &variables[vars..vars + num_vars]);
-    put_terms(out, family, &terms[first..first + num_words])
-}
-
-// All headers of a family, from its three lists of words.
-pub fn put_headers(out: &mut Out, family: Family, headers: &[u32], variables: &[u32], terms: &[u32])
-    requires { HeadersInside (width_of family) headers.now variables.now terms.now
-        × Room out.old (family_lines family headers.now variables.now terms.now) }
-    ensures { Writes out.old (family_lines family headers.now variables.now terms.now) out.new }
-{
-    for header in headers.chunks_exact(4) {
-        put_header(out, family, header, variables, terms);
     }
 }

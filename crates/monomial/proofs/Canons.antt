@@ -136,14 +136,6 @@ pub fits_plus : (m x : Monomial) → Fits m → Fits x → Fits (plus prime m x)
 unfolding plus
 fits_plus m x h k = record { few = k.few; sorted = k.sorted; small = add_m_lt prime prime_big m.coef x.coef }
 
-pub fits_insert : (m : Monomial) (xs : List Monomial) → Fits m → All Fits xs → All Fits (insert_monomial prime m xs)
-fits_insert = all_insert prime Fits fits_plus
-
-pub fits_sum : (ms acc : List Monomial) → All Fits ms → All Fits acc → All Fits (insert_all ms acc)
-unfolding insert_all
-fits_sum [] acc h k = k
-fits_sum (m ∷ ms) acc h k = fits_sum ms (insert_monomial prime m acc) h.1 (fits_insert m acc h.0 k)
-
 pub asc_sum : (ms acc : List Monomial) → Asc acc → Asc (insert_all ms acc)
 unfolding insert_all
 asc_sum [] acc k = k

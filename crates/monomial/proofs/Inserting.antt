@@ -6,19 +6,23 @@ use Prim.Native.Nat.{ℕ, zero, suc, ◌+◌, ◌*◌, ◌-◌, ◌≤◌, ◌<�
 use native.Mathlib.Numerals.{add-one}
 use native.Mathlib.Omega.{arith}
 use lib.Dec.{eqb}
-use lib.ListN.{length, get_or, take, drop, set, length-drop}
-use lib.Seq.{take-take, take-append-le, drop_at, get_or-take, get_or-drop, length-take-le, set_split}
+use lib.ListN.{length, get_or, take, drop, set, length-append, length-drop, take-append-drop}
+use lib.Seq.{take-take, take-append-le, drop_at, length-take-le, set_split}
 use borrow.Author.Tests.{eq-eqb, ne_eqb}
 use Rattle.slices.specs.Rows.{rows}
 use Rattle.slices.proofs.Lists.{map_set, map_take, map_drop, map_insert}
 use Rattle.slices.proofs.Rows.{rows_at, rows_set, rows_insert, rows_remove}
-use Rattle.semantics.specs.Arithmetic.{add_m}
+use Rattle.semantics.specs.Arithmetic.{prime, add_m}
 use Rattle.semantics.specs.Monomial.{Asc, Monomial, before_vars, keep, plus, insert_monomial}
-use Rattle.semantics.proofs.Basics.{cond_true, cond_false}
+use Rattle.semantics.proofs.Basics.{cond_true, cond_false, by_test}
 use Rattle.semantics.proofs.Order.{before_vars_irrefl, before_vars_asym}
-use Rattle.monomial.specs.Words.{read_monomial, held}
+use Rattle.semantics.specs.Lists.{All}
+use Rattle.semantics.proofs.Lists.{all_front, all_drop}
+use Rattle.semantics.proofs.Sorting.{all_append, all_within}
+use Rattle.monomial.specs.Words.{read_monomial, held, Fits}
 use Rattle.monomial.specs.Places.{one, vars_at, FirstBefore, RestAfter}
 use Rattle.monomial.proofs.Rows.{held_length, held_at}
+use Rattle.monomial.proofs.Canons.{fits_plus}
 use Rattle.monomial.proofs.Searches.{ascending}
 
 module _ (p : ℕ) (m : Monomial) where
@@ -80,12 +84,23 @@ read_coef (x ∷ y ∷ t) v h = refl
 
 module _ (ws : List ℕ) (k count : ℕ) (l : 16 * count ≤ length ws) where
   -- A monomial put in front of slot k.
-  pub held_put : k ≤ count → (n c : ℕ) (vs us ts : List ℕ) → 16 * count + 16 ≤ length ws → length vs ≡ 14
+  pub held_put : k ≤ count → (n c : ℕ) (vs us ts : List ℕ) → 16 * count + 16 ≤ length ws → length us ≡ length ws → length ts ≡ length us
       → us ≡ take (16 * k + 16) ws ++ (take (16 * count - 16 * k) (drop (16 * k) ws) ++ drop (16 * count + 16) ws)
       → ts ≡ take (16 * k) us ++ ((n ∷ c ∷ vs) ++ drop (16 * k + 16) us)
       → held (count + 1) ts ≡ take k (held count ws) ++ (record { vars = take n vs; coef = c } ∷ drop k (held count ws))
   unfolding held read_monomial
-  held_put h n c vs us ts r e p q =
+  held_put h n c vs us ts r lu lt p q =
+      let e : length vs ≡ 14 =
+      omega (
+        arith,
+        lu,
+        lt,
+        ap length q,
+        length-append (take (16 * k) us) ((n ∷ c ∷ vs) ++ drop (16 * k + 16) us),
+        length-append (n ∷ c ∷ vs) (drop (16 * k + 16) us),
+        length-take-le (16 * k) us (omega arith),
+        length-drop (16 * k + 16) us,
+      ) in
       let rest : List ℕ = drop (16 * count + 16) ws in
       let behind : List ℕ = take (16 * count - 16 * k) (drop (16 * k) ws) ++ rest in
       let z : length (take (16 * k + 16) ws) ≡ 16 * k + 16 = length-take-le (16 * k + 16) ws (omega arith) in
@@ -105,13 +120,7 @@ module _ (ws : List ℕ) (k count : ℕ) (l : 16 * count ≤ length ws) where
       ap (held (count - 1)) p ∙ ap (map read_monomial) (rows_remove 16 count k ws (drop (16 * count - 16) ws) h l)
       ∙ map-append read_monomial (take k R) (drop (k + 1) R) ∙ (λ t. map_take read_monomial k R t ++ map_drop read_monomial (k + 1) R t)
 
-  -- The coefficient of slot k, and another in its place.
-  pub coef_at : k < count → (get_or (held count ws) k one).coef ≡ get_or ws (16 * k + 1) 0
-  unfolding held read_monomial
-  coef_at h =
-      ap (λ (m : Monomial). m.coef) (held_at count k ws one h)
-      ∙ get_or-take 16 (drop (16 * k) ws) 1 0 (omega arith) ∙ get_or-drop (16 * k) ws 1 0
-
+  -- Another coefficient in slot k.
   pub held_sum : k < count → (v : ℕ)
       → held count (set ws (16 * k + 1) v) ≡ take k (held count ws) ++ (record { vars = vars_at (held count ws) k; coef = v } ∷ drop (k + 1) (held count ws))
   unfolding held
@@ -126,10 +135,10 @@ module _ (ws : List ℕ) (k count : ℕ) (l : 16 * count ≤ length ws) where
       ∙ (λ t. take k (held count ws) ++ (x t ∷ drop (sym (add-one k) t) (held count ws)))
 
   -- A sum, kept unless it is 0.
-  module _ (p : ℕ) (m : Monomial) (h : k < count) (v : ℕ) (e : v ≡ add_m p m.coef (get_or ws (16 * k + 1) 0)) where
+  module _ (p : ℕ) (m : Monomial) (h : k < count) (v : ℕ) (e : v ≡ add_m p m.coef (get_or (held count ws) k one).coef) where
     sum_is : plus p m (get_or (held count ws) k one) ≡ record { vars = vars_at (held count ws) k; coef = v }
     unfolding plus
-    sum_is = λ t. record { vars = vars_at (held count ws) k; coef = (ap (add_m p m.coef) (coef_at h) ∙ sym e) t }
+    sum_is = λ t. record { vars = vars_at (held count ws) k; coef = sym e t }
 
     pub sum_out : v ≡ 0 → (us : List ℕ) → us ≡ take (16 * k) ws ++ (take (16 * count - (16 * k + 16)) (drop (16 * k + 16) ws) ++ drop (16 * count - 16) ws)
         → held (count - 1) us ≡ take k (held count ws) ++ keep (plus p m (get_or (held count ws) k one)) (drop (k + 1) (held count ws))
@@ -144,3 +153,20 @@ module _ (ws : List ℕ) (k count : ℕ) (l : 16 * count ≤ length ws) where
         held_sum h v
         ∙ ap (λ (r : List Monomial). take k (held count ws) ++ r)
         (sym (ap (λ (y : Monomial). keep y rest) sum_is ∙ keep_other (record { vars = vars_at (held count ws) k; coef = v }) rest z))
+
+keep_fits : (x : Monomial) (xs : List Monomial) → Fits x → All Fits xs → All Fits (keep x xs)
+unfolding keep
+keep_fits x xs g a = by_test (All Fits) (eqb x.coef 0) (λ e. a) (λ e. (g, a))
+
+-- What holds of all holds of all once one is put in front of place k, or kept in the place of k.
+module _ (ms : List Monomial) (k : ℕ) (h : All Fits ms) where
+  front_fits : All Fits (take k ms)
+  front_fits = all_front Fits (take k ms) (drop k ms) (rw (take-append-drop k ms) h)
+
+  pub put_fits : (m : Monomial) → Fits m → All Fits (take k ms ++ (m ∷ drop k ms))
+  put_fits m f = all_append Fits (take k ms) (m ∷ drop k ms) front_fits (f, all_drop Fits k ms h)
+
+  pub sum_fits : (m : Monomial) → Fits m → k < length ms → All Fits (take k ms ++ keep (plus prime m (get_or ms k one)) (drop (k + 1) ms))
+  sum_fits m f l =
+      all_append Fits (take k ms) _ front_fits
+      (keep_fits (plus prime m (get_or ms k one)) (drop (k + 1) ms) (fits_plus m (get_or ms k one) f (all_within Fits ms k one h l)) (all_drop Fits (k + 1) ms h))

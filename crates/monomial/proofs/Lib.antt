@@ -3,7 +3,6 @@ pub mod ListLaws
 pub mod Readings
 pub mod Sizes
 pub mod Summing
-pub mod RowWords
 pub mod Products
 pub mod Rows
 pub mod Orderings

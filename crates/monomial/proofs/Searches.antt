@@ -3,7 +3,7 @@ use mathlib.Core.Path.{◌≡◌, refl, sym, ap, subst, ◌∙◌}
 use mathlib.Core.Logic.{⊎_elim}
 use mathlib.Core.Bool.{true}
 use mathlib.Core.List.{List, [], ◌∷◌}
-use Prim.Native.Nat.{ℕ, zero, suc, ◌+◌, ◌*◌, ◌-◌, ◌≤◌, ◌<◌, min}
+use Prim.Native.Nat.{ℕ, zero, suc, ◌+◌, ◌*◌, ◌≤◌, ◌<◌, min}
 use native.Mathlib.Nat.{eq-or-lt_of_le}
 use native.Mathlib.Omega.{arith}
 use lib.ListN.{length, get_or, take, drop}
@@ -17,7 +17,7 @@ use Rattle.semantics.proofs.Order.{before_vars_trans}
 use Rattle.monomial.specs.Words.{read_monomial, held}
 use Rattle.monomial.specs.Orders.{order_of}
 use Rattle.monomial.specs.Places.{one, vars_at, FirstBefore, RestAfter}
-use Rattle.monomial.proofs.Rows.{held_at, held_length}
+use Rattle.monomial.proofs.Rows.{held_at}
 use Rattle.monomial.proofs.Orderings.{from_less, from_greater, from_equal}
 
 above_at : (v : List ℕ) (ms : List Monomial) → Above v ms → (j : ℕ) → j < length ms → before_vars v (vars_at ms j) ≡ true
@@ -63,27 +63,23 @@ slot_vars ws k n h =
     let d : drop 2 row ≡ take 14 (drop (16 * k + 2) ws) = drop_two 14 (drop (16 * k) ws) ∙ ap (take 14) (drop-drop 2 (16 * k) ws) in
     ap (λ (m : Monomial). m.vars) (held_at n k ws one h) ∙ (λ t. take (c t) (d t)) ∙ take_min (get_or ws (16 * k) 0) 14 (drop (16 * k + 2) ws)
 
+pub coef_at : (ws : List ℕ) (k n : ℕ) → k < n → (get_or (held n ws) k one).coef ≡ get_or ws (16 * k + 1) 0
+unfolding held read_monomial
+coef_at ws k n h =
+    ap (λ (m : Monomial). m.coef) (held_at n k ws one h)
+    ∙ get_or-take 16 (drop (16 * k) ws) 1 0 (omega arith) ∙ get_or-drop (16 * k) ws 1 0
+
 -- A monomial with the variables that are looked for.
 abbrev pub sought : (numbers : List ℕ) → Monomial
 sought numbers = record { vars = numbers; coef = 0 }
 
--- What a comparison with slot k says, whose variables stand from 16 * k + 2 on.
-module _ (x : Monomial) (ws : List ℕ) (k n : ℕ) (h : k < n) (c : ℕ) (e : c ≡ min (get_or ws (16 * k) 0) 14) (o : Ordering)
-    (q : o ≡ order_of x.vars (take (16 * k + 2 + c - (16 * k + 2)) (drop (16 * k + 2) ws))) where
-  slot_is : vars_at (held n ws) k ≡ take (16 * k + 2 + c - (16 * k + 2)) (drop (16 * k + 2) ws)
-  slot_is =
-      let f : min (get_or ws (16 * k) 0) 14 ≡ 16 * k + 2 + c - (16 * k + 2) = omega (arith, e) in
-      slot_vars ws k n h ∙ ap (λ (j : ℕ). take j (drop (16 * k + 2) ws)) f
+-- What a comparison with the variables of monomial k says.
+module _ (x : Monomial) (ms : List Monomial) (k : ℕ) (h : k < length ms) (o : Ordering) (v : List ℕ) (e : v ≡ vars_at ms k) (q : o ≡ order_of x.vars v) where
+  pub found_equal : o ≡ Equal → vars_at ms k ≡ x.vars
+  found_equal s = sym e ∙ sym (from_equal x.vars v (sym q ∙ s))
 
-  pub found_equal : o ≡ Equal → vars_at (held n ws) k ≡ x.vars
-  found_equal s = slot_is ∙ sym (from_equal x.vars _ (sym q ∙ s))
+  pub found_greater : Asc ms → o ≡ Greater → FirstBefore x ms (k + 1)
+  found_greater a s = lower_half x ms a k h (ap (λ (u : List ℕ). before_vars u x.vars) (sym e) ∙ from_greater x.vars v (sym q ∙ s))
 
-  pub found_greater : Asc (held n ws) → o ≡ Greater → FirstBefore x (held n ws) (k + 1)
-  found_greater a s =
-      lower_half x (held n ws) a k (omega (arith, held_length n ws))
-      (ap (λ (v : List ℕ). before_vars v x.vars) slot_is ∙ from_greater x.vars _ (sym q ∙ s))
-
-  pub found_less : Asc (held n ws) → o ≡ Less → RestAfter x (held n ws) k
-  found_less a s =
-      upper_half x (held n ws) a k (omega (arith, held_length n ws))
-      (ap (before_vars x.vars) slot_is ∙ from_less x.vars _ (sym q ∙ s))
+  pub found_less : Asc ms → o ≡ Less → RestAfter x ms k
+  found_less a s = upper_half x ms a k h (ap (before_vars x.vars) (sym e) ∙ from_less x.vars v (sym q ∙ s))

@@ -1,17 +1,17 @@
--- The longest of a list; the rows of the work list, their sizes and their words.
+-- The longest of a list; the sizes and the words of its front.
 use mathlib.Core.Path.{◌≡◌, refl, sym, ◌∙◌, ap}
-use mathlib.Core.List.{List, [], ◌∷◌, ◌++◌}
-use Prim.Native.Nat.{ℕ, suc, ◌+◌, ◌*◌, ◌-◌, ◌≤◌, ◌<◌, min, max}
+use mathlib.Core.List.{List, [], ◌∷◌, ◌++◌, append_assoc, append-nil}
+use Prim.Native.Nat.{ℕ, ◌+◌, ◌*◌, ◌≤◌, ◌<◌, max}
+use native.Mathlib.Numerals.{add-one}
 use native.Mathlib.Omega.{arith}
-use lib.ListN.{length, get_or, take, drop, length-take, length-drop}
-use lib.Seq.{get_or-take}
-use Rattle.slices.specs.Rows.{rows}
-use Rattle.slices.proofs.Lists.{get_or_front}
+use lib.ListN.{length, get_or, take, drop, take-append-drop}
+use lib.Seq.{take-suc, take_at, drop_at, drop-drop}
 use Rattle.semantics.specs.Monomial.{Monomial}
 use Rattle.semantics.specs.Expand.{list_size}
-use Rattle.monomial.specs.Words.{read_monomial, longest_of, held}
-use Rattle.monomial.proofs.Rows.{held_split}
-use Rattle.monomial.proofs.ListLaws.{size_nil, size_cons, size_append}
+use Rattle.semantics.specs.Lists.{All}
+use Rattle.monomial.specs.Words.{monomial_words, list_words, longest_of, Fits}
+use Rattle.monomial.specs.Places.{one, vars_at}
+use Rattle.monomial.proofs.ListLaws.{words_nil, words_cons, words_append, words_length, size_nil, size_cons, size_append}
 
 pub longest_cons : (m : Monomial) (ms : List Monomial) → longest_of (m ∷ ms) ≡ max (length m.vars) (longest_of ms)
 unfolding longest_of
@@ -21,57 +21,76 @@ pub longest_nil : longest_of [] ≡ 0
 unfolding longest_of
 longest_nil = refl
 
--- The work list row by row.
-unfoldable pub row_of : (work : List ℕ) (k : ℕ) → Monomial
-row_of work k = read_monomial (take 16 (drop (16 * k) work))
+pub longest_few : (ms : List Monomial) → All Fits ms → longest_of ms ≤ 14
+longest_few [] k = omega (arith, longest_nil)
+longest_few (m ∷ ms) k = omega (arith, longest_cons m ms, k.0.few, longest_few ms k.1)
 
-pub held_zero : (ws : List ℕ) → held 0 ws ≡ []
-unfolding held rows
-held_zero ws = refl
+pub size_small : (ms : List Monomial) → All Fits ms → list_size ms ≤ 16 * length ms
+size_small [] k = omega (arith, size_nil)
+size_small (m ∷ ms) k = omega (arith, size_cons m ms, k.0.few, size_small ms k.1)
 
-pub held_suc : (n : ℕ) (ws : List ℕ) → held (suc n) ws ≡ read_monomial (take 16 ws) ∷ held n (drop 16 ws)
-unfolding held rows
-held_suc n ws = refl
+-- The first k monomials, and one more.
+module _ (l : List Monomial) (k : ℕ) (h : k < length l) where
+  front_more : take (k + 1) l ≡ take k l ++ (get_or l k one ∷ [])
+  front_more = ap (λ (n : ℕ). take n l) (add-one k) ∙ take-suc l k one h
 
-pub held_more : (k : ℕ) (ws : List ℕ) → held (k + 1) ws ≡ held k ws ++ (row_of ws k ∷ [])
-unfolding row_of
-held_more k ws = held_split k 1 ws ∙ ap (λ (l : List Monomial). held k ws ++ l) (held_suc 0 (drop (16 * k) ws) ∙ rw (held_zero (drop 16 (drop (16 * k) ws))))
+  pub size_more : list_size (take (k + 1) l) ≡ list_size (take k l) + 2 + length (vars_at l k)
+  size_more = omega (arith, ap list_size front_more ∙ size_append (take k l) (get_or l k one ∷ []), size_cons (get_or l k one) [], size_nil)
 
-pub held_parts : (count k : ℕ) (ws : List ℕ) → k ≤ count → held count ws ≡ held k ws ++ held (count - k) (drop (16 * k) ws)
-held_parts count k ws h =
-    let e : count ≡ k + (count - k) = omega arith in
-    ap (λ (k : ℕ). held k ws) e ∙ held_split k (count - k) ws
+  words_more : list_words (take (k + 1) l) ≡ list_words (take k l) ++ monomial_words (get_or l k one)
+  words_more =
+      ap list_words front_more ∙ words_append (take k l) (get_or l k one ∷ [])
+      ∙ ap (λ (x : List ℕ). list_words (take k l) ++ x)
+      (words_cons (get_or l k one) [] ∙ ap (λ (x : List ℕ). monomial_words (get_or l k one) ++ x) words_nil ∙ append-nil (monomial_words (get_or l k one)))
 
-pub row_count : (work : List ℕ) (k : ℕ) → 16 * k + 16 ≤ length work → length (row_of work k).vars ≡ min (get_or work (16 * k) 0) 14
-unfolding row_of read_monomial
-row_count work k h =
-    let a : get_or (take 16 (drop (16 * k) work)) 0 0 ≡ get_or work (16 * k) 0 = get_or-take 16 (drop (16 * k) work) 0 0 (omega arith) ∙ get_or_front work (16 * k) in
-    omega (
-      arith,
-      length-take (get_or (take 16 (drop (16 * k) work)) 0 0) (drop 2 (take 16 (drop (16 * k) work))),
-      length-drop 2 (take 16 (drop (16 * k) work)),
-      length-take 16 (drop (16 * k) work),
-      length-drop (16 * k) work,
-      a,
-    )
+-- A front of the list is no larger than the whole.
+pub size_front : (l : List Monomial) (k : ℕ) → list_size (take k l) ≤ list_size l
+size_front l k = omega (arith, ap list_size (take-append-drop k l), size_append (take k l) (drop k l))
 
--- The size of the first k rows.
-pub record Sized (work : List ℕ) (count total k : ℕ) : Type 0 where
-  pub k_le : k ≤ count
-  pub total_is : total ≡ list_size (held k work)
-  pub total_le : total ≤ 16 * k
+-- The first k monomials written.
+pub record Written (l : List Monomial) (out₀ out : List ℕ) (at k : ℕ) : Type 0 where
+  pub length_is : length out ≡ length out₀
+  pub at_is : at ≡ list_size (take k l)
+  pub out_is : out ≡ list_words (take k l) ++ drop at out₀
 
-pub sized_none : (work : List ℕ) (count : ℕ) → Sized work count 0 0
-sized_none work count = record { k_le = omega arith; total_is = sym (ap list_size (held_zero work) ∙ size_nil); total_le = omega arith }
+module _ (l : List Monomial) (out₀ : List ℕ) where
+  pub written_none : Written l out₀ out₀ 0 0
+  written_none = record { length_is = refl; at_is = sym size_nil; out_is = rw words_nil }
 
-pub size_more : (work : List ℕ) (k s : ℕ) → 16 * k + 16 ≤ length work → s ≡ min (get_or work (16 * k) 0) 14 → list_size (held (k + 1) work) ≡ list_size (held k work) + 2 + s
-size_more work k s h e =
-    omega (arith, ap list_size (held_more k work) ∙ size_append (held k work) (row_of work k ∷ []), size_cons (row_of work k) [], size_nil, row_count work k h, e)
+  module _ (out : List ℕ) (at k : ℕ) (g : Written l out₀ out at k) (h : k < length l) where
+    pub written_room : list_size l ≤ length out₀ → at + 2 + length (vars_at l k) ≤ length out
+    written_room b = omega (arith, g.length_is, g.at_is, size_more l k h, size_front l (k + 1))
 
-pub sized_more : (work : List ℕ) (count total k s : ℕ) → Sized work count total k → k < count → 16 * count ≤ length work → s ≡ min (get_or work (16 * k) 0) 14
-    → Sized work count (total + (2 + s)) (k + 1)
-sized_more work count total k s z h l e = record {
-  k_le = omega arith;
-  total_is = omega (arith, z.total_is, size_more work k s (omega arith) e);
-  total_le = omega (arith, z.total_le);
-}
+    pub written_more : (vs : List ℕ) (coef : ℕ) → vs ≡ vars_at l k → coef ≡ (get_or l k one).coef → (out₁ : List ℕ) → length out₁ ≡ length out
+        → out₁ ≡ take at out ++ ((length vs ∷ coef ∷ vs) ++ drop (at + 2 + length vs) out) → Written l out₀ out₁ (at + (2 + length vs)) (k + 1)
+    unfolding monomial_words
+    written_more vs coef ev ec out₁ e q = record {
+      length_is = e ∙ g.length_is;
+      at_is = omega (arith, ap length ev, g.at_is, size_more l k h);
+      out_is = all;
+    }
+      where
+        W : List ℕ
+        W = list_words (take k l)
+
+        M : List ℕ
+        M = monomial_words (get_or l k one)
+
+        len : length W ≡ at
+        len = words_length (take k l) ∙ sym g.at_is
+
+        s : ℕ
+        s = 2 + length vs
+
+        n : at + 2 + length vs ≡ at + s
+        n = omega arith
+
+        back : drop (at + 2 + length vs) out ≡ drop (at + s) out₀
+        back =
+            ap (λ (i : ℕ). drop i out) n ∙ sym (drop-drop s at out) ∙ ap (drop s) (ap (drop at) g.out_is ∙ drop_at W (drop at out₀) at len)
+            ∙ drop-drop s at out₀
+
+        all : out₁ ≡ list_words (take (k + 1) l) ++ drop (at + s) out₀
+        all =
+            q ∙ (λ i. (ap (take at) g.out_is ∙ take_at W (drop at out₀) at len) i ++ ((length (ev i) ∷ ec i ∷ ev i) ++ back i))
+            ∙ sym (append_assoc W M (drop (at + s) out₀)) ∙ ap (λ (x : List ℕ). x ++ drop (at + s) out₀) (sym (words_more l k h))

@@ -1,104 +1,93 @@
--- Loops over a list in the words: its monomials negated one by one, and summed one by one.
-use mathlib.Core.Path.{◌≡◌, refl, sym, ◌∙◌, ap, subst}
-use mathlib.Core.Bool.{Bool, true, false}
+-- Loops over a list that is read: its monomials negated one by one, and summed one by one.
+use mathlib.Core.Path.{◌≡◌, refl, sym, ◌∙◌, ap}
 use mathlib.Core.List.{List, [], ◌∷◌, ◌++◌, map, append-nil, append_assoc}
-use Prim.Native.Nat.{ℕ, ◌+◌, ◌≤◌}
+use Prim.Native.Nat.{◌+◌, ◌≤◌}
 use native.Mathlib.Omega.{arith}
-use lib.ListN.{length, get_or}
+use lib.Dec.{eqb}
+use lib.ListN.{length, length-append}
 use Rattle.semantics.specs.Arithmetic.{prime}
-use Rattle.semantics.specs.Monomial.{Monomial, neg_monomial, insert_monomial}
-use Rattle.semantics.proofs.Combining.{asc_insert}
-use Rattle.semantics.specs.Lists.{All}
-use Rattle.monomial.specs.Words.{held, insert_all, negated_if, Fits, Summed}
-use Rattle.monomial.proofs.Canons.{sum_nil, sum_cons, fits_insert, fits_negative}
-use Rattle.monomial.proofs.Sizes.{held_zero}
+use Rattle.semantics.specs.Monomial.{Asc, Monomial, neg_monomial, keep, plus, insert_monomial}
+use Rattle.semantics.proofs.Basics.{by_test}
+use Rattle.semantics.proofs.Combining.{by_order}
+use Rattle.monomial.specs.declared.Sign.{Sign}
+use Rattle.monomial.specs.declared.Sign.TheVariants.{Plus, Minus}
+use Rattle.monomial.specs.Signs.{with_sign, signed}
+use Rattle.monomial.specs.Words.{insert_all}
+use Rattle.monomial.proofs.Canons.{sum_nil, sum_cons, sum_append, asc_sum}
 
--- The first k negatives stand in the work list, and what is left of the list is negated.
-pub record Negating (all rest : List Monomial) (work₀ work : List ℕ) (k : ℕ) : Type 0 where
-  pub length_is : length work ≡ length work₀
-  pub left : k + length rest ≡ length all
-  pub fits : All Fits rest
-  pub all_is : held k work ++ map (neg_monomial prime) rest ≡ map (neg_monomial prime) all
+-- The negatives so far, and those of what is left, are those of all.
+pub record Negating (before all rest now : List Monomial) : Type 0 where
+  pub room : length now + length rest ≤ 256
+  pub all_is : now ++ map (neg_monomial prime) rest ≡ before ++ map (neg_monomial prime) all
 
-module _ (all : List Monomial) (work₀ : List ℕ) where
-  pub negating_none : (rest : List Monomial) (k : ℕ) → rest ≡ all → k ≡ 0 → All Fits all → Negating all rest work₀ work₀ k
-  negating_none rest k e z h = record { length_is = refl; left = omega (arith, ap length e); fits = rw e h; all_is = rw (z, held_zero work₀, e) }
+module _ (before all : List Monomial) where
+  pub negating_none : (rest : List Monomial) → rest ≡ all → length before + length all ≤ 256 → Negating before all rest before
+  negating_none rest e h = record { room = omega (arith, ap length e); all_is = rw e }
 
-  pub negating_more : (rest₀ rest : List Monomial) (work work₁ : List ℕ) (k : ℕ) (x y : Monomial) → Negating all rest₀ work₀ work k → rest₀ ≡ x ∷ rest
-      → length work₁ ≡ length work → y ≡ neg_monomial prime x → held (k + 1) work₁ ≡ held k work ++ (y ∷ [])
-      → Negating all rest work₀ work₁ (k + 1)
-  negating_more rest₀ rest work work₁ k x y g e l f q = record {
-    length_is = l ∙ g.length_is;
-    left = omega (arith, g.left, ap length e);
-    fits = (subst (All Fits) e g.fits).1;
+  pub negating_more : (rest₀ rest now now₁ : List Monomial) (x y : Monomial) → Negating before all rest₀ now → rest₀ ≡ x ∷ rest → y ≡ neg_monomial prime x
+      → now₁ ≡ now ++ (y ∷ []) → Negating before all rest now₁
+  negating_more rest₀ rest now now₁ x y g e f q = record {
+    room = omega (arith, g.room, ap length e, ap length q ∙ length-append now (y ∷ []));
     all_is =
-        ap (λ (z : List Monomial). z ++ map (neg_monomial prime) rest) q ∙ append_assoc (held k work) (y ∷ []) (map (neg_monomial prime) rest)
-        ∙ ap (λ (z : Monomial). held k work ++ (z ∷ map (neg_monomial prime) rest)) f
-        ∙ ap (λ (z : List Monomial). held k work ++ map (neg_monomial prime) z) (sym e) ∙ g.all_is;
+        ap (λ (z : List Monomial). z ++ map (neg_monomial prime) rest) q ∙ append_assoc now (y ∷ []) (map (neg_monomial prime) rest)
+        ∙ ap (λ (z : Monomial). now ++ (z ∷ map (neg_monomial prime) rest)) f
+        ∙ ap (λ (z : List Monomial). now ++ map (neg_monomial prime) z) (sym e) ∙ g.all_is;
   }
 
-  pub negating_done : (rest : List Monomial) (work : List ℕ) (k : ℕ) → Negating all rest work₀ work k → rest ≡ []
-      → held (length all) work ≡ map (neg_monomial prime) all
-  negating_done rest work k g e =
-      let c : length all ≡ k = omega (arith, g.left, ap length e) in
-      ap (λ (j : ℕ). held j work) c ∙ sym (append-nil (held k work)) ∙ ap (λ (z : List Monomial). held k work ++ map (neg_monomial prime) z) (sym e) ∙ g.all_is
+  pub negating_done : (rest now : List Monomial) → Negating before all rest now → rest ≡ [] → now ≡ before ++ map (neg_monomial prime) all
+  negating_done rest now g e = sym (append-nil now) ∙ ap (λ (z : List Monomial). now ++ map (neg_monomial prime) z) (sym e) ∙ g.all_is
 
--- A monomial of the right list of a difference.
-abbrev pub sign_of : Bool → Monomial → Monomial
-sign_of true m = neg_monomial prime m
-sign_of false m = m
+-- A list with a sign, monomial by monomial.
+pub signed_cons : (s : Sign) (m : Monomial) (ms : List Monomial) → signed s (m ∷ ms) ≡ with_sign s m ∷ signed s ms
+signed_cons Plus m ms = refl
+signed_cons Minus m ms = refl
 
-pub signed_map : (b : Bool) (ms : List Monomial) → negated_if b ms ≡ map (sign_of b) ms
-signed_map true ms = refl
-signed_map false [] = refl
-signed_map false (m ∷ ms) = ap (λ (l : List Monomial). m ∷ l) (signed_map false ms)
+pub signed_nil : (s : Sign) → signed s [] ≡ []
+signed_nil Plus = refl
+signed_nil Minus = refl
 
-pub signed_one : (b : Bool) (x m : Monomial) → (x ∷ []) ≡ negated_if b (m ∷ []) → x ≡ sign_of b m
-signed_one b x m e = ap (λ (l : List Monomial). get_or l 0 x) (e ∙ signed_map b (m ∷ []))
+pub signed_length : (s : Sign) (ms : List Monomial) → length (signed s ms) ≡ length ms
+signed_length s [] = ap length (signed_nil s)
+signed_length s (m ∷ ms) = omega (arith, ap length (signed_cons s m ms), signed_length s ms)
 
-pub fits_sign : (b : Bool) (m : Monomial) → Fits m → Fits (sign_of b m)
-fits_sign true m h = fits_negative m h
-fits_sign false m h = h
+-- Summing makes a list longer by one monomial at most.
+keep_length : (m : Monomial) (ms : List Monomial) → length (keep m ms) ≤ length ms + 1
+unfolding keep
+keep_length m ms = by_test (λ (l : List Monomial). length l ≤ length ms + 1) (eqb m.coef 0) (λ e. omega arith) (λ e. omega arith)
 
--- Summed so far, and what is left: each monomial of the list gives one that is summed.
-pub record Adding (f : Monomial → Monomial) (all rest : List Monomial) (count : ℕ) (work₀ work : List ℕ) (total : ℕ) : Type 0 where
-  pub length_is : length work ≡ length work₀
-  pub summed : Summed total work
-  pub few : total + length rest ≤ count + length all
-  pub fits : All Fits rest
-  pub all_is : insert_all (map f rest) (held total work) ≡ insert_all (map f all) (held count work₀)
+insert_length : (m : Monomial) (ms : List Monomial) → length (insert_monomial prime m ms) ≤ length ms + 1
+insert_length m [] = unfold insert_monomial in (keep_length m [])
+insert_length m (x ∷ t) =
+    let ih = insert_length m t in
+    by_order (λ (l : List Monomial). length l ≤ length (x ∷ t) + 1) prime m x t (λ e. keep_length m (x ∷ t)) (λ e. omega (arith, ih))
+    (λ e. omega (arith, keep_length (plus prime m x) t))
 
--- One more is summed.
-pub summed_more : (work work₁ : List ℕ) (total next : ℕ) (y : Monomial) → Summed total work → length work₁ ≡ length work → Fits y
-    → held next work₁ ≡ insert_monomial prime y (held total work) → Summed next work₁
-summed_more work work₁ total next y s l h q = record {
-  room = omega (arith, s.room, l);
-  ascends = rw q (asc_insert prime y (held total work) s.ascends);
-  fit = rw q (fits_insert y (held total work) h s.fit);
-}
+pub sum_length : (ms acc : List Monomial) → length (insert_all ms acc) ≤ length acc + length ms
+sum_length [] acc = omega (arith, ap length (sum_nil acc))
+sum_length (m ∷ ms) acc = omega (arith, ap length (sum_cons m ms acc), sum_length ms (insert_monomial prime m acc), insert_length m acc)
 
-module _ (f : Monomial → Monomial) (all : List Monomial) (count : ℕ) (work₀ : List ℕ) where
-  pub adding_none : (rest : List Monomial) → rest ≡ all → All Fits all → Summed count work₀ → Adding f all rest count work₀ work₀ count
-  adding_none rest e h s = record { length_is = refl; summed = s; few = omega (arith, ap length e); fits = rw e h; all_is = rw e }
+-- Summed so far, and what is left to be summed.
+pub record Adding (before all rest now : List Monomial) : Type 0 where
+  pub room : length now + length rest ≤ 256
+  pub ascends : Asc now
+  pub all_is : insert_all rest now ≡ insert_all all before
 
-  pub adding_more : (rest₀ rest : List Monomial) (work work₁ : List ℕ) (total next : ℕ) (x y : Monomial) → Adding f all rest₀ count work₀ work total
-      → rest₀ ≡ x ∷ rest → length work₁ ≡ length work → y ≡ f x → Fits y
-      → held next work₁ ≡ insert_monomial prime y (held total work) → next ≤ total + 1
-      → Adding f all rest count work₀ work₁ next
-  adding_more rest₀ rest work work₁ total next x y g e l p fit q b = record {
-    length_is = l ∙ g.length_is;
-    summed = summed_more work work₁ total next y g.summed l fit q;
-    few = omega (arith, g.few, ap length e);
-    fits = (subst (All Fits) e g.fits).1;
-    all_is =
-        ap (insert_all (map f rest)) (q ∙ ap (λ (z : Monomial). insert_monomial prime z (held total work)) p)
-        ∙ sym (sum_cons (f x) (map f rest) (held total work))
-        ∙ ap (λ (z : List Monomial). insert_all (map f z) (held total work)) (sym e) ∙ g.all_is;
+module _ (before all : List Monomial) where
+  pub adding_none : (rest : List Monomial) → rest ≡ all → length before + length all ≤ 256 → Asc before → Adding before all rest before
+  adding_none rest e h a = record { room = omega (arith, ap length e); ascends = a; all_is = rw e }
+
+  pub adding_next : (rest₀ ms rest now now₁ : List Monomial) → Adding before all rest₀ now → rest₀ ≡ ms ++ rest → now₁ ≡ insert_all ms now
+      → Adding before all rest now₁
+  adding_next rest₀ ms rest now now₁ g e q = record {
+    room = omega (arith, g.room, ap length e ∙ length-append ms rest, ap length q, sum_length ms now);
+    ascends = rw q (asc_sum ms now g.ascends);
+    all_is = ap (insert_all rest) q ∙ sym (sum_append ms rest now) ∙ ap (λ (z : List Monomial). insert_all z now) (sym e) ∙ g.all_is;
   }
 
-  pub adding_done : (rest : List Monomial) (work : List ℕ) (total : ℕ) → Adding f all rest count work₀ work total → rest ≡ []
-      → (held total work ≡ insert_all (map f all) (held count work₀)) × (total ≤ count + length all)
-  adding_done rest work total g e = (
-    sym (sum_nil (held total work)) ∙ ap (λ (z : List Monomial). insert_all (map f z) (held total work)) (sym e) ∙ g.all_is,
-    omega (arith, g.few),
-  )
+  pub adding_more : (rest₀ rest now now₁ : List Monomial) (x : Monomial) → Adding before all rest₀ now → rest₀ ≡ x ∷ rest → now₁ ≡ insert_monomial prime x now
+      → Adding before all rest now₁
+  adding_more rest₀ rest now now₁ x g e q =
+      adding_next rest₀ (x ∷ []) rest now now₁ g e (q ∙ sym (sum_cons x [] now ∙ sum_nil (insert_monomial prime x now)))
+
+  pub adding_done : (rest now : List Monomial) → Adding before all rest now → rest ≡ [] → now ≡ insert_all all before
+  adding_done rest now g e = sym (sum_nil now) ∙ ap (λ (z : List Monomial). insert_all z now) (sym e) ∙ g.all_is

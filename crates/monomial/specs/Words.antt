@@ -1,14 +1,13 @@
 -- Monomials as words: by value, in the lists of the pool, and in the work list.
-use Rattle.std.specs.Prelude.{◌≡◌, Bool, true, false, ℕ, zero, suc, ◌+◌, ◌*◌, ◌≤◌, ◌<◌, max, length, get_or, take, drop}
+use Rattle.std.specs.Prelude.{◌≡◌, ℕ, zero, suc, ◌+◌, ◌*◌, ◌≤◌, ◌<◌, max, length, get_or, take, drop}
 use mathlib.Core.List.{List, [], ◌∷◌, map, flat_map}
 use Rattle.slices.specs.Rows.{rows}
 use Rattle.semantics.specs.Arithmetic.{prime}
 use Rattle.semantics.specs.Monomial as semantics
-use Rattle.semantics.specs.Monomial.{Asc, above, insert_monomial, neg_monomial}
+use Rattle.semantics.specs.Monomial.{above, insert_monomial}
 use Rattle.semantics.specs.Expand.{list_size}
 use Rattle.semantics.specs.Lists.{All, Sorted}
 use Rattle.packed_var.specs.declared.PackedVar.{PackedVar}
-use Rattle.monomial.specs.declared.Monomial.{Monomial}
 
 -- The numbers of packed variables.
 abbrev pub num : PackedVar → ℕ
@@ -17,9 +16,16 @@ num v = v.0
 abbrev pub nums : List PackedVar → List ℕ
 nums vs = map num vs
 
--- A monomial by value: fourteen places, of which the first `count` are its variables.
-abbrev pub monomial_of : Monomial → semantics.Monomial
-monomial_of m = record { vars = take m.count (nums m.vars); coef = m.coef }
+-- A monomial by value: places of which the first `count` are its variables, and its coefficient.
+abbrev pub monomial_of : List PackedVar → (count coef : ℕ) → semantics.Monomial
+monomial_of vars count coef = record { vars = take count (nums vars); coef = coef }
+
+-- "leaf: one monomial": of a constant, and of a packed variable.
+abbrev pub constant : ℕ → semantics.Monomial
+constant k = record { vars = []; coef = k }
+
+abbrev pub single : ℕ → semantics.Monomial
+single v = record { vars = v ∷ []; coef = 1 }
 
 -- In a list: the number of variables, the coefficient, the variables (01: "2 words a monomial and one a variable").
 unfoldable pub monomial_words : semantics.Monomial → List ℕ
@@ -45,10 +51,6 @@ unfoldable pub longest_of : List semantics.Monomial → ℕ
 longest_of [] = 0
 longest_of (m ∷ ms) = max (length m.vars) (longest_of ms)
 
--- Of the n monomials whose words stand from `at` on, the most variables that one has.
-abbrev pub longest_in : (words : List ℕ) (at n : ℕ) → ℕ
-longest_in words at n = longest_of (list_in words at n)
-
 -- The work list: sixteen words for each monomial, in which the same words stand in front.
 unfoldable pub held : (count : ℕ) → (work : List ℕ) → List semantics.Monomial
 held count work = map read_monomial (rows 16 count work)
@@ -59,21 +61,15 @@ pub record Fits (m : semantics.Monomial) : Type 0 where
   pub sorted : Sorted above m.vars
   pub small : m.coef < prime
 
+-- A list that an accepted walk may hold.
+pub record FitsList (ms : List semantics.Monomial) : Type 0 where
+  pub few : length ms ≤ 256
+  pub fit : All Fits ms
+
 -- A list that stands in the words with monomials that may be held.
 pub record ListFits (words : List ℕ) (at n : ℕ) : Type 0 where
   pub inside : at + list_size (list_in words at n) ≤ length words
   pub fit : All Fits (list_in words at n)
-
--- A work list that is summed so far: it ascends strictly, and more can be summed into it.
-pub record Summed (count : ℕ) (work : List ℕ) : Type 0 where
-  pub room : 4096 ≤ length work
-  pub ascends : Asc (held count work)
-  pub fit : All Fits (held count work)
-
--- The right list of a difference is negated.
-abbrev pub negated_if : Bool → List semantics.Monomial → List semantics.Monomial
-negated_if true ms = map (neg_monomial prime) ms
-negated_if false ms = ms
 
 -- One monomial after another is summed into a list.
 unfoldable pub insert_all : List semantics.Monomial → List semantics.Monomial → List semantics.Monomial

@@ -1,45 +1,108 @@
 // Monomials: products of packed variables with a coefficient, and their lists.
 #![tactic(auto)]
 
-ghost use Rattle.std.specs.Prelude.{◌≡◌, ◌+◌, ◌≤◌};
+ghost use Rattle.std.specs.Prelude.{◌≡◌, ◌+◌, ◌<◌, ◌≤◌, length};
 ghost use Rattle.semantics.specs.Arithmetic.{prime};
-ghost use Rattle.semantics.specs.Monomial.{above, mul_monomial, neg_monomial};
-ghost use Rattle.semantics.specs.Lists.{Sorted};
-ghost use Rattle.monomial.specs.Words.{monomial_of};
+ghost use Rattle.semantics.specs.Monomial.{mul_monomial, neg_monomial};
+ghost use Rattle.monomial.specs.Words.{constant, single};
+ghost use Rattle.monomial.specs.Signs.{with_sign};
 
 use packed_var::PackedVar;
+use std::marker::Model;
 
-mod list_steps;
-pub mod lists;
-mod reading;
-mod slots;
+pub mod reading;
 pub mod vars;
+pub mod work_list;
 
-// A monomial in hand: fourteen places for variables, of which the first `count` are used.
-#[derive(Clone, Copy)]
+// A monomial by value: fourteen places for variables, of which the first `count` are used. An accepted walk may hold it: the variables ascend, and the
+// coefficient is below the prime.
+#[derive(Drop)]
 pub struct Monomial {
-    pub vars: [PackedVar; 14],
-    pub count: usize,
-    pub coef: u32,
+    vars: [PackedVar; 14],
+    count: usize,
+    coef: u32,
 }
 
-// The product of two monomials: their sorted variables are merged.
-pub fn multiply(l: Monomial, r: Monomial) -> Monomial
-    requires { (l.count + r.count ≤ 14) × Sorted above (monomial_of l).vars × Sorted above (monomial_of r).vars }
-    ensures { (monomial_of result ≡ mul_monomial prime (monomial_of l) (monomial_of r)) × (result.count ≡ l.count + r.count) }
-{
-    Monomial {
-        vars: vars::merge_vars(l.vars, l.count, r.vars, r.count),
-        count: l.count + r.count,
-        coef: field::mul(l.coef, r.coef),
+impl Model for Monomial {
+    ghost use Rattle.std.specs.Prelude.{◌≡◌, length};
+    ghost use Rattle.semantics.specs.Monomial as semantics;
+    ghost use Rattle.monomial.specs.Words.{monomial_of, Fits};
+
+    ghost Value = { semantics.Monomial };
+
+    ghost view = { λ m. monomial_of m.vars m.count m.coef };
+
+    ghost invariant = { λ m. (m.count ≡ length (monomial_of m.vars m.count m.coef).vars) × Fits (monomial_of m.vars m.count m.coef) };
+}
+
+impl Monomial {
+    pub fn constant(value: u32) -> Self
+        requires { value < prime }
+        ensures { result ≡ constant value }
+    {
+        Monomial {
+            vars: [PackedVar(0); 14],
+            count: 0,
+            coef: value,
+        }
+    }
+
+    // A variable or row mark.
+    pub fn single(v: PackedVar) -> Self
+        ensures { result ≡ single v.0 }
+    {
+        let mut vars = [PackedVar(0); 14];
+        vars[0] = v;
+        Monomial {
+            vars,
+            count: 1,
+            coef: 1,
+        }
+    }
+
+    // How many variables it has.
+    pub fn len(&self) -> usize
+        ensures { (result ≡ length self.now.vars) × (result ≤ 14) }
+    {
+        self.count
+    }
+
+    // The product of two monomials: their sorted variables are merged.
+    pub fn multiply(&self, other: &Self) -> Self
+        requires { length self.now.vars + length other.now.vars ≤ 14 }
+        ensures { result ≡ mul_monomial prime self.now other.now }
+    {
+        Monomial {
+            vars: vars::merge_vars(self.vars, self.count, other.vars, other.count),
+            count: self.count + other.count,
+            coef: field::mul(self.coef, other.coef),
+        }
+    }
+
+    pub fn negative(self) -> Self
+        ensures { result ≡ neg_monomial prime self }
+    {
+        Monomial {
+            coef: field::neg(self.coef),
+            ..self
+        }
     }
 }
 
-pub fn negative(m: Monomial) -> Monomial
-    ensures { (monomial_of result ≡ neg_monomial prime (monomial_of m)) × (result.count ≡ m.count) }
-{
-    Monomial {
-        coef: field::neg(m.coef),
-        ..m
+// The sign with which a list is summed.
+#[derive(Clone, Copy, Debug, PartialEq, Eq)]
+pub enum Sign {
+    Plus,
+    Minus,
+}
+
+impl Sign {
+    fn apply(self, m: Monomial) -> Monomial
+        ensures { result ≡ with_sign self m }
+    {
+        match self {
+            Sign::Plus => m,
+            Sign::Minus => m.negative(),
+        }
     }
 }

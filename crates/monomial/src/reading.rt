@@ -1,17 +1,17 @@
 // A list of monomials that stands in the words of the pool, read from the first to the last.
-ghost use Rattle.std.specs.Prelude.{◌≡◌, [], ◌∷◌, ◌+◌, ◌≤◌, MatchOption, length, drop};
+ghost use Rattle.std.specs.Prelude.{◌≡◌, List, [], ◌∷◌, ◌+◌, ◌≤◌, MatchOption, length, drop};
 ghost use Rattle.std.specs.Iterator.{item_count};
-ghost use Rattle.monomial.specs.Words.{monomial_of, read_monomial, list_in, ListFits};
+ghost use Rattle.semantics.specs.Monomial as semantics;
+ghost use Rattle.monomial.specs.Words.{read_monomial, longest_of, Fits, FitsList, Stored};
 
 use crate::Monomial;
 use packed_var::PackedVar;
 use std::marker::Model;
 
 // The monomial that stands at `at`; the words may end within its variables.
-pub fn monomial_in(words: &[u32], at: usize) -> Monomial
-    requires { (at + 2 ≤ length words.now) × (length (read_monomial (drop at words.now)).vars ≤ 14) }
-    ensures { (monomial_of result ≡ read_monomial (drop at words.now))
-        × (result.count ≡ length (read_monomial (drop at words.now)).vars) }
+fn monomial_in(words: &[u32], at: usize) -> Monomial
+    requires { (at + 2 ≤ length words.now) × Fits (read_monomial (drop at words.now)) }
+    ensures { result ≡ read_monomial (drop at words.now) }
 {
     let count = (words[at] as usize).min(words.len() - (at + 2));
     let mut vars = [PackedVar(0); 14];
@@ -34,7 +34,7 @@ pub struct Monomials<'a> {
 }
 
 impl<'a> Model for Monomials<'a> {
-    ghost use Rattle.std.specs.Prelude.{List};
+    ghost use Rattle.std.specs.Prelude.{List, ◌≤◌};
     ghost use Rattle.semantics.specs.Monomial.{Monomial};
     ghost use Rattle.monomial.specs.Words.{list_in, ListFits};
 
@@ -42,28 +42,57 @@ impl<'a> Model for Monomials<'a> {
 
     ghost view = { λ s. list_in s.words.now s.at s.count };
 
-    ghost invariant = { λ s. ListFits s.words.now s.at s.count };
+    ghost invariant = { λ s. (s.count ≤ 256) × ListFits s.words.now s.at s.count };
 }
 
 impl<'a> Monomials<'a> {
-    // The n monomials that stand at `at`.
-    pub fn new(words: &'a [u32], at: usize, n: usize) -> Self
-        requires { ListFits words.now at n }
-        ensures { result ≡ list_in words.now at n }
+    // The list of record r: its two words in the pool say where the list stands and how many monomials it has.
+    pub fn of_record(pool: &'a [u32], r: u32) -> Self
+        requires { (l : List semantics.Monomial) × Stored pool.now r l }
+        ensures { (l : List semantics.Monomial) → Stored pool.now r l → result ≡ l }
+    {
+        let at = 2 * r as usize;
+        Monomials {
+            words: pool,
+            at: pool[at] as usize,
+            count: pool[at + 1] as usize,
+        }
+    }
+
+    // The same list, to be read once more.
+    pub fn again(&self) -> Self
+        ensures { result ≡ self.now }
     {
         Monomials {
-            words,
-            at,
-            count: n,
+            words: self.words,
+            at: self.at,
+            count: self.count,
         }
+    }
+
+    // How many monomials are left.
+    pub fn len(&self) -> usize
+        ensures { (result ≡ length self.now) × FitsList self.now }
+    {
+        self.count
+    }
+
+    // The most variables that one of them has.
+    pub fn longest(&self) -> usize
+        ensures { result ≡ longest_of self.now }
+    {
+        let mut most: usize = 0;
+        for m in self.again() {
+            most = most.max(m.len());
+        }
+        most
     }
 }
 
 impl<'a> Iterator for Monomials<'a> {
     type Item = Monomial;
 
-    ghost next_gives = { λ s r t. MatchOption r ((s ≡ []) × (t ≡ []))
-        (λ m. (s ≡ monomial_of m ∷ t) × (m.count ≡ length (monomial_of m).vars)) };
+    ghost next_gives = { λ s r t. MatchOption r ((s ≡ []) × (t ≡ [])) (λ m. s ≡ m ∷ t) };
 
     ghost remaining = { item_count (λ s. s) };
 
@@ -72,7 +101,7 @@ impl<'a> Iterator for Monomials<'a> {
             return None;
         }
         let m = monomial_in(self.words, self.at);
-        self.at += 2 + m.count;
+        self.at += 2 + m.len();
         self.count -= 1;
         Some(m)
     }

@@ -1,4 +1,3 @@
-pub mod RuleLaws
 pub mod NodeLaws
 pub mod Searches
 pub mod Marks

@@ -9,19 +9,16 @@ use lib.Dec.{ltb}
 use lib.ListN.{length, get_or, drop, replicate, length-append, length-replicate}
 use lib.Seq.{drop-append-add, take_at, sets, sets-eq}
 use borrow.Author.Tests.{ltb-true, ltb-false, lt-ltb, le-ltb}
-use Rattle.semantics.specs.Sheet.{Record, record_of, record_words, place}
-use Rattle.semantics.specs.Value.{node_of, no_record, record_at}
+use Rattle.semantics.specs.Sheet.{Record, record_words, place}
+use Rattle.semantics.specs.Value.{no_record, record_at}
 use Rattle.semantics.specs.Graph.{equal_records, find, intern}
 use Rattle.semantics.specs.Call.{zeros, padded}
 use Rattle.semantics.proofs.Basics.{cond_true, cond_false}
 use Rattle.semantics.proofs.Places.{place_next, place_word, record_wide, records_end}
 use Rattle.semantics.proofs.Calls.{drop_zeros}
 use Rattle.records.specs.Access.{node_in}
-use Rattle.nodes.specs.declared.rules.Child.{Child}
-use Rattle.nodes.specs.Picks.{view_of}
 use Rattle.nodes.specs.Memory.{nodes_out}
 use Rattle.nodes.specs.Nodes.{NoneBefore, FirstEqual}
-use Rattle.nodes.proofs.RuleLaws.{seen}
 
 -- Where the words of the nodes stand.
 four : length (zeros 4) ≡ 4
@@ -47,10 +44,6 @@ module _ (ws : List ℕ) (lent : ℕ) (ns : List Record) (e : ws ≡ nodes_out l
       let c = node_word 3 (omega arith) in
       let d = node_word 4 (omega arith) in
       λ t. record { kind = first_word t; a = a t; b = b t; c = c t; d = d t }
-
-  -- A child that holds the node's kind and its word a is as good as the node to the rules.
-  pub child_sees : (x : Child) → x.kind ≡ (node_in ws i).kind → x.a ≡ (node_in ws i).a → view_of x ≡ seen (record_at ns i)
-  child_sees x k a = λ t. node_of (record_of ((k ∙ ap (λ (m : Record). m.kind) node_in_lem) t) ((a ∙ ap (λ (m : Record). m.a) node_in_lem) t) 0 0 0)
 
 -- One more node.
 flat_snoc : (ns : List Record) (q : Record) → flat_map record_words (ns ++ (q ∷ [])) ≡ flat_map record_words ns ++ record_words q

@@ -1,8 +1,8 @@
 -- Where the search for a node begins.
-use mathlib.Core.Path.{◌≡◌, refl, sym, ap, subst, ◌∙◌}
+use mathlib.Core.Path.{◌≡◌, refl, sym, subst, ◌∙◌}
 use mathlib.Core.Bool.{false}
 use mathlib.Core.List.{List, [], ◌∷◌, ◌++◌}
-use Prim.Native.Nat.{ℕ, zero, suc, ◌+◌, ◌≤◌, ◌<◌, max}
+use Prim.Native.Nat.{ℕ, zero, suc, ◌≤◌, ◌<◌}
 use native.Mathlib.Omega.{arith}
 use lib.Dec.{ltb}
 use lib.ListN.{length, get_or, get_or-append}
@@ -16,22 +16,7 @@ use Rattle.semantics.proofs.Members.{mem_here, mem_there}
 use Rattle.semantics.proofs.Records.{LowRecord}
 use Rattle.semantics.proofs.Orders.{low}
 use Rattle.semantics.proofs.Graphs.{equal_is, find_le}
-use Rattle.records.proofs.Visits.{kind_two, kind_neg, kind_flat}
 use Rattle.nodes.specs.Nodes.{NoneBefore, above_all}
-
--- From the words of a node.
-module _ (r : Record) where
-  pub from_flat : (6 ≤ r.kind → 9 < r.kind) → 0 ≡ above_all (children (node_of r))
-  unfolding above_all
-  from_flat h = sym (ap above_all (kind_flat r h))
-
-  pub from_neg : r.kind ≡ 8 → (x : ℕ) → x ≡ r.a → x + 1 ≡ above_all (children (node_of r))
-  unfolding above_all
-  from_neg h x e = let m : x + 1 ≡ max (suc r.a) 0 = omega arith in m ∙ sym (ap above_all (kind_neg r h))
-
-  pub from_two : 6 ≤ r.kind → r.kind ≤ 9 → (r.kind ≡ 8 → ⊥) → (x : ℕ) → x ≡ max r.a r.b → x + 1 ≡ above_all (children (node_of r))
-  unfolding above_all
-  from_two l h n x e = let m : x + 1 ≡ max (suc r.a) (max (suc r.b) 0) = omega arith in m ∙ sym (ap above_all (kind_two r l h n))
 
 above_le : (cs : List ℕ) (k : ℕ) → ((c : ℕ) → Mem c cs → c < k) → above_all cs ≤ k
 unfolding above_all

@@ -6,12 +6,13 @@ ghost use Rattle.semantics.specs.Sheet.{place};
 ghost use Rattle.semantics.specs.Value.{node_of};
 ghost use Rattle.semantics.specs.Walk.{children};
 ghost use Rattle.records.specs.Access.{five_words, node_in};
+ghost use Rattle.records.specs.Nodes.{shown_node};
 ghost use Rattle.nodes.specs.Nodes.{FirstEqual, above_all, Interns};
 
 pub mod rules;
 
 use crate::rules::Child;
-use records::Record;
+use records::{Node, Record};
 
 // Where a node is, and how many nodes there are then.
 #[derive(Clone, Copy)]
@@ -20,28 +21,26 @@ pub struct Interned {
     pub count: usize,
 }
 
-// What the rules look at in a node.
+// A node of the output, as the rules look at it.
 pub fn child(out: &[u32], number: u32) -> Child
     requires { place 5 number + 5 ≤ length out.now }
-    ensures { (result.number ≡ number) × (result.kind ≡ (node_in out.now number).kind) × (result.a ≡ (node_in out.now number).a) }
+    ensures { (result.number ≡ number) × (shown_node result.node ≡ node_of (node_in out.now number)) }
 {
-    let m = records::record_at(out, number as usize);
     Child {
         number,
-        kind: m.kind,
-        a: m.a,
+        node: records::record_at(out, number as usize).node(),
     }
 }
 
 // Where the search for a node begins: above its children.
-#[tactic(auto, using(crate::proofs::Searches::from_flat, crate::proofs::Searches::from_neg, crate::proofs::Searches::from_two))]
+#[tactic(auto, unfolding(semantics::specs::Walk::children, crate::specs::Nodes::above_all))]
 pub fn search_from(r: Record) -> usize
     ensures { result ≡ above_all (children (node_of (five_words r))) }
 {
-    match r.kind {
-        8 => r.a as usize + 1,
-        6..=9 => r.a.max(r.b) as usize + 1,
-        _ => 0,
+    match r.node() {
+        Node::Leaf(_) | Node::Constant(_) => 0,
+        Node::Neg(x) => x as usize + 1,
+        Node::Add(x, y) | Node::Sub(x, y) | Node::Mul(x, y) => x.max(y) as usize + 1,
     }
 }
 

@@ -1,18 +1,17 @@
 // The rules of `add_expr` on built children, in the order of the Rust.
-ghost use Rattle.std.specs.Prelude.{◌≡◌, ◌&&◌, eqb, Some, None};
+ghost use Rattle.std.specs.Prelude.{◌≡◌};
 ghost use Rattle.semantics.specs.Arithmetic.{prime};
-ghost use Rattle.semantics.specs.Sheet.{record_of};
-ghost use Rattle.semantics.specs.Graph.{is_const, if_constants, if_neg, make, add_rule, sub_rule, neg_rule, mul_rule};
-ghost use Rattle.nodes.specs.Picks.{pick_of, view_of};
+ghost use Rattle.semantics.specs.Graph.{make, add_rule, sub_rule, neg_rule, mul_rule};
+ghost use Rattle.records.specs.Nodes.{shown_node, record_with};
+ghost use Rattle.nodes.specs.Picks.{pick_of};
 
-use records::Record;
+use records::{Node, Record};
 
-// What the rules look at in a built child: its number, its kind and its word a.
+// A built child: its number, and its node.
 #[derive(Clone, Copy)]
 pub struct Child {
     pub number: u32,
-    pub kind: u32,
-    pub a: u32,
+    pub node: Node,
 }
 
 // A node that is there, or one to look for or append.
@@ -22,111 +21,56 @@ pub enum Pick {
     Make(Record),
 }
 
-// A node to look for or append, which has no word d.
-fn make_node(kind: u32, a: u32, b: u32, degree: u32) -> Pick
-    ensures { pick_of result ≡ make (record_of kind a b degree 0) }
+// A node to look for or append.
+fn make_node(node: Node, degree: u32) -> Pick
+    ensures { pick_of result ≡ make (record_with node degree) }
 {
-    Pick::Make(Record {
-        kind,
-        a,
-        b,
-        c: degree,
-        d: 0,
-    })
+    Pick::Make(node.record(degree))
 }
 
-fn both_constant(l: Child, r: Child) -> bool
-    ensures { result ≡ eqb l.kind 5 && eqb r.kind 5 }
-{
-    l.kind == 5 && r.kind == 5
-}
-
-#[tactic(auto, using(crate::proofs::RuleLaws::const_is))]
-fn is_const(c: Child, value: u32) -> bool
-    ensures { result ≡ is_const value (view_of c) }
-{
-    c.kind == 5 && c.a == value
-}
-
-// The value of a node that is a constant.
-#[tactic(auto, using(crate::proofs::RuleLaws::const_one))]
-fn get_const(c: Child) -> Option<u32>
-    ensures { result ≡ if_constants (view_of c) (view_of c) (λ a b. Some a) None }
-{
-    if c.kind == 5 { Some(c.a) } else { None }
-}
-
-// The child of a node that is Neg.
-#[tactic(auto, using(crate::proofs::RuleLaws::neg_is))]
-fn get_neg_child(c: Child) -> Option<u32>
-    ensures { result ≡ if_neg (view_of c) Some None }
-{
-    if c.kind == 8 { Some(c.a) } else { None }
-}
-
-#[tactic(auto, using(crate::proofs::RuleLaws::add_is, crate::proofs::RuleLaws::neg_is))]
+#[tactic(auto, unfolding(semantics::specs::Graph::add_rule, semantics::specs::Graph::if_constants, semantics::specs::Graph::is_const, semantics::specs::Graph::if_neg))]
 pub fn add_rule(l: Child, r: Child, g: u32) -> Pick
-    ensures { pick_of result ≡ add_rule prime l.number r.number (view_of l) (view_of r) g }
+    ensures { pick_of result ≡ add_rule prime l.number r.number (shown_node l.node) (shown_node r.node) g }
 {
-    if both_constant(l, r) {
-        return make_node(5, field::add(l.a, r.a), 0, 0);
-    }
-    if is_const(l, 0) {
-        return Pick::Present(r.number);
-    }
-    if is_const(r, 0) {
-        return Pick::Present(l.number);
-    }
-    match get_neg_child(r) {
-        Some(y) => make_node(7, l.number, y, g),
-        None => make_node(6, l.number, r.number, g),
+    match (l.node, r.node) {
+        (Node::Constant(a), Node::Constant(b)) => make_node(Node::Constant(field::add(a, b)), 0),
+        (Node::Constant(0), _) => Pick::Present(r.number),
+        (_, Node::Constant(0)) => Pick::Present(l.number),
+        (_, Node::Neg(y)) => make_node(Node::Sub(l.number, y), g),
+        _ => make_node(Node::Add(l.number, r.number), g),
     }
 }
 
-#[tactic(auto, using(crate::proofs::RuleLaws::sub_is, crate::proofs::RuleLaws::neg_is))]
+#[tactic(auto, unfolding(semantics::specs::Graph::sub_rule, semantics::specs::Graph::if_constants, semantics::specs::Graph::is_const, semantics::specs::Graph::if_neg))]
 pub fn sub_rule(l: Child, r: Child, g: u32) -> Pick
-    ensures { pick_of result ≡ sub_rule prime l.number r.number (view_of l) (view_of r) g }
+    ensures { pick_of result ≡ sub_rule prime l.number r.number (shown_node l.node) (shown_node r.node) g }
 {
-    if both_constant(l, r) {
-        return make_node(5, field::sub(l.a, r.a), 0, 0);
-    }
-    if is_const(r, 0) {
-        return Pick::Present(l.number);
-    }
-    match get_neg_child(r) {
-        Some(y) => make_node(6, l.number, y, g),
-        None => make_node(7, l.number, r.number, g),
+    match (l.node, r.node) {
+        (Node::Constant(a), Node::Constant(b)) => make_node(Node::Constant(field::sub(a, b)), 0),
+        (_, Node::Constant(0)) => Pick::Present(l.number),
+        (_, Node::Neg(y)) => make_node(Node::Add(l.number, y), g),
+        _ => make_node(Node::Sub(l.number, r.number), g),
     }
 }
 
-#[tactic(auto, using(crate::proofs::RuleLaws::const_one), unfolding(semantics::specs::Graph::neg_rule))]
+#[tactic(auto, unfolding(semantics::specs::Graph::neg_rule, semantics::specs::Graph::if_constants))]
 pub fn neg_rule(x: Child, g: u32) -> Pick
-    ensures { pick_of result ≡ neg_rule prime x.number (view_of x) g }
+    ensures { pick_of result ≡ neg_rule prime x.number (shown_node x.node) g }
 {
-    match get_const(x) {
-        Some(a) => make_node(5, field::neg(a), 0, 0),
-        None => make_node(8, x.number, 0, g),
+    match x.node {
+        Node::Constant(a) => make_node(Node::Constant(field::neg(a)), 0),
+        _ => make_node(Node::Neg(x.number), g),
     }
 }
 
-#[tactic(auto, using(crate::proofs::RuleLaws::mul_is))]
+#[tactic(auto, unfolding(semantics::specs::Graph::mul_rule, semantics::specs::Graph::if_constants, semantics::specs::Graph::is_const))]
 pub fn mul_rule(l: Child, r: Child, g: u32) -> Pick
-    ensures { pick_of result ≡ mul_rule prime l.number r.number (view_of l) (view_of r) g }
+    ensures { pick_of result ≡ mul_rule prime l.number r.number (shown_node l.node) (shown_node r.node) g }
 {
-    if both_constant(l, r) {
-        return make_node(5, field::mul(l.a, r.a), 0, 0);
+    match (l.node, r.node) {
+        (Node::Constant(a), Node::Constant(b)) => make_node(Node::Constant(field::mul(a, b)), 0),
+        (Node::Constant(0), _) | (_, Node::Constant(1)) => Pick::Present(l.number),
+        (_, Node::Constant(0)) | (Node::Constant(1), _) => Pick::Present(r.number),
+        _ => make_node(Node::Mul(l.number, r.number), g),
     }
-    if is_const(l, 0) {
-        return Pick::Present(l.number);
-    }
-    if is_const(r, 1) {
-        return Pick::Present(l.number);
-    }
-    if is_const(r, 0) {
-        return Pick::Present(r.number);
-    }
-    if is_const(l, 1) {
-        return Pick::Present(r.number);
-    }
-    make_node(9, l.number, r.number, g)
 }

@@ -21,8 +21,9 @@ use Rattle.packed_var.specs.Packed.{entry_record, packed_outcome}
 use Rattle.packed_var.proofs.Answers.{packed_answer, number_told, outcome_is, answer_is}
 use Rattle.packing.specs.declared.leaf.Leaf.{Leaf}
 use Rattle.packing.specs.declared.leaf.Leaf.TheVariants.{Variable, IsFirstRow, IsLastRow, IsTransition}
-use Rattle.packing.specs.declared.Record.{Record}
-use Rattle.packing.specs.Leaves.{leaf_record, leaf_checked, leaf_answer, words_record, unpacked_outcome}
+use Rattle.records.specs.declared.Record.{Record}
+use Rattle.records.specs.Access.{five_words}
+use Rattle.packing.specs.Leaves.{leaf_record, leaf_checked, leaf_answer, unpacked_outcome}
 
 -- ---- the words of a leaf
 -- where the tests of a, b, c and d stop
@@ -104,14 +105,14 @@ unpacked_by false w = Err (record { reason = WrongRecord; place = 0 })
 abbrev words_told : Answer sheet.Record → Outcome
 words_told x = outcome [] [] (and_then x (λ r. result [] (record_words r)))
 
-by_told : (t : Bool) (w : Record) → unpacked_outcome (unpacked_by t w) ≡ words_told (cond t (good (words_record w)) (refused 5 0))
+by_told : (t : Bool) (w : Record) → unpacked_outcome (unpacked_by t w) ≡ words_told (cond t (good (five_words w)) (refused 5 0))
 unfolding outcome and_then result padded_all record_words
 by_told true w = refl
 by_told false w = refl
 
-pub unpack_by : (n : ℕ) (w : Record) (p : Result PackedVar Refusal) {q : Result PackedVar Refusal} {t : Bool} → words_record w ≡ unpacked n
-    → packed_outcome p ≡ pack_call (words_record w) → p ≡ q → hands_out (packed_answer q) n ≡ t → unpacked_outcome (unpacked_by t w) ≡ unpack_call n
+pub unpack_by : (n : ℕ) (w : Record) (p : Result PackedVar Refusal) {q : Result PackedVar Refusal} {t : Bool} → five_words w ≡ unpacked n
+    → packed_outcome p ≡ pack_call (five_words w) → p ≡ q → hands_out (packed_answer q) n ≡ t → unpacked_outcome (unpacked_by t w) ≡ unpack_call n
 unfolding pack_call unpack_call unpack
 unpack_by n w p {t = t} e a h k =
-    let u : cond t (good (words_record w)) (refused 5 0) ≡ unpack n = rw (← k, ← h, answer_is p a, e) in
+    let u : cond t (good (five_words w)) (refused 5 0) ≡ unpack n = rw (← k, ← h, answer_is p a, e) in
     by_told t w ∙ ap words_told u

@@ -14,7 +14,7 @@ use Rattle.answers.specs.declared.Refusal.{Refusal}
 use Rattle.packed_var.specs.Packed.{variable_record}
 use Rattle.packing.specs.declared.leaf.Leaf.{Leaf}
 use Rattle.packing.specs.declared.leaf.Leaf.TheVariants.{Variable, IsFirstRow, IsLastRow, IsTransition}
-use Rattle.packing.specs.declared.Record.{Record}
+use Rattle.records.specs.declared.Record.{Record}
 
 -- "1 Variable", "2 IsFirstRow, 3 IsLastRow, 4 IsTransition: none"
 abbrev pub leaf_record : Leaf → sheet.Record
@@ -40,9 +40,6 @@ leaf_of_variable e d = Ok (Variable (variable_of e d))
 -- A kind of row marks and its leaf.
 abbrev pub IsMark : ℕ → Leaf → Type 0
 IsMark k l = (2 ≤ k) × (k ≤ 4) × (leaf_record l ≡ record_of k 0 0 0 0)
-
-abbrev pub words_record : Record → sheet.Record
-words_record w = record_of w.kind w.a w.b w.c w.d
 
 -- "it gives the five words", or a number and a place.
 abbrev pub unpacked_reply : Result Record Refusal → Reply

@@ -1,9 +1,11 @@
-// The leaf that a record's five words encode: a variable or a row mark.
+// The leaf that a record encodes: a variable or a row mark.
 ghost use Rattle.std.specs.Prelude.{◌≡◌};
 ghost use Rattle.semantics.specs.Sheet.{record_of};
+ghost use Rattle.records.specs.Access.{five_words};
 ghost use Rattle.packing.specs.Leaves.{leaf_answer, leaf_checked, wrong_at, leaf_of_variable, IsMark};
 
 use answers::{Reason, Refusal};
+use records::Record;
 use symbolic_variable::{Entry, SymbolicVariable};
 
 #[derive(Clone, Copy, Debug, PartialEq, Eq)]
@@ -34,64 +36,69 @@ fn variable_of(entry: Entry, column: u32) -> Result<Leaf, Refusal>
 }
 
 // A variable's words: 0 preprocessed, 1 main, 2 challenge, 3 public; a part only for 1, an offset only for 0 and 1.
-fn variable(a: u32, b: u32, c: u32, d: u32) -> Result<Leaf, Refusal>
-    ensures { leaf_answer result ≡ leaf_checked (record_of 1 a b c d) }
+fn variable(q: Record) -> Result<Leaf, Refusal>
+    ensures { leaf_answer result ≡ leaf_checked (record_of 1 q.a q.b q.c q.d) }
 {
-    if 3 < a {
+    if 3 < q.a {
         return wrong(1);
     }
-    if a == 1 {
+    if q.a == 1 {
         return variable_of(
             Entry::Main {
-                part_index: b as usize,
-                offset: c as usize,
+                part_index: q.b as usize,
+                offset: q.c as usize,
             },
-            d,
+            q.d,
         );
     }
-    if b != 0 {
+    if q.b != 0 {
         return wrong(2);
     }
-    if a == 0 {
-        return variable_of(Entry::Preprocessed { offset: c as usize }, d);
+    if q.a == 0 {
+        return variable_of(
+            Entry::Preprocessed {
+                offset: q.c as usize,
+            },
+            q.d,
+        );
     }
-    if c != 0 {
+    if q.c != 0 {
         return wrong(3);
     }
-    if a == 2 {
-        return variable_of(Entry::Challenge, d);
+    if q.a == 2 {
+        return variable_of(Entry::Challenge, q.d);
     }
-    variable_of(Entry::Public, d)
+    variable_of(Entry::Public, q.d)
 }
 
 // A row mark, which uses no word.
-fn mark(kind: u32, leaf: Leaf, a: u32, b: u32, c: u32, d: u32) -> Result<Leaf, Refusal>
-    requires { IsMark kind leaf }
-    ensures { leaf_answer result ≡ leaf_checked (record_of kind a b c d) }
+fn mark(q: Record, leaf: Leaf) -> Result<Leaf, Refusal>
+    requires { IsMark q.kind leaf }
+    ensures { leaf_answer result ≡ leaf_checked (five_words q) }
 {
-    if a != 0 {
+    if q.a != 0 {
         return wrong(1);
     }
-    if b != 0 {
+    if q.b != 0 {
         return wrong(2);
     }
-    if c != 0 {
+    if q.c != 0 {
         return wrong(3);
     }
-    if d != 0 {
+    if q.d != 0 {
         return wrong(4);
     }
     Ok(leaf)
 }
 
-pub fn leaf_of(kind: u32, a: u32, b: u32, c: u32, d: u32) -> Result<Leaf, Refusal>
-    ensures { leaf_answer result ≡ leaf_checked (record_of kind a b c d) }
+pub fn leaf_of(q: Record) -> Result<Leaf, Refusal>
+    ensures { leaf_answer result ≡ leaf_checked (five_words q) }
 {
-    match kind {
-        1 => variable(a, b, c, d),
-        2 => mark(kind, Leaf::IsFirstRow, a, b, c, d),
-        3 => mark(kind, Leaf::IsLastRow, a, b, c, d),
-        4 => mark(kind, Leaf::IsTransition, a, b, c, d),
+    match q.kind {
+        1 => variable(q),
+        2 => mark(q, Leaf::IsFirstRow),
+        3 => mark(q, Leaf::IsLastRow),
+        4 => mark(q, Leaf::IsTransition),
         _ => wrong(0),
     }
 }

@@ -1,34 +1,25 @@
-// Packing and unpacking: from a record's five words to a packed variable, and back.
+// Packing and unpacking: from a record to a packed variable, and back.
 #![tactic(auto)]
 
 ghost use Rattle.std.specs.Prelude.{◌≡◌};
-ghost use Rattle.semantics.specs.Sheet.{record_of};
 ghost use Rattle.semantics.specs.Packing.{unpacked};
 ghost use Rattle.semantics.specs.Call.{pack_call, unpack_call};
 ghost use Rattle.packed_var.specs.Packed.{packed_outcome};
-ghost use Rattle.packing.specs.Leaves.{words_record, unpacked_outcome};
+ghost use Rattle.records.specs.Access.{five_words};
+ghost use Rattle.packing.specs.Leaves.{unpacked_outcome};
 
 use answers::{Reason, Refusal};
 use leaf::Leaf;
 use packed_var::PackedVar;
+use records::Record;
 
 mod leaf;
 
-// A record's five words.
-#[derive(Clone, Copy, Debug, PartialEq, Eq)]
-pub struct Record {
-    pub kind: u32,
-    pub a: u32,
-    pub b: u32,
-    pub c: u32,
-    pub d: u32,
-}
-
-// The packed number of the variable or row mark that a record's five words encode.
-pub fn pack(kind: u32, a: u32, b: u32, c: u32, d: u32) -> Result<PackedVar, Refusal>
-    ensures { packed_outcome result ≡ pack_call (record_of kind a b c d) }
+// The packed number of the variable or row mark that a record encodes.
+pub fn pack(q: Record) -> Result<PackedVar, Refusal>
+    ensures { packed_outcome result ≡ pack_call (five_words q) }
 {
-    let read = leaf::leaf_of(kind, a, b, c, d);
+    let read = leaf::leaf_of(q);
     let Ok(leaf) = read else {
         return Err(read.unwrap_err());
     };
@@ -40,9 +31,9 @@ pub fn pack(kind: u32, a: u32, b: u32, c: u32, d: u32) -> Result<PackedVar, Refu
     }
 }
 
-// The words that the bits of a packed variable are.
+// The record whose words the bits of a packed variable are.
 fn words_of(v: PackedVar) -> Record
-    ensures { words_record result ≡ unpacked v.0 }
+    ensures { five_words result ≡ unpacked v.0 }
 {
     let n = v.0;
     if 8 <= n % 16 {
@@ -69,12 +60,12 @@ const NOT_PACKED: Refusal = Refusal {
     place: 0,
 };
 
-// The words that pack to a number, where there are such.
+// The record that packs to a number, where there is one.
 pub fn unpack(v: PackedVar) -> Result<Record, Refusal>
     ensures { unpacked_outcome result ≡ unpack_call v.0 }
 {
     let words = words_of(v);
-    let Ok(again) = pack(words.kind, words.a, words.b, words.c, words.d) else {
+    let Ok(again) = pack(words) else {
         return Err(NOT_PACKED);
     };
     if again == v {

@@ -4,6 +4,7 @@ pub mod Visits
 pub mod Children
 pub mod Rooting
 pub mod Visited
-pub mod Interactions
+pub mod Named
+pub mod Standing
 pub mod Reading
 pub mod Writing

@@ -1,10 +1,10 @@
 -- The one law of a visit, whatever a walk keeps. P and Q are properties of the order of the records done: what holds of the walk's state
 -- before, and what holds after. A record that is done already changes nothing; another one is done after its children, which are visited one
 -- by one as roots are (`Visiting`); and where a visit of a child stops the walk, the rest changes nothing.
-use mathlib.Core.Path.{◌≡◌, refl, sym, ap, subst, ◌∙◌}
+use mathlib.Core.Path.{◌≡◌, sym, ap, subst}
 use mathlib.Core.Logic.{◌⊎◌, inl, inr}
 use mathlib.Core.Bool.{true, false}
-use mathlib.Core.List.{List, [], ◌∷◌, ◌++◌}
+use mathlib.Core.List.{List, ◌∷◌, ◌++◌}
 use Prim.Native.Nat.{ℕ, zero, suc, ◌<◌}
 use native.Mathlib.Omega.{arith}
 use lib.ListN.{length}
@@ -12,8 +12,7 @@ use Rattle.semantics.specs.Arithmetic.{prime}
 use Rattle.semantics.specs.Answer.{good}
 use Rattle.semantics.specs.Check.{read_sheet, check}
 use Rattle.semantics.specs.Walk.{Mem, Below, children_at, member, fold_left, visit, Reaches}
-use Rattle.semantics.proofs.Basics.{not_both}
-use Rattle.semantics.proofs.Walks.{fold_keeps, fold_same, by_seen, visit_has, fold_has, visit_fuel, visit_reach, reach_le}
+use Rattle.semantics.proofs.Walks.{fold_keeps, fold_same, by_seen, fold_has, visit_fuel, visit_reach, reach_le}
 use Rattle.semantics.proofs.Orders.{not_mem}
 use Rattle.records.specs.Access.{records_of}
 use Rattle.records.specs.Orders.{Order, There, Visiting, Visits, Finishes}
@@ -48,16 +47,6 @@ module _ (ws : List ℕ) where
         subst Q (sym (fold_append (visit ch E) done cs rest)) (fold_keeps Q (visit ch E) rest (λ u c _. stays_visit E u c) (walked done cs) (f done o h))
 
   module _ (checked : check prime ws ≡ good (read_sheet ws)) where
-    -- A root that is named twice in a row is visited once.
-    pub visiting_again : (P Q : List ℕ → Type 0) (x : ℕ) → x < E → Visiting ws (x ∷ x ∷ []) P Q → Visiting ws (x ∷ []) P Q
-    unfolding fold_left
-    visiting_again P Q x l f done o h = subst Q (again (visit ch E done x) (visit_has ch E done x l)) (f done o h)
-      where
-        again : (d : List ℕ) → Mem x d → visit ch E d x ≡ d
-        again d m =
-            visit_fuel ch (child_low ws checked) E (suc x) d x l (omega arith)
-            ∙ by_seen (λ (u : List ℕ). u ≡ d) ch x d x (λ _. refl) (λ e. not_both m e)
-
     module _ (r : ℕ) (l : r < E) where
       -- Some of the children, in any order, are visited: the order is one, the record is still not done, and where they are all, all are done.
       module _ (cs : List ℕ) (among : (c : ℕ) → Mem c cs → Mem c (ch r)) (done : List ℕ) where

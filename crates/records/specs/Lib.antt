@@ -1,2 +1,4 @@
 pub mod Access
+pub mod Named
+pub mod Nodes
 pub mod Orders

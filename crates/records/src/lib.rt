@@ -1,12 +1,17 @@
-// Record access: the one place that knows where a record's words, the constraints and the interactions stand in a sheet.
+// Record access: the one place that knows what a record's words mean, and where records, constraints and interactions stand in a sheet.
 #![tactic(auto)]
 
-ghost use Rattle.std.specs.Prelude.{◌≡◌, [], ◌∷◌, ◌+◌, ◌^◌, ◌≤◌, ◌<◌, length, get_or};
+ghost use Rattle.std.specs.Prelude.{◌≡◌, [], ◌∷◌, ◌+◌, ◌^◌, ◌≤◌, ◌<◌, length, slice_get};
 ghost use Rattle.std.proofs.lemmas.List.Edits.{sets};
 ghost use Rattle.semantics.specs.Sheet.{record_words, place};
 ghost use Rattle.semantics.specs.Check.{read_sheet};
+ghost use Rattle.semantics.specs.Value.{node_of};
+ghost use Rattle.semantics.specs.Walk.{children};
 ghost use Rattle.semantics.specs.Graph.{equal_records};
-ghost use Rattle.records.specs.Access.{IsSheet, five_words, node_in, constraints_at, interactions_at, message_length, interaction_from, part_at};
+ghost use Rattle.records.specs.Access.{IsSheet, five_words, node_in, records_of, constraints_at, interactions_at};
+ghost use Rattle.records.specs.Nodes.{shown_node, record_with, CarriesLeaf};
+
+pub mod interactions;
 
 // A record as five words.
 #[derive(Clone, Copy, Debug, PartialEq, Eq)]
@@ -16,6 +21,69 @@ pub struct Record {
     pub b: u32,
     pub c: u32,
     pub d: u32,
+}
+
+// What a record is: a leaf, with its record; a constant, with its value; or what is made of its children.
+#[derive(Clone, Copy, Debug, PartialEq, Eq)]
+pub enum Node {
+    Leaf(Record),
+    Constant(u32),
+    Add(u32, u32),
+    Sub(u32, u32),
+    Neg(u32),
+    Mul(u32, u32),
+}
+
+impl Record {
+    // What the record is, by its kind.
+    #[tactic(auto, unfolding(semantics::specs::Value::node_of))]
+    pub fn node(self) -> Node
+        ensures { (shown_node result ≡ node_of (five_words self)) × CarriesLeaf result self }
+    {
+        match self.kind {
+            5 => Node::Constant(self.a),
+            6 => Node::Add(self.a, self.b),
+            7 => Node::Sub(self.a, self.b),
+            8 => Node::Neg(self.a),
+            9 => Node::Mul(self.a, self.b),
+            _ => Node::Leaf(self),
+        }
+    }
+}
+
+impl Node {
+    // The record that is this node, with that degree where it has children.
+    pub fn record(self, degree: u32) -> Record
+        ensures { five_words result ≡ record_with self degree }
+    {
+        let (kind, a, b, c) = match self {
+            Node::Leaf(r) => return r,
+            Node::Constant(k) => (5, k, 0, 0),
+            Node::Add(l, r) => (6, l, r, degree),
+            Node::Sub(l, r) => (7, l, r, degree),
+            Node::Neg(x) => (8, x, 0, degree),
+            Node::Mul(l, r) => (9, l, r, degree),
+        };
+        Record {
+            kind,
+            a,
+            b,
+            c,
+            d: 0,
+        }
+    }
+
+    // Its i-th child: the left one, then the right one; a Neg has one.
+    #[tactic(auto, unfolding(semantics::specs::Walk::children))]
+    pub fn child(self, i: usize) -> Option<u32>
+        ensures { result ≡ slice_get (children (shown_node self)) i }
+    {
+        match (self, i) {
+            (Node::Add(x, _) | Node::Sub(x, _) | Node::Neg(x) | Node::Mul(x, _), 0) => Some(x),
+            (Node::Add(_, y) | Node::Sub(_, y) | Node::Mul(_, y), 1) => Some(y),
+            _ => None,
+        }
+    }
 }
 
 // Where the first n records end, and record n starts.
@@ -43,28 +111,13 @@ pub fn record_at(sheet: &[u32], r: usize) -> Record
     }
 }
 
-// The kind of record r.
-pub fn kind_at(sheet: &[u32], r: usize) -> u32
+// The i-th child of record r.
+pub fn child_at(sheet: &[u32], r: usize, i: usize) -> Option<usize>
     requires { place 5 r + 5 ≤ length sheet.now }
-    ensures { result ≡ (node_in sheet.now r).kind }
+    ensures { result ≡ slice_get (children (node_of (node_in sheet.now r))) i }
 {
-    record_at(sheet, r).kind
-}
-
-// Its left child, which is a Neg's only one.
-pub fn left_at(sheet: &[u32], r: usize) -> usize
-    requires { place 5 r + 5 ≤ length sheet.now }
-    ensures { result ≡ (node_in sheet.now r).a }
-{
-    record_at(sheet, r).a as usize
-}
-
-// Its right child.
-pub fn right_at(sheet: &[u32], r: usize) -> usize
-    requires { place 5 r + 5 ≤ length sheet.now }
-    ensures { result ≡ (node_in sheet.now r).b }
-{
-    record_at(sheet, r).b as usize
+    let child = record_at(sheet, r).node().child(i)?;
+    Some(child as usize)
 }
 
 // Whether record r is equal to q in all five words.
@@ -100,102 +153,53 @@ pub fn put_head(out: &mut [u32], records: usize, constraints: usize, interaction
     out[3] = interactions as u32;
 }
 
-// How many constraints a checked sheet has.
-pub fn num_constraints(sheet: &[u32]) -> usize
-    requires { IsSheet sheet.now }
-    ensures { result ≡ length (read_sheet sheet.now).constraints }
-{
-    sheet[2] as usize
+// The words of a sheet that passes the check.
+#[derive(Clone, Copy)]
+pub struct CheckedSheet<'a> {
+    pub words: &'a [u32],
+    ghost checked: { IsSheet words.now },
 }
 
-// How many interactions it has.
-pub fn num_interactions(sheet: &[u32]) -> usize
-    requires { IsSheet sheet.now }
-    ensures { result ≡ length (read_sheet sheet.now).interactions }
-{
-    sheet[3] as usize
-}
-
-// Where the constraints of a checked sheet start.
-pub fn constraints_at(sheet: &[u32]) -> usize
-    requires { IsSheet sheet.now }
-    ensures { result ≡ constraints_at sheet.now }
-{
-    records_end(sheet[1] as usize)
-}
-
-// Where its interactions start.
-pub fn interactions_at(sheet: &[u32]) -> usize
-    requires { IsSheet sheet.now }
-    ensures { result ≡ interactions_at sheet.now }
-{
-    constraints_at(sheet) + num_constraints(sheet)
-}
-
-// The constraints of a checked sheet, each the name of a record.
-pub fn constraints(sheet: &[u32]) -> &[u32]
-    requires { IsSheet sheet.now }
-    ensures { result.now ≡ (read_sheet sheet.now).constraints }
-{
-    &sheet[constraints_at(sheet)..interactions_at(sheet)]
-}
-
-// Where the words of an interaction stand: its count, its message's length, the message's fields, and what follows it.
-#[derive(Clone, Copy, Debug, PartialEq, Eq)]
-pub struct Interaction {
-    pub count: usize,
-    pub length: usize,
-    pub fields: usize,
-    pub message: usize,
-    pub next: usize,
-}
-
-// The interaction that starts at `at`, with a message of that length.
-pub fn interaction_from(at: usize, message: usize) -> Interaction
-    requires { at + (4 + message) < 2 ^ 63 }
-    ensures { result ≡ interaction_from at message }
-{
-    Interaction {
-        count: at + 2,
-        length: at + 3,
-        fields: at + 4,
-        message,
-        next: at + (4 + message),
+impl<'a> CheckedSheet<'a> {
+    // How many records it has.
+    pub fn num_records(self) -> usize
+        ensures { result ≡ length (records_of self.entry.words.now) }
+    {
+        self.words[1] as usize
     }
-}
 
-// The interaction that starts at `at` in the sheet.
-pub fn interaction_at(sheet: &[u32], at: usize) -> Interaction
-    requires { at + (4 + message_length sheet.now at) ≤ length sheet.now }
-    ensures { result ≡ interaction_from at (message_length sheet.now at) }
-{
-    interaction_from(at, sheet[at + 3] as usize)
-}
-
-// What is taken of an interaction: the record of its count, or those of its message's fields.
-#[derive(Clone, Copy, Debug, PartialEq, Eq)]
-pub enum Part {
-    Count,
-    Fields,
-}
-
-// The records that a part of the interaction that starts at `at` names.
-pub fn part_at(sheet: &[u32], at: usize, part: Part) -> &[u32]
-    requires { at + (4 + message_length sheet.now at) ≤ length sheet.now }
-    ensures { result.now ≡ part_at part sheet.now at }
-{
-    let x = interaction_at(sheet, at);
-    match part {
-        Part::Count => &sheet[x.count..x.count + 1],
-        Part::Fields => &sheet[x.fields..x.next],
+    // How many constraints.
+    fn num_constraints(self) -> usize
+        ensures { result ≡ length (read_sheet self.entry.words.now).constraints }
+    {
+        self.words[2] as usize
     }
-}
 
-// Copies the bus and the weight of the interaction that starts at `at` to the one that starts at `to`.
-pub fn copy_bus_and_weight(sheet: &[u32], at: usize, out: &mut [u32], to: usize)
-    requires { (at + 2 ≤ length sheet.now) × (to + 2 ≤ length out.old) }
-    ensures { out.new ≡ sets out.old to (get_or sheet.now at 0 ∷ get_or sheet.now (at + 1) 0 ∷ []) }
-{
-    out[to] = sheet[at];
-    out[to + 1] = sheet[at + 1];
+    // How many interactions.
+    pub fn num_interactions(self) -> usize
+        ensures { result ≡ length (read_sheet self.entry.words.now).interactions }
+    {
+        self.words[3] as usize
+    }
+
+    // Where the constraints start.
+    fn constraints_at(self) -> usize
+        ensures { result ≡ constraints_at self.entry.words.now }
+    {
+        records_end(self.num_records())
+    }
+
+    // Where the interactions start.
+    fn interactions_at(self) -> usize
+        ensures { result ≡ interactions_at self.entry.words.now }
+    {
+        self.constraints_at() + self.num_constraints()
+    }
+
+    // The constraints, each the name of a record.
+    pub fn constraints(self) -> &'a [u32]
+        ensures { result.now ≡ (read_sheet self.entry.words.now).constraints }
+    {
+        &self.words[self.constraints_at()..self.interactions_at()]
+    }
 }

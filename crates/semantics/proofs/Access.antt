@@ -3,8 +3,8 @@ use mathlib.Core.Path.{◌≡◌, refl, sym, ◌∙◌, ap}
 use mathlib.Core.List.{List, ◌++◌, flat_map, append_assoc}
 use Prim.Native.Nat.{ℕ, ◌+◌, ◌≤◌, ◌<◌}
 use native.Mathlib.Omega.{arith}
-use lib.ListN.{length, get_or, drop, replicate, length-append, get_or-append}
-use lib.Seq.{get_or-append-add, drop_at}
+use lib.ListN.{length, get_or, drop, replicate, length-append}
+use lib.Seq.{drop_at}
 use Rattle.semantics.specs.Answer.{good}
 use Rattle.semantics.specs.Sheet.{Sheet, record_words, interaction_words, head_words, encode, place}
 use Rattle.semantics.specs.Check.{check}
@@ -39,16 +39,6 @@ module _ (p : ℕ) (ws : List ℕ) (s : Sheet) (h : check p ws ≡ good s) where
 
   before_constraints : length (head_words s ++ flat_map record_words s.records) ≡ place 5 (length s.records)
   before_constraints = length-append (head_words s) (flat_map record_words s.records) ∙ omega (arith, four, records_end s.records)
-
-  -- Constraint j.
-  pub constraint_word : (j : ℕ) → j < length s.constraints → get_or ws (place 5 (length s.records) + j) 0 ≡ get_or s.constraints j 0
-  constraint_word j l =
-      ap (λ (u : List ℕ). get_or u (place 5 (length s.records) + j) 0)
-      (words_are ∙ sym (append_assoc (head_words s) (flat_map record_words s.records) _))
-      ∙ ap (λ (n : ℕ). get_or ((head_words s ++ flat_map record_words s.records) ++ (s.constraints ++ (flat_map interaction_words s.interactions ++ replicate spare 0))) (n + j) 0)
-      (sym before_constraints)
-      ∙ get_or-append-add (head_words s ++ flat_map record_words s.records) _ j 0
-      ∙ get_or-append s.constraints _ 0 j l
 
   -- The interactions, from where they start.
   pub interactions_from : drop (place 5 (length s.records) + length s.constraints) ws ≡ flat_map interaction_words s.interactions ++ replicate spare 0

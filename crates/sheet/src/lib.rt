@@ -9,6 +9,7 @@ ghost use Rattle.sheet.specs.Replies.{checked_outcome};
 mod scan;
 
 use answers::Refusal;
+use scan::Cursor;
 
 // What the check hands on of a sheet: the counts, where the interactions start, and the words without spare ones.
 #[derive(Clone, Copy, Debug, PartialEq, Eq)]
@@ -24,27 +25,27 @@ pub struct Head {
 pub fn check_sheet(s: &[u32]) -> Result<Head, Refusal>
     ensures { checked_outcome result ≡ check_call (prime_of s.now) s.now }
 {
-    let head = scan::check_head(s);
-    let Ok(first) = head else {
+    let mut cursor = Cursor::new(s);
+    let head = cursor.head();
+    let Ok((records, constraints, interactions)) = head else {
         return Err(head.unwrap_err());
     };
-    let records = s[1] as usize;
-    let constraints = s[2] as usize;
-    let interactions = s[3] as usize;
-    let all_records = scan::check_records(s, first, records);
-    let Ok(references) = all_records else {
+    let all_records = cursor.records(records);
+    let Ok(()) = all_records else {
         return Err(all_records.unwrap_err());
     };
-    let all_constraints = scan::check_references(s, references, constraints, records);
-    let Ok(start) = all_constraints else {
+    let all_constraints = cursor.references(constraints, records);
+    let Ok(()) = all_constraints else {
         return Err(all_constraints.unwrap_err());
     };
-    let all_interactions = scan::check_interactions(s, start, interactions, records);
-    let Ok(words) = all_interactions else {
+    let start = cursor.position();
+    let all_interactions = cursor.interactions(interactions, records);
+    let Ok(()) = all_interactions else {
         return Err(all_interactions.unwrap_err());
     };
-    let spare = scan::check_spare(s, words);
-    let Ok(_end) = spare else {
+    let words = cursor.position();
+    let spare = cursor.spare();
+    let Ok(()) = spare else {
         return Err(spare.unwrap_err());
     };
     Ok(Head {

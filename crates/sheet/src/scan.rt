@@ -1,12 +1,14 @@
 // The check from the front: the first word that fails decides.
-ghost use Rattle.std.specs.Prelude.{◌≡◌, Bool, List, ℕ, [], ◌∷◌, map, true, ◌+◌, ◌≤◌, eqb, leb, length, drop, replicate};
+ghost use Rattle.std.specs.Prelude.{◌≡◌, Bool, List, ℕ, [], ◌∷◌, map, true, leb, replicate};
 ghost use Rattle.semantics.specs.Arithmetic.{prime};
 ghost use Rattle.semantics.specs.Sheet.{fits, row, record_tests, interaction_tests, head_tests, refers};
-ghost use Rattle.semantics.specs.Check.{prime_of, reading, scan_words, scan_part, scan_parts, scan_spare};
+ghost use Rattle.semantics.specs.Check.{scan_words, scan_part, scan_parts, scan_spare};
 ghost use Rattle.answers.specs.Replies.{number_of};
-ghost use Rattle.sheet.specs.Scans.{scan_of, Ends, EndsAt, Judged, Callable, Scans, ScansAll, use_of, IsRow};
+ghost use Rattle.sheet.specs.Readings.{from};
+ghost use Rattle.sheet.specs.Scans.{scan_of, Read, Counts, Decides, Judges, use_of};
 
 use answers::{Reason, Refusal};
+use std::marker::Model;
 
 const PRIME: u32 = 2013265921;
 
@@ -50,239 +52,207 @@ fn word_fits(how: Use, own: usize, a: u32, w: u32) -> bool
     }
 }
 
-// The row of a kind, where there is one.
-fn row_of(kind: usize) -> Option<[Use; 4]>
-    ensures { IsRow kind result }
-{
-    if kind < 1 || 9 < kind {
-        return None;
-    }
-    Some(USES[kind - 1])
-}
-
-// One word, judged by a test.
-fn check_one<F: FnOnce(u32) -> bool>(
-    s: &[u32],
+// Where the reading of a sheet stands: the words that are left, and the index of the first of them.
+#[derive(Drop)]
+pub struct Cursor<'a> {
+    rest: &'a [u32],
     at: usize,
-    reason: Reason,
-    passes: F,
-) -> Result<usize, Refusal>
-    requires { (at ≤ length s.now) × F.IsAlwaysCallable passes }
-    ensures { Judged s.now at reason (F.post passes) result }
-{
-    if s.len() <= at {
-        return Err(Refusal {
-            reason: Reason::PastEnd,
-            place: at,
-        });
+}
+
+impl<'a> Model for Cursor<'a> {
+    ghost use Rattle.std.specs.Prelude.{◌+◌, ◌<◌, ◌^◌, length};
+    ghost use Rattle.sheet.specs.Readings.{Reading};
+
+    ghost Value = { Reading };
+
+    ghost view = { λ c. record { at = c.at; words = c.rest.now } };
+
+    ghost invariant = { λ c. c.at + length c.rest.now < 2 ^ 64 };
+}
+
+impl<'a> Cursor<'a> {
+    // At the first word of a sheet.
+    pub fn new(s: &'a [u32]) -> Self
+        ensures { result ≡ record { at = 0; words = s.now } }
+    {
+        Cursor { rest: s, at: 0 }
     }
-    if passes(s[at]) {
-        return Ok(at + 1);
+
+    pub fn position(&self) -> usize
+        ensures { result ≡ self.now.at }
+    {
+        self.at
     }
-    Err(Refusal { reason, place: at })
-}
 
-// One word of a record.
-fn check_word(s: &[u32], at: usize, how: Use, own: usize, a: u32) -> Result<usize, Refusal>
-    requires { at ≤ length s.now }
-    ensures { (scan_of s.now result ≡ scan_words 5 (fits (prime_of s.now) own a (use_of how) ∷ []) (reading at (drop at s.now)))
-        × Ends s.now result }
-{
-    check_one(s, at, Reason::WrongRecord, |w| word_fits(how, own, a, w))
-}
-
-// The words a to d of a record, used as the row of its kind says.
-fn check_row(s: &[u32], at: usize, row: [Use; 4], own: usize, a: u32) -> Result<usize, Refusal>
-    requires { at ≤ length s.now }
-    ensures { (scan_of s.now result ≡ scan_words 5 (map (fits (prime_of s.now) own a) (map use_of row)) (reading at (drop at s.now)))
-        × Ends s.now result }
-{
-    let mut next = at;
-    for how in row {
-        let r = check_word(s, next, how, own, a);
-        let Ok(n) = r else {
-            return r;
-        };
-        next = n;
-    }
-    Ok(next)
-}
-
-// A record: its kind, then its words a to d by the row of that kind.
-fn check_record(s: &[u32], at: usize, own: usize) -> Result<usize, Refusal>
-    requires { at ≤ length s.now }
-    ensures { (scan_of s.now result ≡ scan_part 5 (record_tests (prime_of s.now) own) (reading at (drop at s.now)))
-        × Ends s.now result }
-{
-    if s.len() <= at {
-        return Err(Refusal {
-            reason: Reason::PastEnd,
-            place: at,
-        });
-    }
-    let Some(row) = row_of(s[at] as usize) else {
-        return Err(Refusal {
-            reason: Reason::WrongRecord,
-            place: at,
-        });
-    };
-    let first = at + 1;
-    if s.len() <= first {
-        return Err(Refusal {
-            reason: Reason::PastEnd,
-            place: first,
-        });
-    }
-    check_row(s, first, row, own, s[first])
-}
-
-// Parts, one behind the other, each judged by its number.
-fn check_parts<F: Fn(usize, usize) -> Result<usize, Refusal>>(
-    s: &[u32],
-    at: usize,
-    count: usize,
-    check: F,
-) -> Result<usize, Refusal>
-    requires { (at ≤ length s.now) × Callable s.now (F.pre check) (F.post check) }
-    ensures { (n : ℕ) (tests : ℕ → List ℕ → List (ℕ → Bool)) → Scans s.now count n tests (F.post check)
-        → ScansAll s.now at count n tests result }
-{
-    let mut next = at;
-    for own in 0..count {
-        let r = check(next, own);
-        let Ok(n) = r else {
-            return r;
-        };
-        next = n;
-    }
-    Ok(next)
-}
-
-// The records, from the front.
-pub fn check_records(s: &[u32], at: usize, count: usize) -> Result<usize, Refusal>
-    requires { at ≤ length s.now }
-    ensures { (scan_of s.now result ≡ scan_parts 5 (record_tests (prime_of s.now)) count 0 (reading at (drop at s.now)))
-        × Ends s.now result }
-{
-    check_parts(s, at, count, |next, own| check_record(s, next, own))
-}
-
-// Words that name records, of which there are `records`.
-pub fn check_references(
-    s: &[u32],
-    at: usize,
-    count: usize,
-    records: usize,
-) -> Result<usize, Refusal>
-    requires { at ≤ length s.now }
-    ensures { (scan_of s.now result ≡ scan_words 6 (replicate count (refers records)) (reading at (drop at s.now)))
-        × Ends s.now result × EndsAt (at + count) result }
-{
-    for k in 0..count {
-        let r = check_one(s, at + k, Reason::WrongName, |w| (w as usize) < records);
-        let Ok(_next) = r else {
-            return r;
-        };
-    }
-    Ok(at + count)
-}
-
-// A word that is at most a limit.
-fn check_limit(s: &[u32], at: usize, reason: Reason, limit: u32) -> Result<usize, Refusal>
-    requires { at ≤ length s.now }
-    ensures { (scan_of s.now result ≡ scan_words (number_of reason) ((λ w. leb w limit) ∷ []) (reading at (drop at s.now)))
-        × Ends s.now result × EndsAt (at + 1) result }
-{
-    check_one(s, at, reason, |w| w <= limit)
-}
-
-// A word that may be any.
-fn check_any(s: &[u32], at: usize) -> Result<usize, Refusal>
-    requires { at ≤ length s.now }
-    ensures { (scan_of s.now result ≡ scan_words 6 ((λ w. true) ∷ []) (reading at (drop at s.now)))
-        × Ends s.now result × EndsAt (at + 1) result }
-{
-    check_one(s, at, Reason::WrongName, |_| true)
-}
-
-// An interaction: bus, weight, count, message length, then as many references as that says.
-fn check_interaction(s: &[u32], at: usize, records: usize) -> Result<usize, Refusal>
-    requires { at ≤ length s.now }
-    ensures { (scan_of s.now result ≡ scan_part 6 (interaction_tests records) (reading at (drop at s.now)))
-        × Ends s.now result }
-{
-    let bus = check_limit(s, at, Reason::WrongName, 65535);
-    let Ok(one) = bus else {
-        return bus;
-    };
-    let weight = check_any(s, one);
-    let Ok(two) = weight else {
-        return weight;
-    };
-    let count = check_references(s, two, 1, records);
-    let Ok(three) = count else {
-        return count;
-    };
-    let length = check_limit(s, three, Reason::WrongName, 63);
-    let Ok(four) = length else {
-        return length;
-    };
-    check_references(s, four, s[three] as usize, records)
-}
-
-// The interactions, from the front.
-pub fn check_interactions(
-    s: &[u32],
-    at: usize,
-    count: usize,
-    records: usize,
-) -> Result<usize, Refusal>
-    requires { at ≤ length s.now }
-    ensures { (scan_of s.now result ≡ scan_parts 6 (λ own. interaction_tests records) count 0 (reading at (drop at s.now)))
-        × Ends s.now result }
-{
-    check_parts(s, at, count, |next, _| check_interaction(s, next, records))
-}
-
-// The spare words: at most 126, all zero.
-pub fn check_spare(s: &[u32], at: usize) -> Result<usize, Refusal>
-    requires { at ≤ length s.now }
-    ensures { scan_of s.now result ≡ scan_spare 126 (reading at (drop at s.now)) }
-{
-    for i in at..s.len() {
-        if at + 126 <= i || s[i] != 0 {
+    // One word, judged by a test.
+    fn word<F: FnOnce(u32) -> bool>(&mut self, reason: Reason, test: F) -> Result<u32, Refusal>
+        requires { F.IsAlwaysCallable test }
+        ensures scan { (t : ℕ → Bool) → Decides (F.post test) t
+            → scan_of result self.new ≡ scan_words (number_of reason) (t ∷ []) (from self.old) }
+        ensures word { Read result self.old self.new }
+    {
+        let Some((word, rest)) = self.rest.split_first() else {
             return Err(Refusal {
-                reason: Reason::WrongSpare,
-                place: i,
+                reason: Reason::PastEnd,
+                place: self.at,
+            });
+        };
+        let word = *word;
+        if !test(word) {
+            return Err(Refusal {
+                reason,
+                place: self.at,
             });
         }
+        self.rest = rest;
+        self.at += 1;
+        Ok(word)
     }
-    Ok(s.len())
-}
 
-// The form is 1.
-fn check_form(s: &[u32]) -> Result<usize, Refusal>
-    ensures { (scan_of s.now result ≡ scan_words 3 ((λ w. eqb w 1) ∷ []) (reading 0 s.now))
-        × Ends s.now result × EndsAt 1 result }
-{
-    check_one(s, 0, Reason::WrongHead, |w| w == 1)
-}
+    // A word that is at most a limit.
+    fn at_most(&mut self, reason: Reason, limit: u32) -> Result<u32, Refusal>
+        ensures scan { scan_of result self.new ≡ scan_words (number_of reason) ((λ w. leb w limit) ∷ []) (from self.old) }
+        ensures word { Read result self.old self.new }
+    {
+        self.word(reason, |w| w <= limit)
+    }
 
-// The head: form, records, constraints, interactions.
-pub fn check_head(s: &[u32]) -> Result<usize, Refusal>
-    ensures { (scan_of s.now result ≡ scan_words 3 head_tests (reading 0 s.now)) × Ends s.now result × EndsAt 4 result }
-{
-    let form = check_form(s);
-    let Ok(one) = form else {
-        return form;
-    };
-    let records = check_limit(s, one, Reason::WrongHead, 4096);
-    let Ok(two) = records else {
-        return records;
-    };
-    let constraints = check_limit(s, two, Reason::WrongHead, 1024);
-    let Ok(three) = constraints else {
-        return constraints;
-    };
-    check_limit(s, three, Reason::WrongHead, 1024)
+    // A word that names one of `records` records.
+    fn name(&mut self, records: usize) -> Result<u32, Refusal>
+        ensures scan { scan_of result self.new ≡ scan_words 6 (refers records ∷ []) (from self.old) }
+        ensures word { Read result self.old self.new }
+    {
+        self.word(Reason::WrongName, |w| (w as usize) < records)
+    }
+
+    // The head: form, records, constraints, interactions; of these the three counts.
+    pub fn head(&mut self) -> Result<(usize, usize, usize), Refusal>
+        ensures scan { scan_of result self.new ≡ scan_words 3 head_tests (from self.old) }
+        ensures counts { Counts result self.old self.new }
+    {
+        let form = self.word(Reason::WrongHead, |w| w == 1);
+        let Ok(_form) = form else {
+            return Err(form.unwrap_err());
+        };
+        let records = self.at_most(Reason::WrongHead, 4096);
+        let Ok(e) = records else {
+            return Err(records.unwrap_err());
+        };
+        let constraints = self.at_most(Reason::WrongHead, 1024);
+        let Ok(c) = constraints else {
+            return Err(constraints.unwrap_err());
+        };
+        let interactions = self.at_most(Reason::WrongHead, 1024);
+        let Ok(i) = interactions else {
+            return Err(interactions.unwrap_err());
+        };
+        Ok((e as usize, c as usize, i as usize))
+    }
+
+    // The words a to d of a record, used as the row of its kind says.
+    fn row(&mut self, row: [Use; 4], own: usize, a: u32) -> Result<(), Refusal>
+        ensures { scan_of result self.new ≡ scan_words 5 (map (fits prime own a) (map use_of row)) (from self.old) }
+    {
+        for how in row {
+            let word = self.word(Reason::WrongRecord, |w| word_fits(how, own, a, w));
+            let Ok(_word) = word else {
+                return Err(word.unwrap_err());
+            };
+        }
+        Ok(())
+    }
+
+    // A record: its kind, then its words a to d by the row of that kind. Where no word a is left, the row refuses.
+    fn record(&mut self, own: usize) -> Result<(), Refusal>
+        ensures { scan_of result self.new ≡ scan_part 5 (record_tests prime own) (from self.old) }
+    {
+        let kind = self.word(Reason::WrongRecord, |w| 1 <= w && w <= 9);
+        let Ok(k) = kind else {
+            return Err(kind.unwrap_err());
+        };
+        let a = self.rest.first().copied().unwrap_or(0);
+        self.row(USES[k as usize - 1], own, a)
+    }
+
+    // Parts, one behind the other, each judged by its number.
+    fn parts<F: Fn(&mut Cursor, usize) -> Result<(), Refusal>>(
+        &mut self,
+        count: usize,
+        check: F,
+    ) -> Result<(), Refusal>
+        requires { F.IsAlwaysCallable check }
+        ensures { (n : ℕ) (tests : ℕ → List ℕ → List (ℕ → Bool)) → Judges n tests count (F.post check)
+            → scan_of result self.new ≡ scan_parts n tests count 0 (from self.old) }
+    {
+        for own in 0..count {
+            let part = check(self, own);
+            let Ok(()) = part else {
+                return part;
+            };
+        }
+        Ok(())
+    }
+
+    // The records, from the front.
+    pub fn records(&mut self, count: usize) -> Result<(), Refusal>
+        ensures { scan_of result self.new ≡ scan_parts 5 (record_tests prime) count 0 (from self.old) }
+    {
+        self.parts(count, |cursor, own| cursor.record(own))
+    }
+
+    // Words that name records, of which there are `records`.
+    pub fn references(&mut self, count: usize, records: usize) -> Result<(), Refusal>
+        ensures { scan_of result self.new ≡ scan_words 6 (replicate count (refers records)) (from self.old) }
+    {
+        for _k in 0..count {
+            let name = self.name(records);
+            let Ok(_name) = name else {
+                return Err(name.unwrap_err());
+            };
+        }
+        Ok(())
+    }
+
+    // An interaction: bus, weight, count, message length, then as many references as that says.
+    fn interaction(&mut self, records: usize) -> Result<(), Refusal>
+        ensures { scan_of result self.new ≡ scan_part 6 (interaction_tests records) (from self.old) }
+    {
+        let bus = self.at_most(Reason::WrongName, 65535);
+        let Ok(_bus) = bus else {
+            return Err(bus.unwrap_err());
+        };
+        let weight = self.word(Reason::WrongName, |_| true);
+        let Ok(_weight) = weight else {
+            return Err(weight.unwrap_err());
+        };
+        let count = self.name(records);
+        let Ok(_count) = count else {
+            return Err(count.unwrap_err());
+        };
+        let length = self.at_most(Reason::WrongName, 63);
+        let Ok(n) = length else {
+            return Err(length.unwrap_err());
+        };
+        self.references(n as usize, records)
+    }
+
+    // The interactions, from the front.
+    pub fn interactions(&mut self, count: usize, records: usize) -> Result<(), Refusal>
+        ensures { scan_of result self.new ≡ scan_parts 6 (λ own. interaction_tests records) count 0 (from self.old) }
+    {
+        self.parts(count, |cursor, _| cursor.interaction(records))
+    }
+
+    // The spare words: at most 126, all zero.
+    pub fn spare(&mut self) -> Result<(), Refusal>
+        ensures { scan_of result self.new ≡ scan_spare 126 (from self.old) }
+    {
+        for k in 0..self.rest.len() {
+            let word = self.word(Reason::WrongSpare, |w| k < 126 && w == 0);
+            let Ok(_word) = word else {
+                return Err(word.unwrap_err());
+            };
+        }
+        Ok(())
+    }
 }

@@ -10,15 +10,15 @@ use Rattle.semantics.specs.Sheetlist.{decimal, line, refused_text, cons_text, in
 use Rattle.std.specs.Prelude.{Result, Ok, Err}
 use Rattle.answers.specs.declared.Refusal.{Refusal}
 use Rattle.answers.specs.Replies.{number_of}
-use Rattle.listing.specs.declared.headers.Family.{Family}
-use Rattle.listing.specs.declared.headers.Family.TheVariants.{Constraints, Numerators, Denominators}
+use Rattle.grouping.specs.declared.Family.{Family}
+use Rattle.grouping.specs.declared.Family.TheVariants.{Constraints, Counts, Fields}
 use Rattle.listing.specs.Families.{width_of, family_lines, HeadersInside}
 use Rattle.listing.proofs.Steps.{expands_constraints, expands_interactions, step_on, constraint_prints, interaction_prints}
 use Rattle.listing.proofs.Handing.{constraints_handed, numerators_handed, denominators_handed}
 use Rattle.grouping.specs.declared.Lengths.{Lengths}
 use Rattle.interaction_lists.specs.declared.InteractionLengths.{InteractionLengths}
 use Rattle.expansion.specs.Answers.{constraint_outcome, interaction_outcome}
-use Rattle.sheet_listing.specs.Fronts.{front_lines, Fronts, both_lines}
+use Rattle.sheet_listing.specs.Fronts.{front_lines, Fronts}
 use Rattle.sheet_listing.proofs.Sounds.{Sound, constraint_sound, interaction_sound, output_refused}
 
 -- Lists handed back from k on, by a call whose scratch is work and pool.
@@ -122,34 +122,38 @@ module _ (graph : List ℕ) (r : Result InteractionLengths Refusal) (work pool h
     slice_at : (k : ℕ) → get_or (expands_interactions graph).slices k [] ≡ get_or (work ∷ pool ∷ hs ∷ vs ∷ ts ∷ hs' ∷ vs' ∷ ts' ∷ []) k []
     slice_at k = ap (λ (u : Outcome). get_or u.slices k []) both_written
 
-    numerator_fronts : Fronts Numerators n.numerators hs vs ts
+    numerator_fronts : Fronts Counts n.numerators hs vs ts
     numerator_fronts =
-        fronts Numerators (expands_interactions graph) both_sound 0 n.numerators hs vs ts (omega (arith, eight)) (count_at 0) (count_at 1) (count_at 2) (slice_at 2) (slice_at 3) (slice_at 4)
+        fronts Counts (expands_interactions graph) both_sound 0 n.numerators hs vs ts (omega (arith, eight)) (count_at 0) (count_at 1) (count_at 2) (slice_at 2) (slice_at 3) (slice_at 4)
         (numerators_handed prime graph 4096 4096 512 512 512 128 171 (omega arith) (omega arith) both_accepted).inside
 
-    denominator_fronts : Fronts Denominators n.denominators hs' vs' ts'
+    denominator_fronts : Fronts Fields n.denominators hs' vs' ts'
     denominator_fronts =
-        fronts Denominators (expands_interactions graph) both_sound 3 n.denominators hs' vs' ts' (omega (arith, eight)) (count_at 3) (count_at 4) (count_at 5) (slice_at 5) (slice_at 6) (slice_at 7)
+        fronts Fields (expands_interactions graph) both_sound 3 n.denominators hs' vs' ts' (omega (arith, eight)) (count_at 3) (count_at 4) (count_at 5) (slice_at 5) (slice_at 6) (slice_at 7)
         (denominators_handed prime graph 4096 4096 512 512 512 128 171 (omega arith) (omega arith) both_accepted).inside
 
-    numerators_back : family_lines Numerators (handed_back 2 (expands_interactions graph) 0) (handed_back 2 (expands_interactions graph) 1) (handed_back 2 (expands_interactions graph) 2)
-        ≡ front_lines Numerators n.numerators hs vs ts
+    numerators_back : family_lines Counts (handed_back 2 (expands_interactions graph) 0) (handed_back 2 (expands_interactions graph) 1) (handed_back 2 (expands_interactions graph) 2)
+        ≡ front_lines Counts n.numerators hs vs ts
     numerators_back =
-        lines_back Numerators (expands_interactions graph) both_sound 0 n.numerators hs vs ts (omega (arith, eight))
+        lines_back Counts (expands_interactions graph) both_sound 0 n.numerators hs vs ts (omega (arith, eight))
         (count_at 0) (count_at 1) (count_at 2) (slice_at 2) (slice_at 3) (slice_at 4)
 
-    denominators_back : family_lines Denominators (handed_back 2 (expands_interactions graph) 3) (handed_back 2 (expands_interactions graph) 4) (handed_back 2 (expands_interactions graph) 5)
-        ≡ front_lines Denominators n.denominators hs' vs' ts'
+    denominators_back : family_lines Fields (handed_back 2 (expands_interactions graph) 3) (handed_back 2 (expands_interactions graph) 4) (handed_back 2 (expands_interactions graph) 5)
+        ≡ front_lines Fields n.denominators hs' vs' ts'
     denominators_back =
-        lines_back Denominators (expands_interactions graph) both_sound 3 n.denominators hs' vs' ts' (omega (arith, eight))
+        lines_back Fields (expands_interactions graph) both_sound 3 n.denominators hs' vs' ts' (omega (arith, eight))
         (count_at 3) (count_at 4) (count_at 5) (slice_at 5) (slice_at 6) (slice_at 7)
 
-    interaction_joins : both_lines n hs vs ts hs' vs' ts' ≡ interaction_step prime graph
+    -- What numerators, denominators and the last line print.
+    abbrev both_lines : List ℕ
+    both_lines = front_lines Counts n.numerators hs vs ts ++ (front_lines Fields n.denominators hs' vs' ts' ++ line (end_text ∷ []))
+
+    interaction_joins : both_lines ≡ interaction_step prime graph
     interaction_joins =
         (λ i. sym numerators_back i ++ (sym denominators_back i ++ line (end_text ∷ [])))
         ∙ interaction_prints (expands_interactions graph)
         ∙ step_on inter_text (expands_interactions graph) _ both_accepted
 
-    pub interactions_written : Fronts Numerators n.numerators hs vs ts × Fronts Denominators n.denominators hs' vs' ts'
-        × (both_lines n hs vs ts hs' vs' ts' ≡ interaction_step prime graph)
+    pub interactions_written : Fronts Counts n.numerators hs vs ts × Fronts Fields n.denominators hs' vs' ts'
+        × (both_lines ≡ interaction_step prime graph)
     interactions_written = (numerator_fronts, denominator_fronts, interaction_joins)

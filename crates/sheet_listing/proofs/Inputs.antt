@@ -1,10 +1,11 @@
 -- The whole slice that a listing fills, and what is read of an input.
 use mathlib.Core.Path.{◌≡◌, refl, sym, ap, ◌∙◌}
 use mathlib.Core.List.{List, ◌++◌}
-use Prim.Native.Nat.{ℕ, ◌+◌, ◌-◌, ◌≤◌}
+use Prim.Native.Nat.{ℕ, ◌+◌, ◌-◌, ◌≤◌, min}
 use native.Mathlib.Omega.{arith}
 use lib.ListN.{length, take, drop, replicate, length-append, length-take}
 use lib.Seq.{take_at, take_all}
+use Rattle.std.proofs.lemmas.List.{take_min}
 use Rattle.semantics.specs.Arithmetic.{prime}
 use Rattle.semantics.specs.Call.{zeros, padded}
 use Rattle.semantics.specs.Sheetlist.{most_read, sheetlist}
@@ -42,8 +43,11 @@ unfolding padded zeros
 printed_fits ws lent e f = omega (arith, f, ap length e, length-append ws (replicate (lent - length ws) 0))
 
 -- What is read of an input prints what the input does.
-pub read_prints : (buffer : List ℕ) (n : ℕ) → length buffer ≡ most_read → (input : List ℕ) → ReadOf buffer n input → sheetlist prime (take n buffer) ≡ sheetlist prime input
-read_prints buffer n long input h = ap (sheetlist prime) (h ∙ ap (λ (k : ℕ). take k input) long) ∙ reads_enough prime input
+pub read_prints : (buffer : List ℕ) (n : ℕ) {m : ℕ} → length buffer ≡ most_read → m ≡ min n most_read → (input : List ℕ) → ReadOf buffer n input
+    → sheetlist prime (take m buffer) ≡ sheetlist prime input
+read_prints buffer n long is input h =
+    ap (sheetlist prime) (ap (λ (k : ℕ). take k buffer) (is ∙ ap (min n) (sym long)) ∙ take_min n buffer ∙ h ∙ ap (λ (k : ℕ). take k input) long)
+    ∙ reads_enough prime input
 
 -- What was read is an input of which it was read.
 pub read_itself : (buffer : List ℕ) (n : ℕ) → ReadOf buffer n (take n buffer)

@@ -1,82 +1,36 @@
 // What `sheetlist` prints, step by step; a refusal ends the output.
 #![tactic(auto)]
 
-ghost use Rattle.std.specs.Prelude.{◌≡◌, List, ℕ, ◌<◌, length, take, IfOk, IfSome, OnOk};
+ghost use Rattle.std.specs.Prelude.{◌≡◌, List, ℕ, ◌<◌, length, IfOk, IfSome, OnOk};
 ghost use Rattle.std.specs.Io.KnownBytes.{Appends};
 ghost use Rattle.semantics.specs.Arithmetic.{prime};
 ghost use Rattle.semantics.specs.Call.{padded};
 ghost use Rattle.semantics.specs.Sheetlist.{interaction_step, constraint_step, graph_lines, sheet_lines, sheetlist};
 ghost use Rattle.semantics.specs.Check.{prime_of};
 ghost use Rattle.listing.specs.Putting.{Room, Writes};
-ghost use Rattle.sheet_listing.specs.Fronts.{front_lines, Fronts, both_lines, BothFronts};
+ghost use Rattle.sheet_listing.specs.Fronts.{front_lines, Fronts};
 ghost use Rattle.sheet_listing.specs.Inputs.{ReadOf};
 
 use answers::{Reason, Refusal};
-use grouping::Lengths;
-use interaction_lists::InteractionLengths;
-use listing::headers::Family;
+use grouping::{Family, Lengths};
+use listing::headers::Lists;
 use listing::output::Out;
-use listing::{headers, lines};
 use std::io;
 use std::io::{Read, Write};
 
-// The headers of a family, from the front of three slices.
-fn put_lists(
-    out: &mut Out,
-    family: Family,
-    n: Lengths,
-    headers: &[u32],
-    variables: &[u32],
-    terms: &[u32],
-)
-    requires { Fronts family n headers.now variables.now terms.now
-        × Room out.old (front_lines family n headers.now variables.now terms.now) }
-    ensures { Writes out.old (front_lines family n headers.now variables.now terms.now)
-        out.new }
-{
-    let h = n.headers;
-    let v = n.variables;
-    let t = n.terms;
-    headers::put_headers(out, family, &headers[..h], &variables[..v], &terms[..t])
-}
-
-// Numerators, denominators and the last line.
-fn put_both_lists(
-    out: &mut Out,
-    n: InteractionLengths,
-    headers: &[u32],
-    variables: &[u32],
-    terms: &[u32],
-    denom_headers: &[u32],
-    denom_variables: &[u32],
-    denom_terms: &[u32],
-)
-    requires { BothFronts n headers.now variables.now terms.now
-        denom_headers.now denom_variables.now denom_terms.now out.old }
+// What a family's lists print, as far as they are written.
+fn put_lists(out: &mut Out, family: Family, n: Lengths, lists: Lists)
+    requires { Fronts family n lists.headers.now lists.variables.now lists.terms.now
+        × Room out.old (front_lines family n lists.headers.now lists.variables.now lists.terms.now) }
     ensures { Writes out.old
-        (both_lines n headers.now variables.now terms.now
-        denom_headers.now denom_variables.now denom_terms.now)
-        out.new }
+        (front_lines family n lists.entry.headers.now lists.entry.variables.now lists.entry.terms.now) out.new }
 {
-    let numerators = n.numerators;
-    let denominators = n.denominators;
-    put_lists(
-        out,
-        Family::Numerators,
-        numerators,
-        headers,
-        variables,
-        terms,
-    );
-    put_lists(
-        out,
-        Family::Denominators,
-        denominators,
-        denom_headers,
-        denom_variables,
-        denom_terms,
-    );
-    lines::put_end(out)
+    let written = Lists {
+        headers: &lists.headers[..n.headers],
+        variables: &lists.variables[..n.variables],
+        terms: &lists.terms[..n.terms],
+    };
+    out.put_headers(family, written)
 }
 
 // What the graph's interactions print.
@@ -104,18 +58,21 @@ fn put_interactions(out: &mut Out, graph: &[u32])
         &mut denom_terms,
     );
     let Ok(n) = lists else {
-        return lines::put_refused(out, b"inter", lists.unwrap_err());
+        return out.put_refused(b"inter", lists.unwrap_err());
     };
-    put_both_lists(
-        out,
-        n,
-        &headers,
-        &variables,
-        &terms,
-        &denom_headers,
-        &denom_variables,
-        &denom_terms,
-    )
+    let numerators = Lists {
+        headers: &headers,
+        variables: &variables,
+        terms: &terms,
+    };
+    let denominators = Lists {
+        headers: &denom_headers,
+        variables: &denom_variables,
+        terms: &denom_terms,
+    };
+    put_lists(out, Family::Counts, n.numerators, numerators);
+    put_lists(out, Family::Fields, n.denominators, denominators);
+    out.put_end()
 }
 
 // What the graph's constraints print, and what comes after them.
@@ -137,9 +94,14 @@ fn put_constraints(out: &mut Out, graph: &[u32])
         &mut terms,
     );
     let Ok(n) = lists else {
-        return lines::put_refused(out, b"cons", lists.unwrap_err());
+        return out.put_refused(b"cons", lists.unwrap_err());
     };
-    put_lists(out, Family::Constraints, n, &headers, &variables, &terms);
+    let constraints = Lists {
+        headers: &headers,
+        variables: &variables,
+        terms: &terms,
+    };
+    put_lists(out, Family::Constraints, n, constraints);
     put_interactions(out, graph)
 }
 
@@ -150,9 +112,9 @@ fn put_graph(out: &mut Out, graph: &[u32])
 {
     let rotated = sheet_calls::max_rotation(graph);
     let Ok(rotation) = rotated else {
-        return lines::put_refused(out, b"dag", rotated.unwrap_err());
+        return out.put_refused(b"dag", rotated.unwrap_err());
     };
-    lines::put_dag_line(out, graph[1], graph[2], rotation);
+    out.put_dag_line(graph[1], graph[2], rotation);
     put_constraints(out, graph)
 }
 
@@ -165,7 +127,7 @@ fn put_sheet(out: &mut Out, sheet: &[u32])
     let mut graph = [0u32; 1016];
     let built = dag::build(sheet, &mut scratch, &mut graph);
     let Ok(n) = built else {
-        return lines::put_refused(out, b"dag", built.unwrap_err());
+        return out.put_refused(b"dag", built.unwrap_err());
     };
     put_graph(out, &graph[..n])
 }
@@ -182,12 +144,12 @@ fn put_bytes(out: &mut Out, bytes: &[u8])
     ensures { Writes out.old (sheetlist prime bytes.now) out.new }
 {
     if 4096 < bytes.len() {
-        return lines::put_refused(out, b"read", TOO_MANY_BYTES);
+        return out.put_refused(b"read", TOO_MANY_BYTES);
     }
     let mut sheet = [0u32; 1016];
     let read = block_reader::read_blocks(bytes, &mut sheet);
     let Ok(n) = read else {
-        return lines::put_refused(out, b"read", read.unwrap_err());
+        return out.put_refused(b"read", read.unwrap_err());
     };
     put_sheet(out, &sheet[..n])
 }
@@ -203,23 +165,12 @@ pub fn list_sheet(bytes: &[u8], out: &mut [u8; 65536]) -> usize
     printed
 }
 
-// The same for the first n bytes, or for all of them where there are fewer.
-fn list_front(bytes: &[u8], n: usize, out: &mut [u8; 65536]) -> usize
-    ensures { (out.new ≡ padded (sheetlist prime (take n bytes.now)) 65536)
-        × (result ≡ length (sheetlist prime (take n bytes.now))) }
-{
-    if bytes.len() < n {
-        return list_sheet(bytes, out);
-    }
-    list_sheet(&bytes[..n], out)
-}
-
 // The same for an input of which n bytes were read: all of it, or as much as the buffer takes.
 pub fn list_read(buffer: &[u8; 4097], n: usize, out: &mut [u8; 65536]) -> usize
     ensures { (input : List ℕ) → ReadOf buffer.now n input
         → (out.new ≡ padded (sheetlist prime input) 65536) × (result ≡ length (sheetlist prime input)) }
 {
-    list_front(buffer, n, out)
+    list_sheet(&buffer[..n.min(buffer.len())], out)
 }
 
 // Reads until the buffer is full or the input ends, and hands back how many bytes went to the buffer's front.

@@ -14,12 +14,13 @@ use c_replies::{
     SuhkelvaBlock, SuhkelvaNumber, SuhkelvaPacked, SuhkelvaRecord, SuhkelvaSheet, SuhkelvaWritten,
 };
 use packed_var::PackedVar;
+use records::Record;
 
 #[unsafe(no_mangle)]
 pub extern "C" fn suhkelva_pack(kind: u32, a: u32, b: u32, c: u32, d: u32) -> SuhkelvaPacked
     ensures { Handed packed_fields result [] (pack_call (record_of kind a b c d)) }
 {
-    c_replies::packed_fields(packing::pack(kind, a, b, c, d))
+    c_replies::packed_fields(packing::pack(Record { kind, a, b, c, d }))
 }
 
 #[unsafe(no_mangle)]

@@ -2,7 +2,7 @@
 #![tactic(auto)]
 
 ghost use Rattle.std.specs.Prelude.{◌≡◌};
-ghost use Rattle.symbolic_variable.specs.Variable.{offset_moved, entry_rotated, variable_of, degree_multiple};
+ghost use Rattle.symbolic_variable.specs.Variable.{entry_words, offset_moved, entry_rotated, variable_of, degree_multiple};
 ghost use Rattle.symbolic_variable.specs.Replies.{offset_outcome, offset_call, rotated_outcome, rotate_call, rotated_variable_outcome, rotate_variable_call};
 ghost use Rattle.answers.specs.Replies.{answer_of};
 
@@ -35,17 +35,25 @@ fn moved(offset: usize, by: usize) -> Result<usize, Refusal>
 }
 
 impl Entry {
+    #[tactic(auto, unfolding(crate::specs::Replies::offset_call, semantics::specs::Call::outcome, semantics::specs::Call::result, semantics::specs::Call::padded_all))]
     pub fn offset(self) -> Option<usize>
         ensures { offset_outcome result ≡ offset_call self }
     {
         match self {
-            Entry::Preprocessed { offset } => Some(offset),
-            Entry::Main {
-                part_index: _,
-                offset,
-            } => Some(offset),
-            Entry::Public => None,
-            Entry::Challenge => None,
+            Entry::Preprocessed { offset } | Entry::Main { offset, .. } => Some(offset),
+            Entry::Public | Entry::Challenge => None,
+        }
+    }
+
+    // Three numbers: 0 preprocessed, 1 main, 2 challenge, 3 public; part; offset. 0 stands where there is no such number.
+    fn words(self) -> [usize; 3]
+        ensures { result ≡ entry_words self }
+    {
+        match self {
+            Entry::Preprocessed { offset } => [0, 0, offset],
+            Entry::Main { part_index, offset } => [1, part_index, offset],
+            Entry::Challenge => [2, 0, 0],
+            Entry::Public => [3, 0, 0],
         }
     }
 
@@ -71,8 +79,7 @@ impl Entry {
                 };
                 Ok(Entry::Main { part_index, offset })
             }
-            Entry::Public => Ok(self),
-            Entry::Challenge => Ok(self),
+            Entry::Public | Entry::Challenge => Ok(self),
         }
     }
 
@@ -101,13 +108,8 @@ impl SymbolicVariable {
         ensures { result ≡ degree_multiple self.entry }
     {
         match self.entry {
-            Entry::Preprocessed { offset: _ } => 1,
-            Entry::Main {
-                part_index: _,
-                offset: _,
-            } => 1,
-            Entry::Public => 0,
-            Entry::Challenge => 0,
+            Entry::Preprocessed { .. } | Entry::Main { .. } => 1,
+            Entry::Public | Entry::Challenge => 0,
         }
     }
 
@@ -131,20 +133,28 @@ impl SymbolicVariable {
     }
 }
 
-// Three numbers: 0 preprocessed, 1 main, 2 challenge, 3 public; part; offset. 0 stands where there is no such number.
+// The entry's three numbers.
 impl fmt::Display for Entry {
+    ghost use Rattle.std.specs.Prelude.{Some};
+    ghost use Rattle.answers.specs.Replies.{numbers_text};
+    ghost use Rattle.symbolic_variable.specs.Variable.{entry_words};
+
+    ghost output = { λ e. Some (numbers_text (entry_words e)) };
+
     fn fmt<W: fmt::Write>(&self, f: &mut fmt::Formatter<W>) -> fmt::Result {
-        match self {
-            Entry::Preprocessed { offset } => write!(f, "0 0 {offset}"),
-            Entry::Main { part_index, offset } => write!(f, "1 {part_index} {offset}"),
-            Entry::Challenge => write!(f, "2 0 0"),
-            Entry::Public => write!(f, "3 0 0"),
-        }
+        let [entry, part, offset] = self.words();
+        write!(f, "{entry} {part} {offset}")
     }
 }
 
 // The entry, then the column.
 impl fmt::Display for SymbolicVariable {
+    ghost use Rattle.std.specs.Prelude.{Some};
+    ghost use Rattle.answers.specs.Replies.{numbers_text};
+    ghost use Rattle.symbolic_variable.specs.Variable.{variable_words};
+
+    ghost output = { λ v. Some (numbers_text (variable_words v)) };
+
     fn fmt<W: fmt::Write>(&self, f: &mut fmt::Formatter<W>) -> fmt::Result {
         write!(f, "{} {}", self.entry, self.index)
     }

@@ -2,7 +2,7 @@
 #![tactic(auto)]
 
 use answers::Refusal;
-use number_input::next_number;
+use number_input::next_usize;
 use packed_var::PackedVar;
 use std::io::Read;
 use std::{fmt, io};
@@ -50,6 +50,10 @@ impl TryFrom<usize> for Call {
 }
 
 impl fmt::Display for NoCall {
+    ghost use Rattle.std.specs.Prelude.{Some, codes};
+
+    ghost output = { λ _. Some (codes "no call") };
+
     fn fmt<W: fmt::Write>(&self, f: &mut fmt::Formatter<W>) -> fmt::Result {
         write!(f, "no call")
     }
@@ -57,9 +61,9 @@ impl fmt::Display for NoCall {
 
 // The next three numbers: 0 preprocessed, 1 main, 2 challenge, 3 public; part; offset.
 fn next_entry(input: &mut impl Read) -> io::Result<Entry> {
-    let entry: usize = next_number(input)?;
-    let part_index = next_number(input)?;
-    let offset = next_number(input)?;
+    let entry = next_usize(input)?;
+    let part_index = next_usize(input)?;
+    let offset = next_usize(input)?;
     Ok(match entry {
         0 => Entry::Preprocessed { offset },
         1 => Entry::Main { part_index, offset },
@@ -79,44 +83,57 @@ fn print_answer<T: fmt::Display + Drop>(
     }
 }
 
-// The line of a call on an entry, a variable of that entry, or none of both.
-fn answer(rt: &impl Print, call: Call, entry: Entry, column: usize, by: usize) -> io::Result<()> {
-    let var = SymbolicVariable::new(entry, column);
-    match call {
-        Call::EntryOffset => match entry.offset() {
-            Some(offset) => rt.println(offset),
-            None => rt.println("none"),
-        },
-        Call::EntryRotate => print_answer(rt, entry.rotate(by)),
-        Call::EntryNext => print_answer(rt, entry.next()),
-        Call::VariableNew => rt.println(var),
-        Call::DegreeMultiple => rt.println(var.degree_multiple()),
-        Call::VariableRotate => print_answer(rt, var.rotate(by)),
-        Call::VariableNext => print_answer(rt, var.next()),
-        Call::FromSymbolicVar => print_answer(rt, PackedVar::from_symbolic_var(var)),
-        Call::IsFirst => rt.println(PackedVar::is_first()),
-        Call::IsLast => rt.println(PackedVar::is_last()),
-        Call::IsTransition => rt.println(PackedVar::is_transition()),
-    }
+// A case: the number of a call, the entry, the column, and by how much it is rotated.
+#[derive(Clone, Copy, Debug, PartialEq, Eq)]
+struct Case {
+    number: usize,
+    entry: Entry,
+    column: usize,
+    by: usize,
 }
 
-// The next case: the call, the entry, the column, and by how much it is rotated.
-fn next_case(rt: &impl Print, input: &mut impl Read) -> io::Result<()> {
-    let number: usize = next_number(input)?;
-    let entry = next_entry(input)?;
-    let column = next_number(input)?;
-    let by = next_number(input)?;
-    match Call::try_from(number) {
-        Ok(call) => answer(rt, call, entry, column, by),
-        Err(no_call) => rt.println(no_call),
+impl Case {
+    fn read(input: &mut impl Read) -> io::Result<Case> {
+        let number = next_usize(input)?;
+        let entry = next_entry(input)?;
+        let column = next_usize(input)?;
+        let by = next_usize(input)?;
+        Ok(Case {
+            number,
+            entry,
+            column,
+            by,
+        })
+    }
+
+    // The line of the call on the entry, on a variable of that entry, or on none of both.
+    fn answer(self, rt: &impl Print) -> io::Result<()> {
+        let var = SymbolicVariable::new(self.entry, self.column);
+        match Call::try_from(self.number) {
+            Err(no_call) => rt.println(no_call),
+            Ok(Call::EntryOffset) => match self.entry.offset() {
+                Some(offset) => rt.println(offset),
+                None => rt.println("none"),
+            },
+            Ok(Call::EntryRotate) => print_answer(rt, self.entry.rotate(self.by)),
+            Ok(Call::EntryNext) => print_answer(rt, self.entry.next()),
+            Ok(Call::VariableNew) => rt.println(var),
+            Ok(Call::DegreeMultiple) => rt.println(var.degree_multiple()),
+            Ok(Call::VariableRotate) => print_answer(rt, var.rotate(self.by)),
+            Ok(Call::VariableNext) => print_answer(rt, var.next()),
+            Ok(Call::FromSymbolicVar) => print_answer(rt, PackedVar::from_symbolic_var(var)),
+            Ok(Call::IsFirst) => rt.println(PackedVar::is_first()),
+            Ok(Call::IsLast) => rt.println(PackedVar::is_last()),
+            Ok(Call::IsTransition) => rt.println(PackedVar::is_transition()),
+        }
     }
 }
 
 fn main(rt: HostRuntime) -> io::Result<()> {
     let mut input = rt.stdin();
-    let count: usize = next_number(&mut input)?;
+    let count = next_usize(&mut input)?;
     for _ in 0..count {
-        next_case(&rt, &mut input)?;
+        Case::read(&mut input)?.answer(&rt)?;
     }
     Ok(())
 }

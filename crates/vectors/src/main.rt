@@ -1,11 +1,12 @@
 // Replays stored answers: for each sheet on standard input the calls must answer as written behind it. oracle/README.md has the form of the input.
 #![tactic(auto)]
 
-ghost use Rattle.std.specs.Prelude.{◌≤◌, length, IfOk};
+ghost use Rattle.std.specs.Prelude.{◌≤◌, IfOk};
 
 use answers::Refusal;
 use grouping::Lengths;
-use number_input::next_number;
+use listing::headers::Lists;
+use number_input::next_u32;
 use std::io;
 use std::io::Read;
 
@@ -46,203 +47,218 @@ impl TryFrom<u32> for Item {
 fn next_length(input: &mut impl Read, most: usize) -> io::Result<usize>
     ensures { IfOk result (λ n. n ≤ most) }
 {
-    let n: usize = next_number(input)?;
+    let n = next_u32(input)? as usize;
     Ok(n.min(most))
 }
 
-// Reads how many words a sheet has, and the words.
-fn read_sheet(input: &mut impl Read, sheet: &mut [u32]) -> io::Result<usize>
-    ensures { IfOk result (λ n. n ≤ length sheet.new) }
-{
-    let n = next_length(input, sheet.len())?;
-    for word in &mut sheet[..n] {
-        *word = next_number(input)?;
+// A sheet, in front of room for the longest.
+#[derive(Drop)]
+struct Sheet {
+    buffer: [u32; 4096],
+    num_words: usize,
+    ghost within: { num_words ≤ 4096 },
+}
+
+impl Sheet {
+    // The words of the sheet.
+    fn words(&self) -> &[u32] {
+        &self.buffer[..self.num_words]
     }
-    Ok(n)
-}
 
-// The front of a buffer, as long as the next number says.
-fn lent<'a>(input: &mut impl Read, buffer: &'a mut [u32]) -> io::Result<&'a mut [u32]> {
-    let n = next_length(input, buffer.len())?;
-    Ok(&mut buffer[..n])
-}
-
-// Whether this is the next number.
-fn same_number(input: &mut impl Read, n: usize) -> io::Result<bool> {
-    let next: usize = next_number(input)?;
-    Ok(next == n)
-}
-
-// Whether the next list is the first n of these words: how many, then each.
-fn same_list(input: &mut impl Read, words: &[u32], n: usize) -> io::Result<bool> {
-    let Some(front) = words.get(..n) else {
-        return Ok(false);
-    };
-    let mut same = same_number(input, n)?;
-    for &word in front {
-        same &= same_number(input, word as usize)?;
+    // Reads how many words a sheet has, and the words.
+    fn read(input: &mut impl Read) -> io::Result<Sheet> {
+        let mut buffer = [0u32; 4096];
+        let num_words = next_length(input, buffer.len())?;
+        for word in &mut buffer[..num_words] {
+            *word = next_u32(input)?;
+        }
+        Ok(Sheet { buffer, num_words })
     }
-    Ok(same)
 }
 
-// Whether the next two numbers are the answer's number and place: 0 and 0 where the call accepts.
-fn same_reply<T: Copy>(input: &mut impl Read, answer: Result<T, Refusal>) -> io::Result<bool> {
-    let (number, place) = match answer {
-        Ok(_) => (0, 0),
-        Err(refusal) => (refusal.reason.number(), refusal.place),
-    };
-    Ok(same_number(input, number as usize)? & same_number(input, place)?)
+// A replay: its input, and the sheet that was read last, on which calls are made.
+#[derive(Drop)]
+struct Replay<R> {
+    input: R,
+    sheet: Sheet,
 }
 
-// The three lists that an expansion writes.
-#[derive(Clone, Copy)]
-struct Lists<'a> {
-    headers: &'a [u32],
-    variables: &'a [u32],
-    terms: &'a [u32],
-}
+impl<R: Read> Replay<R> {
+    // The front of a buffer, as long as the next number says.
+    fn lent<'a>(&mut self, buffer: &'a mut [u32]) -> io::Result<&'a mut [u32]> {
+        let n = next_length(&mut self.input, buffer.len())?;
+        Ok(&mut buffer[..n])
+    }
 
-impl<'a> Lists<'a> {
+    // Whether this is the next number.
+    fn same_number(&mut self, n: usize) -> io::Result<bool> {
+        Ok(next_u32(&mut self.input)? as usize == n)
+    }
+
+    // Whether the next list is the first n of these words: how many, then each.
+    fn same_list(&mut self, words: &[u32], n: usize) -> io::Result<bool> {
+        let Some(front) = words.get(..n) else {
+            return Ok(false);
+        };
+        let mut same = self.same_number(n)?;
+        for &word in front {
+            same &= self.same_number(word as usize)?;
+        }
+        Ok(same)
+    }
+
     // Whether the next three lists are these, as far as they are written.
-    fn same(self, input: &mut impl Read, n: Lengths) -> io::Result<bool> {
+    fn same_lists(&mut self, lists: Lists, n: Lengths) -> io::Result<bool> {
         Ok(
-            same_list(input, self.headers, n.headers)?
-                & same_list(input, self.variables, n.variables)?
-                & same_list(input, self.terms, n.terms)?,
+            self.same_list(lists.headers, n.headers)?
+                & self.same_list(lists.variables, n.variables)?
+                & self.same_list(lists.terms, n.terms)?,
         )
     }
-}
 
-// A call of the builder: the words lent of scratch and output, then number and place; where it accepts, the graph.
-fn replay_build(input: &mut impl Read, sheet: &[u32]) -> io::Result<bool> {
-    let mut scratch = [0u32; 4096];
-    let mut out = [0u32; 4096];
-    let scratch = lent(input, &mut scratch)?;
-    let out = lent(input, &mut out)?;
-    let built = dag::build(sheet, scratch, out);
-    let same = same_reply(input, built)?;
-    let Ok(n) = built else {
-        return Ok(same);
-    };
-    Ok(same & same_list(input, out, n)?)
-}
-
-// A call of the constraint expansion: the words lent, number and place; where it accepts, the three lists.
-fn replay_constraints(input: &mut impl Read, sheet: &[u32]) -> io::Result<bool> {
-    let mut work = [0u32; 4096];
-    let mut pool = [0u32; 8192];
-    let mut headers = [0u32; 1024];
-    let mut variables = [0u32; 1024];
-    let mut terms = [0u32; 1024];
-    let work = lent(input, &mut work)?;
-    let pool = lent(input, &mut pool)?;
-    let headers = lent(input, &mut headers)?;
-    let variables = lent(input, &mut variables)?;
-    let terms = lent(input, &mut terms)?;
-    let written = expansion::expand_constraints(sheet, work, pool, headers, variables, terms);
-    let same = same_reply(input, written)?;
-    let Ok(n) = written else {
-        return Ok(same);
-    };
-    let lists = Lists {
-        headers,
-        variables,
-        terms,
-    };
-    Ok(same & lists.same(input, n)?)
-}
-
-// A call of the interaction expansion: the same with six lists, and the two numbers at the end.
-fn replay_interactions(input: &mut impl Read, sheet: &[u32]) -> io::Result<bool> {
-    let mut work = [0u32; 4096];
-    let mut pool = [0u32; 8192];
-    let mut headers = [0u32; 1024];
-    let mut variables = [0u32; 1024];
-    let mut terms = [0u32; 1024];
-    let mut denom_headers = [0u32; 1024];
-    let mut denom_variables = [0u32; 1024];
-    let mut denom_terms = [0u32; 1024];
-    let work = lent(input, &mut work)?;
-    let pool = lent(input, &mut pool)?;
-    let headers = lent(input, &mut headers)?;
-    let variables = lent(input, &mut variables)?;
-    let terms = lent(input, &mut terms)?;
-    let denom_headers = lent(input, &mut denom_headers)?;
-    let denom_variables = lent(input, &mut denom_variables)?;
-    let denom_terms = lent(input, &mut denom_terms)?;
-    let written = expansion::expand_interactions(
-        sheet,
-        work,
-        pool,
-        headers,
-        variables,
-        terms,
-        denom_headers,
-        denom_variables,
-        denom_terms,
-    );
-    let same = same_reply(input, written)?;
-    let Ok(n) = written else {
-        return Ok(same);
-    };
-    let numerators = Lists {
-        headers,
-        variables,
-        terms,
-    };
-    let denominators = Lists {
-        headers: denom_headers,
-        variables: denom_variables,
-        terms: denom_terms,
-    };
-    Ok(
-        same & numerators.same(input, n.numerators)?
-            & denominators.same(input, n.denominators)?
-            & same_number(input, n.num_interactions)?
-            & same_number(input, n.max_fields_len)?,
-    )
-}
-
-// Whether a call on the sheet answers as written.
-fn replay_call(input: &mut impl Read, call: Call, sheet: &[u32]) -> io::Result<bool> {
-    match call {
-        Call::Build => replay_build(input, sheet),
-        Call::ExpandConstraints => replay_constraints(input, sheet),
-        Call::ExpandInteractions => replay_interactions(input, sheet),
-    }
-}
-
-// Replays so many items, counted from 0, says which differ, and hands back how many.
-fn replay(
-    rt: &impl Print,
-    input: &mut impl Read,
-    sheet: &mut [u32],
-    count: usize,
-) -> io::Result<usize> {
-    let mut n = 0;
-    let mut differ = 0;
-    for i in 0..count {
-        let number: u32 = next_number(input)?;
-        let same = match Item::try_from(number) {
-            Ok(Item::Sheet) => {
-                n = read_sheet(input, sheet)?;
-                true
-            }
-            Ok(Item::Call(call)) => replay_call(input, call, &sheet[..n])?,
-            Err(_) => false,
+    // Whether the next two numbers are the answer's number and place: 0 and 0 where the call accepts.
+    fn same_reply<T: Copy>(&mut self, answer: Result<T, Refusal>) -> io::Result<bool> {
+        let (number, place) = match answer {
+            Ok(_) => (0, 0),
+            Err(refusal) => (refusal.reason.number(), refusal.place),
         };
-        if !same {
-            println!(rt; "item {i} differs")?;
-            differ += 1;
+        Ok(self.same_number(number as usize)? & self.same_number(place)?)
+    }
+
+    // A call of the builder: the words lent of scratch and output, then number and place; where it accepts, the graph.
+    fn build(&mut self) -> io::Result<bool> {
+        let mut scratch = [0u32; 4096];
+        let mut out = [0u32; 4096];
+        let scratch = self.lent(&mut scratch)?;
+        let out = self.lent(&mut out)?;
+        let built = dag::build(self.sheet.words(), scratch, out);
+        let same = self.same_reply(built)?;
+        let Ok(n) = built else {
+            return Ok(same);
+        };
+        Ok(same & self.same_list(out, n)?)
+    }
+
+    // A call of the constraint expansion: the words lent, number and place; where it accepts, the three lists.
+    fn expand_constraints(&mut self) -> io::Result<bool> {
+        let mut work = [0u32; 4096];
+        let mut pool = [0u32; 8192];
+        let mut headers = [0u32; 1024];
+        let mut variables = [0u32; 1024];
+        let mut terms = [0u32; 1024];
+        let work = self.lent(&mut work)?;
+        let pool = self.lent(&mut pool)?;
+        let headers = self.lent(&mut headers)?;
+        let variables = self.lent(&mut variables)?;
+        let terms = self.lent(&mut terms)?;
+        let sheet = self.sheet.words();
+        let written = expansion::expand_constraints(sheet, work, pool, headers, variables, terms);
+        let same = self.same_reply(written)?;
+        let Ok(n) = written else {
+            return Ok(same);
+        };
+        let lists = Lists {
+            headers,
+            variables,
+            terms,
+        };
+        Ok(same & self.same_lists(lists, n)?)
+    }
+
+    // A call of the interaction expansion: the same with six lists, and the two numbers at the end.
+    fn expand_interactions(&mut self) -> io::Result<bool> {
+        let mut work = [0u32; 4096];
+        let mut pool = [0u32; 8192];
+        let mut headers = [0u32; 1024];
+        let mut variables = [0u32; 1024];
+        let mut terms = [0u32; 1024];
+        let mut denom_headers = [0u32; 1024];
+        let mut denom_variables = [0u32; 1024];
+        let mut denom_terms = [0u32; 1024];
+        let work = self.lent(&mut work)?;
+        let pool = self.lent(&mut pool)?;
+        let headers = self.lent(&mut headers)?;
+        let variables = self.lent(&mut variables)?;
+        let terms = self.lent(&mut terms)?;
+        let denom_headers = self.lent(&mut denom_headers)?;
+        let denom_variables = self.lent(&mut denom_variables)?;
+        let denom_terms = self.lent(&mut denom_terms)?;
+        let written = expansion::expand_interactions(
+            self.sheet.words(),
+            work,
+            pool,
+            headers,
+            variables,
+            terms,
+            denom_headers,
+            denom_variables,
+            denom_terms,
+        );
+        let same = self.same_reply(written)?;
+        let Ok(n) = written else {
+            return Ok(same);
+        };
+        let numerators = Lists {
+            headers,
+            variables,
+            terms,
+        };
+        let denominators = Lists {
+            headers: denom_headers,
+            variables: denom_variables,
+            terms: denom_terms,
+        };
+        Ok(
+            same & self.same_lists(numerators, n.numerators)?
+                & self.same_lists(denominators, n.denominators)?
+                & self.same_number(n.num_interactions)?
+                & self.same_number(n.max_fields_len)?,
+        )
+    }
+
+    // Whether a call on the sheet answers as written.
+    fn same_answer(&mut self, call: Call) -> io::Result<bool> {
+        match call {
+            Call::Build => self.build(),
+            Call::ExpandConstraints => self.expand_constraints(),
+            Call::ExpandInteractions => self.expand_interactions(),
         }
     }
-    Ok(differ)
+
+    // Replays the next item; whether it is as written.
+    fn same_item(&mut self) -> io::Result<bool> {
+        let number = next_u32(&mut self.input)?;
+        match Item::try_from(number) {
+            Ok(Item::Sheet) => {
+                self.sheet = Sheet::read(&mut self.input)?;
+                Ok(true)
+            }
+            Ok(Item::Call(call)) => self.same_answer(call),
+            Err(_) => Ok(false),
+        }
+    }
+
+    // Replays so many items, counted from 0, says which differ, and hands back how many.
+    fn items(&mut self, rt: &impl Print, count: usize) -> io::Result<usize> {
+        let mut differ = 0;
+        for i in 0..count {
+            if !self.same_item()? {
+                println!(rt; "item {i} differs")?;
+                differ += 1;
+            }
+        }
+        Ok(differ)
+    }
 }
 
 fn main(rt: HostRuntime) -> io::Result<()> {
     let mut input = rt.stdin();
-    let mut sheet = [0u32; 4096];
     let count = next_length(&mut input, 100000)?;
-    let differ = replay(&rt, &mut input, &mut sheet, count)?;
+    let sheet = Sheet {
+        buffer: [0; 4096],
+        num_words: 0,
+    };
+    let mut replay = Replay { input, sheet };
+    let differ = replay.items(&rt, count)?;
     println!(rt; "{count} items, {differ} differ")
 }

@@ -48,7 +48,9 @@ pub write_each-requires : goal.write_each-requires
 write_each-requires c =
     let sheet : (t : Sheet) × (check prime c.args.s.now ≡ good t) × (c.in-Ok.head ≡ head_of t) =
     found prime c.args.s.now c.check_sheet-checked.ensures c.in-Ok.is in
-    (omega (arith, words_few prime c.args.s.now sheet.1 sheet.2), search rules)
+    let few = words_few prime c.args.s.now sheet.1 sheet.2 in
+    let inside = words_inside prime c.args.s.now sheet.1 sheet.2 in
+    (omega (arith, few), omega (arith, inside), search rules)
 
 pub returns : goal.returns
 unfolding writer_call

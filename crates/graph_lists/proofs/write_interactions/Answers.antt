@@ -1,19 +1,19 @@
-use mathlib.Core.Path.{ap}
-use Rattle.records.specs.declared.Interaction.{Interaction}
-use Rattle.graph_lists.proofs.Naming.{next_interaction, next_room, written_more, written_done}
+use mathlib.Core.Path.{◌∙◌}
+use Rattle.graph_lists.proofs.Naming.{written_none, next_named, next_room, written_more, written_done}
 use Rattle.graph_lists.proofs.write_interactions.Goals as goal
+
+pub loop-x-init : goal.loop-x-init
+loop-x-init c = written_none c.args.sheet.checked c.requires.0 (c.into_iter-x-iterator.ensures.into_iter_gives ∙ c.interactions-x-items.ensures)
 
 pub write_interaction-next-requires : goal.write_interaction-next-requires
 write_interaction-next-requires c =
-    let h = c.loop.invariant in
-    let p = c.requires.1 in
-    (next_interaction h p c.loop-test.true, next_room h p c.loop-test.true)
+    let h = c.loop-x.invariant in
+    let room = c.requires.1 in
+    let e = c.in-Some.ensures.steps in
+    (next_named h room e, next_room h room e)
 
-pub loop-preserved : goal.loop-preserved
-loop-preserved c =
-    let v = c.write_interaction-next in
-    written_more c.loop.invariant c.requires.1 c.loop-test.true _ _ _ v.ensures.0 v.ensures.1
-    (ap (λ (x : Interaction). x.next) c.interaction_at-x.ensures)
+pub loop-x-preserved : goal.loop-x-preserved
+loop-x-preserved c = written_more c.loop-x.invariant c.requires.1 c.in-Some.ensures.steps c.write_interaction-next.ensures
 
 pub returns : goal.returns
-returns c = written_done c.loop.invariant c.loop-test.false
+returns c = written_done c.loop-x.invariant c.in-None.ensures.steps.0

@@ -2,5 +2,5 @@
 use Rattle.graph_lists.proofs.Naming.{Written}
 use Rattle.graph_lists.proofs.write_interactions.Given as goal
 
-abbrev pub invariant-loop : goal.invariant-loop
-invariant-loop l = Written l.sheet l.scratch l.at l.count l.initial.out l.to l.out l.from l.next l.counter
+abbrev pub invariant-loop-x : goal.invariant-loop-x
+invariant-loop-x l = Written l.sheet.words.now l.scratch l.initial.out l.to l.out l.next l.x-iterator

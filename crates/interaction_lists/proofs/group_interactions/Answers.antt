@@ -1,36 +1,41 @@
--- The counts are grouped, then the fields, then the longest message is found. Of each family: what was written, and that the slices keep
--- their lengths.
-use mathlib.Core.Path.{refl, ◌∙◌}
-use Rattle.interaction_lists.proofs.Walked.{interactions_there}
-use Rattle.interaction_lists.proofs.Messages.{longest_is}
-use Rattle.constraint_lists.proofs.Steps.{kept, unchanged}
-use Rattle.interaction_lists.proofs.Steps.{counts_refused, fields_refused, all_written}
+-- The counts are grouped, then the fields, then the longest message is found. Of each family: what was written, and that the slices stay
+-- the same.
+use Rattle.semantics.specs.Answer.{and_then}
+use Rattle.semantics.specs.Call.{result}
+use Rattle.constraint_lists.proofs.Steps.{same_here}
+use Rattle.interaction_lists.proofs.Steps.{counts_refused, fields_refused, all_written, all_inside}
 use Rattle.interaction_lists.proofs.group_interactions.Goals as goal
 
 pub returns-in_default : goal.returns-in_default
+unfolding and_then
 returns-in_default c =
-    let a = c.args in
-    let g = c.group_family-counted in
-    counts_refused a.s.now (kept _ _ _ g.auto.headers g.auto.variables g.auto.terms)
-    (unchanged a.denom_headers.now a.denom_variables.now a.denom_terms.now) g.result _ g.ensures _ c.unwrap_err.ensures c.too_short.ensures
+    let g = c.group-counted.ensures in
+    let same = same_here c.args.denominators.now in record {
+      numerators = g.0;
+      denominators = same;
+      answers = counts_refused c.args.sheet.words.now g.0 same _ g.1 c.unwrap_err.ensures;
+      inside = tt;
+    }
 
 pub returns-in_default-listed : goal.returns-in_default-listed
+unfolding and_then
 returns-in_default-listed c =
-    let g = c.group_family-counted in
-    let f = c.group_family-listed in
-    fields_refused c.args.s.now (kept _ _ _ g.auto.headers g.auto.variables g.auto.terms) (kept _ _ _ f.auto.headers f.auto.variables f.auto.terms)
-    g.result _ g.ensures c.in-Ok.is f.result _ f.ensures _ c.unwrap_err-in_default-listed.ensures c.too_short-in_default-listed.ensures
-
-pub max_fields_len-longest-requires : goal.max_fields_len-longest-requires
-max_fields_len-longest-requires c =
-    interactions_there c.args.s.now c.requires.0.checked _ _ c.interactions_at.ensures c.num_interactions-interactions.ensures
+    let g = c.group-counted.ensures in
+    let f = c.group-listed.ensures in record {
+      numerators = g.0;
+      denominators = f.0;
+      answers = fields_refused c.args.sheet.words.now g.0 f.0 _ g.1 _ c.in-Ok.is _ f.1 c.unwrap_err-in_default-listed.ensures;
+      inside = tt;
+    }
 
 pub returns : goal.returns
+unfolding and_then result
 returns c =
-    let g = c.group_family-counted in
-    let f = c.group_family-listed in
-    let at = c.interactions_at in
-    let count = c.num_interactions-interactions in
-    all_written c.args.s.now (kept _ _ _ g.auto.headers g.auto.variables g.auto.terms) (kept _ _ _ f.auto.headers f.auto.variables f.auto.terms)
-    g.result _ g.ensures c.in-Ok.is f.result _ f.ensures c.in-Ok-listed.is _ _ count.ensures
-    (c.max_fields_len-longest.ensures ∙ longest_is c.args.s.now c.requires.0.checked at.result count.result at.ensures count.ensures) _ refl
+    let g = c.group-counted.ensures in
+    let f = c.group-listed.ensures in record {
+      numerators = g.0;
+      denominators = f.0;
+      answers =
+          all_written c.args.sheet.words.now g.0 f.0 _ g.1 _ c.in-Ok.is _ f.1 _ c.in-Ok-listed.is c.num_interactions-interactions.ensures c.max_fields_len-longest.ensures;
+      inside = all_inside c.args.sheet.words.now g.0 f.0 _ g.1 _ c.in-Ok.is _ f.1 _ c.in-Ok-listed.is;
+    }

@@ -2,5 +2,5 @@
 use Rattle.interaction_lists.proofs.Messages.{Looking}
 use Rattle.interaction_lists.proofs.max_fields_len.Given as goal
 
-abbrev pub invariant-loop-i : goal.invariant-loop-i
-invariant-loop-i l = Looking l.s l.at l.interactions l.most l.from l._i
+abbrev pub invariant-loop-x : goal.invariant-loop-x
+invariant-loop-x l = Looking l.fn.sheet.words.now l.most l.x-iterator

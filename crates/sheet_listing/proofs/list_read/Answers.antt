@@ -6,4 +6,4 @@ use Rattle.sheet_listing.proofs.list_read.Goals as goal
 pub returns : goal.returns
 returns c = λ input read.
     let a = c.args in
-    rw (← read_prints a.buffer.now a.n (search rules) input read) c.list_front.ensures
+    rw (← read_prints a.buffer.now a.n (search rules) c.min.ensures input read) c.list_sheet.ensures

@@ -10,8 +10,7 @@ place_root-requires c = named_ready c.loop-j.invariant (omega arith) c.label-lab
 
 pub loop-j-preserved : goal.loop-j-preserved
 loop-j-preserved c =
-    let place = c.place_root in
-    named_more c.loop-j.invariant (omega arith) c.label-label.ensures place.auto.headers place.auto.terms place.ensures
+    named_more c.loop-j.invariant (omega arith) c.label-label.ensures c.place_root.ensures
 
 pub returns : goal.returns
 returns c = named_done c.loop-j.invariant (omega arith)

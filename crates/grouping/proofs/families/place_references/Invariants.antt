@@ -3,4 +3,4 @@ use Rattle.grouping.proofs.RootItems.{RootsPassed}
 use Rattle.grouping.proofs.families.place_references.Given as goal
 
 abbrev pub invariant-loop-j : goal.invariant-loop-j
-invariant-loop-j l = RootsPassed l.numbering l.names l.n l.pool l.initial.headers l.initial.terms l.headers l.terms l.j
+invariant-loop-j l = RootsPassed l.numbering l.names l.initial.groups l.initial.terms l.groups l.terms l.j

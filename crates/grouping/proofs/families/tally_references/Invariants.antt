@@ -3,4 +3,4 @@ use Rattle.grouping.proofs.NamedLists.{NamesPassed}
 use Rattle.grouping.proofs.families.tally_references.Given as goal
 
 abbrev pub invariant-loop-r : goal.invariant-loop-r
-invariant-loop-r l = NamesPassed l.names l.initial.headers l.n l.pool l.headers l.rows l.r-index
+invariant-loop-r l = NamesPassed l.names l.initial.groups l.groups l.r-index

@@ -7,5 +7,5 @@ use Rattle.packing.proofs.leaf.leaf_of.Goals as goal
 
 pub returns-in_default : goal.returns-in_default
 returns-in_default c =
-    let args = c.args in
-    ap leaf_answer c.wrong.ensures ∙ kind_wrong args.kind args.a args.b args.c args.d (search rules)
+    let q = c.args.q in
+    ap leaf_answer c.wrong.ensures ∙ kind_wrong q.kind q.a q.b q.c q.d (search rules)

@@ -7,36 +7,36 @@ use Rattle.packing.specs.Leaves.{leaf_answer}
 use Rattle.packing.proofs.Laws.{mark_tests, leaf_said}
 use Rattle.packing.proofs.leaf.mark.Goals as goal
 
-pub returns-then-a-ne0 : goal.returns-then-a-ne0
+pub returns-then-q-ne0 : goal.returns-then-q-ne0
 unfolding judged
-returns-then-a-ne0 c =
+returns-then-q-ne0 c =
     let (low, high, is) = c.requires in
-    ap leaf_answer c.wrong.ensures ∙ mark_tests _ _ _ _ _ low high (ne_eqb _ _ c.if-a-ne0.true) refl refl refl
+    ap leaf_answer c.wrong.ensures ∙ mark_tests _ _ _ _ _ low high (ne_eqb _ _ c.if-q-ne0.true) refl refl refl
 
-pub returns-then-b-ne0 : goal.returns-then-b-ne0
+pub returns-then-q-ne0-2 : goal.returns-then-q-ne0-2
 unfolding judged
-returns-then-b-ne0 c =
+returns-then-q-ne0-2 c =
     let (low, high, is) = c.requires in
-    ap leaf_answer c.wrong-then-b-ne0.ensures
-    ∙ mark_tests _ _ _ _ _ low high (eq-eqb _ _ c.if-a-ne0.false) (ne_eqb _ _ c.if-b-ne0.true) refl refl
+    ap leaf_answer c.wrong-then-q-ne0-2.ensures
+    ∙ mark_tests _ _ _ _ _ low high (eq-eqb _ _ c.if-q-ne0.false) (ne_eqb _ _ c.if-q-ne0-2.true) refl refl
 
-pub returns-then-c-ne0 : goal.returns-then-c-ne0
+pub returns-then-q-ne0-3 : goal.returns-then-q-ne0-3
 unfolding judged
-returns-then-c-ne0 c =
+returns-then-q-ne0-3 c =
     let (low, high, is) = c.requires in
-    ap leaf_answer c.wrong-then-c-ne0.ensures
-    ∙ mark_tests _ _ _ _ _ low high (eq-eqb _ _ c.if-a-ne0.false) (eq-eqb _ _ c.if-b-ne0.false) (ne_eqb _ _ c.if-c-ne0.true) refl
+    ap leaf_answer c.wrong-then-q-ne0-3.ensures
+    ∙ mark_tests _ _ _ _ _ low high (eq-eqb _ _ c.if-q-ne0.false) (eq-eqb _ _ c.if-q-ne0-2.false) (ne_eqb _ _ c.if-q-ne0-3.true) refl
 
-pub returns-then-d-ne0 : goal.returns-then-d-ne0
+pub returns-then-q-ne0-4 : goal.returns-then-q-ne0-4
 unfolding judged
-returns-then-d-ne0 c =
+returns-then-q-ne0-4 c =
     let (low, high, is) = c.requires in
-    ap leaf_answer c.wrong-then-d-ne0.ensures
-    ∙ mark_tests _ _ _ _ _ low high (eq-eqb _ _ c.if-a-ne0.false) (eq-eqb _ _ c.if-b-ne0.false) (eq-eqb _ _ c.if-c-ne0.false)
-    (ne_eqb _ _ c.if-d-ne0.true)
+    ap leaf_answer c.wrong-then-q-ne0-4.ensures
+    ∙ mark_tests _ _ _ _ _ low high (eq-eqb _ _ c.if-q-ne0.false) (eq-eqb _ _ c.if-q-ne0-2.false) (eq-eqb _ _ c.if-q-ne0-3.false)
+    (ne_eqb _ _ c.if-q-ne0-4.true)
 
 pub returns : goal.returns
 returns c =
     let (low, high, is) = c.requires in
     leaf_said c.args.leaf refl
-    (is ∙ λ i. record_of c.args.kind (sym c.if-a-ne0.false i) (sym c.if-b-ne0.false i) (sym c.if-c-ne0.false i) (sym c.if-d-ne0.false i))
+    (is ∙ λ i. record_of c.args.q.kind (sym c.if-q-ne0.false i) (sym c.if-q-ne0-2.false i) (sym c.if-q-ne0-3.false i) (sym c.if-q-ne0-4.false i))

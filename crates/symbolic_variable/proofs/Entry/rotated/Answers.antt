@@ -1,11 +1,16 @@
 -- By the four kinds of entry: where there is an offset, by what `moved` answers; the others stay.
-use Rattle.std.proofs.Common.{sym, ap, ◌∙◌}
+use Rattle.std.proofs.Common.{◌≡◌, ℕ, ◌⊎◌, inl, inr, sym, ap, ◌∙◌}
 use Rattle.semantics.specs.Answer.{good}
 use Rattle.answers.proofs.Outcomes.{goes_on, hands_back}
 use Rattle.symbolic_variable.specs.declared.Entry.{Entry}
-use Rattle.symbolic_variable.specs.declared.Entry.TheVariants.{Preprocessed, Main}
+use Rattle.symbolic_variable.specs.declared.Entry.TheVariants.{Preprocessed, Main, Public, Challenge}
 use Rattle.symbolic_variable.specs.Variable.{entry_rotated}
 use Rattle.symbolic_variable.proofs.Entry.rotated.Goals as goal
+
+-- A public or a challenge entry stays.
+stays : (e : Entry) (k : ℕ) → (e ≡ Public) ⊎ (e ≡ Challenge) → good e ≡ entry_rotated e k
+stays e k (inl is) = ap good is ∙ ap (λ (f : Entry). entry_rotated f k) (sym is)
+stays e k (inr is) = ap good is ∙ ap (λ (f : Entry). entry_rotated f k) (sym is)
 
 pub returns-in_default : goal.returns-in_default
 returns-in_default c =
@@ -28,7 +33,4 @@ returns-in-Ok-sum c =
     ∙ ap (λ (e : Entry). entry_rotated e c.args.offset) (sym c.in-Main.is)
 
 pub returns-in-Public : goal.returns-in-Public
-returns-in-Public c = ap good c.in-Public.is ∙ ap (λ (e : Entry). entry_rotated e c.args.offset) (sym c.in-Public.is)
-
-pub returns-in-Challenge : goal.returns-in-Challenge
-returns-in-Challenge c = ap good c.in-Challenge.is ∙ ap (λ (e : Entry). entry_rotated e c.args.offset) (sym c.in-Challenge.is)
+returns-in-Public c = stays c.args.self c.args.offset c.in-Public.is

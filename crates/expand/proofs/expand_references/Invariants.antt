@@ -1,7 +1,0 @@
--- The records that are named are expanded one after the other; the loop keeps how far the expansion has come (`Naming`). A refusal is the answer
--- for all that are left.
-use Rattle.expand.proofs.Roots.{Naming}
-use Rattle.expand.proofs.expand_references.Given as goal
-
-abbrev pub invariant-loop-r : goal.invariant-loop-r
-invariant-loop-r l = Naming l.sheet l.names l.initial.work l.initial.pool l.used l.work l.pool l.taken l.r-index

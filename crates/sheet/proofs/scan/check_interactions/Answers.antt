@@ -1,7 +1,0 @@
--- The interactions are parts, each with the same tests.
-use Rattle.std.proofs.Common.{rules}
-use Rattle.semantics.specs.Sheet.{interaction_tests}
-use Rattle.sheet.proofs.scan.check_interactions.Goals as goal
-
-pub returns : goal.returns
-returns c = c.check_parts.ensures 6 (λ own. interaction_tests c.args.records) (λ next own r inside few said. search rules)

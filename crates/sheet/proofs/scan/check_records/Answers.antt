@@ -1,8 +1,0 @@
--- The records are parts, each judged by its number.
-use Rattle.std.proofs.Common.{rules}
-use Rattle.semantics.specs.Arithmetic.{prime}
-use Rattle.semantics.specs.Sheet.{record_tests}
-use Rattle.sheet.proofs.scan.check_records.Goals as goal
-
-pub returns : goal.returns
-returns c = c.check_parts.ensures 5 (record_tests prime) (λ next own r inside few said. search rules)
