@@ -1,14 +1,14 @@
 -- The order of two variable lists, found number by number.
-use mathlib.Core.Path.{◌≡◌, refl, ◌∙◌}
+use mathlib.Core.Path.{◌≡◌, refl, subst, ◌∙◌}
 use mathlib.Core.Bool.{Bool, true, false}
 use mathlib.Core.List.{List, ◌∷◌}
-use Prim.Native.Nat.{ℕ}
+use Prim.Native.Nat.{ℕ, ◌<◌}
 use native.Mathlib.Omega.{arith}
 use lib.ListN.{length}
 use Rattle.std.proofs.lemmas.Bool.Decides.{nat_tests}
-use Rattle.std.proofs.lemmas.Cmp.{same_from_slice_cmp}
+use Rattle.std.proofs.lemmas.Cmp.{ranked, same_from_slice_cmp}
 use Rattle.std.specs.Cmp.Lexicographic.{slice_cmp}
-use Rattle.std.specs.Ordering.{nat_cmp, is_lt, is_gt}
+use Rattle.std.specs.Ordering.{MatchOrdering, nat_cmp, is_lt, is_gt, ordering_then}
 use Rattle.std.specs.declared.cmp.Ordering.{Ordering}
 use Rattle.std.specs.declared.cmp.Ordering.TheVariants.{Less, Equal, Greater}
 use Rattle.semantics.specs.Monomial.{before, before_vars}
@@ -28,6 +28,16 @@ told : (o : Ordering) → o ≡ chosen (is_lt o) Less (chosen (is_gt o) Greater 
 told Less = refl
 told Equal = refl
 told Greater = refl
+
+-- What comes after an order decides only where that says equal.
+pub decided : (o p : Ordering) → (o ≡ Equal → ⊥) → o ≡ ordering_then o p
+decided Less p n = refl
+decided Equal p n = absurd (n refl)
+decided Greater p n = refl
+
+-- Numbers that compare as equal are equal.
+pub equal_is : (x y : ℕ) {o : Ordering} → o ≡ nat_cmp x y → o ≡ Equal → x ≡ y
+equal_is x y {o} e q = subst (λ (p : Ordering). MatchOrdering p (x < y) (x ≡ y) (y < x)) q (ranked x y o e)
 
 -- std's order of the lists with their lengths in front.
 pub order_is : (xs ys : List ℕ) (o : Ordering) → o ≡ slice_cmp nat_cmp (length xs ∷ xs) (length ys ∷ ys) → o ≡ order_of xs ys

@@ -1,5 +1,7 @@
 // The variables of monomials: fourteen places by value.
-ghost use Rattle.std.specs.Prelude.{◌≡◌, ◌++◌, ◌+◌, ◌≤◌, take};
+ghost use Rattle.std.specs.Prelude.{◌≡◌, ◌++◌, ◌+◌, ◌≤◌, length, take};
+ghost use Rattle.std.specs.Cmp.Lexicographic.{slice_cmp};
+ghost use Rattle.std.specs.Ordering.{nat_cmp};
 ghost use Rattle.semantics.specs.Monomial.{sort, above};
 ghost use Rattle.semantics.specs.Lists.{Sorted};
 ghost use Rattle.monomial.specs.Words.{nums};
@@ -8,11 +10,29 @@ ghost use Rattle.monomial.specs.Orders.{order_of};
 use packed_var::PackedVar;
 use std::cmp::Ordering;
 
+// How two lists of equal length compare, variable by variable. The library's comparison of slices is called for each search; this is not.
+#[inline(always)]
+fn compare_each(left: &[u32], right: &[u32]) -> Ordering
+    requires { length left.now ≡ length right.now }
+    ensures { result ≡ slice_cmp nat_cmp left.now right.now }
+{
+    for i in 0..left.len() {
+        if left[i] != right[i] {
+            return left[i].cmp(&right[i]);
+        }
+    }
+    Ordering::Equal
+}
+
 // How two lists of variables compare: by length, then variable by variable.
+#[inline(always)]
 pub fn compare(left: &[u32], right: &[u32]) -> Ordering
     ensures { result ≡ order_of left.now right.now }
 {
-    left.len().cmp(&right.len()).then_with(|| left.cmp(right))
+    match left.len().cmp(&right.len()) {
+        Ordering::Equal => compare_each(left, right),
+        unequal => unequal,
+    }
 }
 
 // The numbers of variables in hand.
