@@ -4,7 +4,7 @@ use mathlib.Core.List.{List, [], ◌∷◌, ◌++◌, flat_map}
 use Prim.Native.Nat.{ℕ, zero, suc, ◌+◌, ◌-◌, ◌≤◌}
 use native.Mathlib.Omega.{arith}
 use lib.ListN.{length, replicate, replicate-append-replicate}
-use Rattle.semantics.specs.Sheet.{Sheet, length_of, place}
+use Rattle.semantics.specs.Sheet.{Interaction, Sheet, length_of, place}
 use Rattle.semantics.specs.Check.{read_sheet}
 use Rattle.semantics.specs.Walk.{Below, children_at, member, fold_left, visit, order}
 use Rattle.semantics.specs.Graph.{build, graph_roots}
@@ -15,6 +15,7 @@ use Rattle.semantics.proofs.GraphSheets.{named_below}
 use Rattle.records.specs.Access.{IsSheet, records_of}
 use Rattle.records.specs.Named.{references}
 use Rattle.records.proofs.Rooting.{order_none}
+use Rattle.records.proofs.Named.{all_references_below}
 use Rattle.records.proofs.Steps.{inside}
 use Rattle.nodes.specs.Memory.{tabulate, mark, nodes_out, built_of, GraphHolds}
 use Rattle.graph_lists.specs.Lists.{ToWriteLists}
@@ -49,14 +50,14 @@ module _ {ws scratch out : List ℕ} (checked : IsSheet ws) (b : Starting ws scr
     count_is = refl;
   }
 
-  module _ {u : Walk} (t : Starts ws scratch out u) where
+  module _ {u : Walk} (t : Starts ws scratch out 0 u) where
     pub start_walking : AddWalking u
     start_walking = record {
       done = [];
       order = order_none u.sheet.words.now;
       holds =
           subst (λ (x : List ℕ × (List ℕ × (List ℕ × ℕ))). GraphHolds x.0 [] x.1.0 x.1.1.0 x.1.1.1)
-          (λ i. (sym t.sheet_is i, (sym t.scratch_is i, (sym t.out_is i, sym t.none i)))) holds_none;
+          (λ i. (sym t.sheet_is i, (sym t.scratch_is i, (sym t.out_is i, sym t.count_is i)))) holds_none;
     }
 
     -- The records that the constraints name.
@@ -68,18 +69,21 @@ module _ {ws scratch out : List ℕ} (checked : IsSheet ws) (b : Starting ws scr
 
       -- When the constraints are added.
       module _ {v : Walk} (f : Walks u names v) where
-        pub walking_next : AddWalking v
-        walking_next = walking_after names names_below start_walking f
+        pub walking_next : {all : List Interaction} → all ≡ s.interactions → AddWalking v × Below (length (records_of v.sheet.words.now)) (references all)
+        walking_next {all} a = (
+          walking_after names names_below start_walking f,
+          subst (λ (x : List ℕ). Below (length (records_of x)) (references all)) (sym (f.0.sheet ∙ t.sheet_is))
+              (subst (λ (xs : List Interaction). Below E (references xs)) (sym a) (all_references_below ws checked)),
+        )
 
         -- When all are, the interactions' too.
-        pub finishing : {w : Walk} → Walks v (references (read_sheet v.sheet.words.now).interactions) w → {s' o' : List ℕ} {n : ℕ}
+        pub finishing : {all : List Interaction} → all ≡ s.interactions → {w : Walk} → Walks v (references all) w → {s' o' : List ℕ} {n : ℕ}
             → w.scratch.now ≡ s' → w.out.now ≡ o' → n ≡ w.n → ToWriteLists ws s' o' n
         unfolding order graph_roots start_walking
-        finishing {w} g {s'} {o'} {n} scratch_is out_is count_is =
-            let same : v.sheet.words.now ≡ ws = f.0.sheet ∙ t.sheet_is in
+        finishing a {w} g {s'} {o'} {n} scratch_is out_is count_is =
             let all : Walks u (names ++ references s.interactions) w =
             walks_both names (references s.interactions) names_below f
-            (subst (λ (x : List ℕ). Walks v (references (read_sheet x).interactions) w) same g)
+            (subst (λ (xs : List Interaction). Walks v (references xs) w) a g)
             in
             let long : length o' ≡ length out = sym (ap length out_is) ∙ all.0.long ∙ ap length t.out_is in
             record {

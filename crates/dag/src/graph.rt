@@ -11,9 +11,9 @@ pub fn build_graph(sheet: CheckedSheet, scratch: &mut [u32], out: &mut [u32]) ->
     requires { Starting sheet.words.now scratch.old out.old }
     ensures { (out.new ≡ graph_out (length out.old) sheet.entry.words.now) × (result ≡ graph_length sheet.entry.words.now) }
 {
-    let mut walk = Walk::new(sheet, scratch, out);
+    let mut walk = Walk::new(sheet, scratch, out, 0);
     walk.add_references(sheet.constraints());
-    walk.add_interactions();
+    walk.add_interactions(sheet.interactions());
     let n = walk.count();
     graph_lists::write_graph(sheet, scratch, out, n)
 }

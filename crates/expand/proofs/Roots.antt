@@ -4,7 +4,6 @@ use mathlib.Core.List.{List, [], ◌∷◌, ◌++◌}
 use Prim.Native.Nat.{ℕ, ◌*◌, ◌≤◌, ◌<◌}
 use native.Mathlib.Omega.{arith}
 use lib.ListN.{length, get_or}
-use Rattle.semantics.specs.Check.{read_sheet}
 use Rattle.semantics.specs.Walk.{Below, order}
 use Rattle.semantics.specs.Expand.{expand_all}
 use Rattle.semantics.proofs.Members.{not_in}
@@ -15,33 +14,33 @@ use Rattle.records.specs.declared.interactions.Part.{Part}
 use Rattle.records.specs.Access.{records_of}
 use Rattle.records.specs.Named.{part_of, parts_of}
 use Rattle.records.proofs.Rooting.{order_none}
-use Rattle.records.proofs.Named.{part_below, Passed, passed_none, passed_done, next_facts, next_whole, passed_more}
+use Rattle.records.proofs.Named.{Passed, passed_none, passed_done, next_whole, next_below, passed_more}
 use Rattle.expand.specs.declared.Walk.{Walk}
 use Rattle.expand.specs.Walking.{PoolHolds}
 use Rattle.expand.specs.Walks.{Holds, Answers, ExpandWalking, Walked}
 use Rattle.expand.proofs.Far.{Far, far_none, far_walking, far_more, far_refused}
 
--- A part of each interaction; `left` are those that are still to expand.
-pub record Passing (part : Part) (v w : Walk) (left : List Interaction) : Type 0 where
+-- A part of each of all these interactions; `left` are those that are still to expand.
+pub record Passing (part : Part) (v : Walk) (all : List Interaction) (w : Walk) (left : List Interaction) : Type 0 where
   pub roots : List ℕ
-  pub passed : Passed (part_of part) v.sheet.words.now left roots
+  pub passed : Passed (part_of part) all left roots
   pub far : Far v roots w
 
-module _ {part : Part} {v : Walk} (p : ExpandWalking v) where
-  pub passing_none : {left : List Interaction} → left ≡ (read_sheet v.sheet.words.now).interactions → Passing part v v left
-  passing_none e = record { roots = []; passed = passed_none v.sheet.checked e; far = far_none p }
+module _ {part : Part} {v : Walk} {all : List Interaction} (p : ExpandWalking v × Below (length (records_of v.sheet.words.now)) (parts_of part all)) where
+  pub passing_none : {left : List Interaction} → left ≡ all → Passing part v all v left
+  passing_none e = record { roots = []; passed = passed_none e; far = far_none p.0 }
 
-  module _ {w : Walk} {left : List Interaction} (h : Passing part v w left) where
+  module _ {w : Walk} {left : List Interaction} (h : Passing part v all w left) where
     pub passing_walking : ExpandWalking w
-    passing_walking = far_walking p h.far
+    passing_walking = far_walking p.0 h.far
 
-    pub passing_done : left ≡ [] → Walked v (parts_of part (read_sheet v.sheet.words.now).interactions) w (Ok tt)
+    pub passing_done : left ≡ [] → Walked v (parts_of part all) w (Ok tt)
     passing_done e = subst (λ (xs : List ℕ). Walked v xs w (Ok tt)) (passed_done h.passed e) h.far.walked
 
     -- One more interaction.
     module _ {x : Interaction} {rest : List Interaction} (e : left ≡ x ∷ rest) {names : List ℕ} (names_are : names ≡ part_of part x) where
       below : Below (length (records_of v.sheet.words.now)) (part_of part x)
-      below = part_below (next_facts h.passed e) part
+      below = next_below h.passed e p.1
 
       pub next_names : Below (length (records_of w.sheet.words.now)) names
       next_names =
@@ -52,12 +51,11 @@ module _ {part : Part} {v : Walk} (p : ExpandWalking v) where
         next : Walked w (part_of part x) y u
         next = subst (λ (xs : List ℕ). Walked w xs y u) names_are f
 
-        pub passing_more : {n : Unit {0}} → u ≡ Ok n → Passing part v y rest
-        passing_more g = record { roots = h.roots ++ part_of part x; passed = passed_more h.passed e; far = far_more p h.far (part_of part x) y u next below g }
+        pub passing_more : {n : Unit {0}} → u ≡ Ok n → Passing part v all y rest
+        passing_more g = record { roots = h.roots ++ part_of part x; passed = passed_more h.passed e; far = far_more p.0 h.far (part_of part x) y u next below g }
 
-        pub passing_refused : {q : Refusal} → u ≡ Err q → Walked v (parts_of part (read_sheet v.sheet.words.now).interactions) y u
-        passing_refused g =
-            far_refused p h.far (part_of part x) y u next g (parts_of part rest) (parts_of part (read_sheet v.sheet.words.now).interactions) (sym (next_whole h.passed e))
+        pub passing_refused : {q : Refusal} → u ≡ Err q → Walked v (parts_of part all) y u
+        passing_refused g = far_refused p.0 h.far (part_of part x) y u next g (parts_of part rest) (parts_of part all) (sym (next_whole h.passed e))
 
 -- From a pool whose records have no list yet, to all that some roots reach.
 module _ (v : Walk) (fresh : v.used ≡ 2 * length (records_of v.sheet.words.now)) (room : 2 * length (records_of v.sheet.words.now) ≤ length v.pool.now)

@@ -59,7 +59,7 @@ fits_signed : (s : Sign) (ms : List Monomial) → All Fits ms → All Fits (sign
 fits_signed Plus ms k = k
 fits_signed Minus ms k = all_map Fits Fits (neg_monomial prime) fits_negative ms k
 
-module _ (s : Sign) (l r : List Monomial) (fl : FitsList l) (fr : FitsList r) where
+module _ (s : Sign) (l r : List Monomial) (fl : All Fits l) (fr : All Fits r) where
   both_length : length (l ++ signed s r) ≡ length l + length r
   both_length = omega (arith, length-append l (signed s r), signed_length s r)
 
@@ -72,7 +72,7 @@ module _ (s : Sign) (l r : List Monomial) (fl : FitsList l) (fr : FitsList r) wh
 
     pub sum_made : (two : List Monomial) → two ≡ insert_all (signed s r) one → MakesCombined (Ok two) (l ++ signed s r)
     sum_made two k =
-        summed_made (l ++ signed s r) (omega (arith, both_length)) (all_append Fits l (signed s r) fl.fit (fits_signed s r fr.fit))
+        summed_made (l ++ signed s r) (omega (arith, both_length)) (all_append Fits l (signed s r) fl (fits_signed s r fr))
         (k ∙ ap (insert_all (signed s r)) (h ∙ ap (insert_all l) z) ∙ sym (sum_append l (signed s r) []))
 
 -- ---- Mul
@@ -128,12 +128,12 @@ products_long (x ∷ xs) (y ∷ ys) k q h =
     longest_longer 14 (products prime (x ∷ xs) (y ∷ ys))
     ∙ lt-ltb 14 (longest_of (products prime (x ∷ xs) (y ∷ ys))) (omega (arith, products_longest x xs y ys))
 
-module _ (l r : List Monomial) (fl : FitsList l) (fr : FitsList r) where
+module _ (l r : List Monomial) (fl : All Fits l) (fr : All Fits r) where
   pub product_many : 256 < length l * length r → MakesCombined (Err ListTooLong) (products prime l r)
   product_many h = work_many (products prime l r) (omega (arith, products_length l r))
 
   pub product_long : length l * length r ≤ 256 → 14 < longest_of l + longest_of r → MakesCombined (Err ProductTooLong) (products prime l r)
-  product_long few h = work_long (products prime l r) (omega (arith, products_length l r)) (products_long l r fl.fit fr.fit h)
+  product_long few h = work_long (products prime l r) (omega (arith, products_length l r)) (products_long l r fl fr h)
 
   pub product_made : length l * length r ≤ 256 → longest_of l + longest_of r ≤ 14 → {none made : List Monomial} → none ≡ [] → made ≡ insert_all (products prime l r) none
       → MakesCombined (Ok made) (products prime l r)

@@ -74,7 +74,7 @@ pub fn expand_product<'a>(
     l: Monomials,
     r: Monomials,
 ) -> Result<WorkList<'a>, Reason>
-    requires { 4096 ≤ length work.old }
+    requires { (4096 ≤ length work.old) × (length l ≤ 256) × (length r ≤ 256) }
     ensures { MakesCombined result (products prime l.entry r.entry) }
 {
     if 256 < l.len() * r.len() {

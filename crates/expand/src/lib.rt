@@ -16,7 +16,7 @@ use answers::{Reason, Refusal};
 use monomial::Sign;
 use monomial::reading::Monomials;
 use monomial::work_list::WorkList;
-use records::interactions::Part;
+use records::interactions::{Interactions, Part};
 use records::{CheckedSheet, Node};
 
 // A walk over a checked sheet: the pool holds the lists of the records that are expanded, in its first `used` words, and each list is made in the work.
@@ -85,7 +85,6 @@ fn store_list(list: &WorkList, pool: &mut [u32], r: usize, used: usize) -> Resul
 }
 
 impl<'a, 'b, 'c> Walk<'a, 'b, 'c> {
-    ghost use Rattle.semantics.specs.Check.{read_sheet};
     ghost use Rattle.semantics.specs.Walk.{Below};
     ghost use Rattle.records.specs.Named.{parts_of};
     ghost use Rattle.expand.specs.Walks.{Starts, ExpandWalking, ExpandReady, Finishing, Finished, Visited, Walked};
@@ -108,6 +107,13 @@ impl<'a, 'b, 'c> Walk<'a, 'b, 'c> {
             pool,
             used,
         }
+    }
+
+    // How many words of the pool are taken.
+    pub fn used(&self) -> usize
+        ensures { result ≡ self.now.used }
+    {
+        self.used
     }
 
     // Makes the list of a record whose children are expanded, and stores it. The list lies in the work, so the pool is lent beside it.
@@ -171,12 +177,12 @@ impl<'a, 'b, 'c> Walk<'a, 'b, 'c> {
         Ok(())
     }
 
-    // Expands a part of every interaction: the counts, or the fields.
-    pub fn expand_part(&mut self, part: Part) -> Result<(), Refusal>
-        requires { ExpandWalking self.old }
-        ensures { Walked self.old (parts_of part (read_sheet self.old.sheet.words.now).interactions) self.new result }
+    // Expands a part of each of the interactions: the counts, or the fields.
+    pub fn expand_part(&mut self, part: Part, interactions: Interactions) -> Result<(), Refusal>
+        requires { ExpandWalking self.old × Below (length (records_of self.old.sheet.words.now)) (parts_of part interactions) }
+        ensures { Walked self.old (parts_of part interactions.entry) self.new result }
     {
-        for x in self.sheet.interactions() {
+        for x in interactions {
             let answer = self.expand_references(x.part(part));
             let Ok(()) = answer else {
                 return answer;

@@ -27,7 +27,7 @@ pub fn neg(a: u32) -> u32
 pub fn mul(a: u32, b: u32) -> u32
     ensures { result ≡ mul_m prime a b }
 {
-    modular::BABY_BEAR.mul(a, b)
+    modular::BABY_BEAR_PRODUCTS.mul(a, b)
 }
 
 pub fn signed(a: u32) -> i64

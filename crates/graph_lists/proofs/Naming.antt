@@ -1,5 +1,5 @@
 -- Names turned into node numbers in the output.
-use mathlib.Core.Path.{◌≡◌, refl, sym, ap, subst, ◌∙◌}
+use mathlib.Core.Path.{◌≡◌, sym, ap, subst, ◌∙◌}
 use mathlib.Core.List.{List, [], ◌∷◌, ◌++◌, map, map-append, flat_map}
 use Prim.Native.Nat.{ℕ, pred, ◌+◌, ◌%◌, ◌≤◌, ◌<◌}
 use native.Mathlib.Omega.{arith}
@@ -9,14 +9,13 @@ use lib.Seq.{length-take-le}
 use Rattle.semantics.specs.Sheet.{Interaction, interaction_words}
 use Rattle.semantics.specs.Check.{read_sheet}
 use Rattle.semantics.specs.Graph.{renamed}
-use Rattle.records.specs.Access.{IsSheet}
 use Rattle.records.specs.Named.{references_of, references}
 use Rattle.std.proofs.lemmas.List.{take_more}
-use Rattle.records.proofs.Named.{Passed, passed_none, passed_done, next_facts, next_whole, passed_more}
+use Rattle.records.proofs.Named.{Passed, passed_none, passed_done, next_whole, passed_more}
 use Rattle.semantics.proofs.Members.{mem_get_or, mem_left, mem_right}
 use Rattle.slices.specs.Putting.{put, Puts}
-use Rattle.graph_lists.specs.Lists.{node_numbers, marks_of, NodesNamed, NamedInteraction, renamed_words, renamed_all}
-use Rattle.slices.proofs.Puts.{put_none, put_length, put_behind, set_behind, stores_put}
+use Rattle.graph_lists.specs.Lists.{node_numbers, marks_of, NodesNamed, renamed_words, renamed_all}
+use Rattle.slices.proofs.Puts.{put_none, put_length, put_behind, set_behind}
 
 module _ {names s : List ℕ} (h : NodesNamed names s) {j : ℕ} (l : j < length names) where
   abbrev x : ℕ
@@ -48,17 +47,17 @@ module _ {names s : List ℕ} (h : NodesNamed names s) {j : ℕ} (l : j < length
       ∙ ap (λ (ys : List ℕ). put out₀ to (node_numbers f ys)) (sym (take_more names j 0 l))
 
 -- An interaction's names, its count among them.
-module _ {x : Interaction} {s : List ℕ} (h : NamedInteraction x s) where
+module _ (x : Interaction) {s : List ℕ} (h : NodesNamed (references_of x) s) where
   pub fields_named : {fields : List ℕ} → fields ≡ x.message → NodesNamed fields s
   fields_named e = subst (λ (xs : List ℕ). NodesNamed xs s) (sym e) (record {
-    small = h.named.small;
-    named = λ c m. h.named.named c (mem_left c x.message (x.count ∷ []) m);
+    small = h.small;
+    named = λ c m. h.named c (mem_left c x.message (x.count ∷ []) m);
   })
 
   count_named : {count : ℕ} → count ≡ x.count → NodesNamed (count ∷ []) s
   count_named e = subst (λ (n : ℕ). NodesNamed (n ∷ []) s) (sym e) (record {
-    small = h.named.small;
-    named = λ c m. h.named.named c (mem_right c x.message (x.count ∷ []) m);
+    small = h.small;
+    named = λ c m. h.named c (mem_right c x.message (x.count ∷ []) m);
   })
 
   pub count_asks : {count : ℕ} → count ≡ x.count → (count < length s) × (0 < get_or s count 0 % 65536)
@@ -68,12 +67,11 @@ module _ {x : Interaction} {s : List ℕ} (h : NamedInteraction x s) where
   unfolding interaction_words renamed
   renamed_length = omega (arith, length-map x.message (λ (c : ℕ). pred (marks_of s c)))
 
-  -- Its words are written: bus, weight, the count's node, the message's length and the nodes of its fields.
-  module _ (out : List ℕ) (to : ℕ) (room : to + (4 + length x.message) ≤ length out) {bus weight count len node : ℕ} {fields : List ℕ}
-      (bus_is : bus ≡ x.bus) (weight_is : weight ≡ x.weight) (count_is : count ≡ x.count) (len_is : len ≡ length x.message) (fields_are : fields ≡ x.message)
-      (node_is : node ≡ pred (get_or s count 0 % 65536)) where
+  -- Its words are written: bus, weight, the count's node and the message's length, then the nodes of its fields.
+  module _ (out : List ℕ) (to : ℕ) (room : to + (4 + length x.message) ≤ length out) {count node : ℕ} {fields : List ℕ}
+      (count_is : count ≡ x.count) (fields_are : fields ≡ x.message) (node_is : node ≡ pred (get_or s count 0 % 65536)) where
     abbrev front : List ℕ
-    front = bus ∷ weight ∷ node ∷ len ∷ []
+    front = x.bus ∷ x.weight ∷ node ∷ length x.message ∷ []
 
     abbrev num : ℕ → ℕ
     num c = pred (marks_of s c)
@@ -82,32 +80,34 @@ module _ {x : Interaction} {s : List ℕ} (h : NamedInteraction x s) where
     unfolding interaction_words renamed
     words_are =
         let k : node ≡ num x.count = number_is (count_named count_is) {j = 0} (omega arith) node_is ∙ ap num count_is in
-        let l : len ≡ length (map num x.message) = len_is ∙ sym (length-map x.message num) in
-        λ i. bus_is i ∷ weight_is i ∷ k i ∷ l i ∷ map num (fields_are i)
+        λ i. x.bus ∷ x.weight ∷ k i ∷ sym (length-map x.message num) i ∷ map num (fields_are i)
 
-    pub interaction_put : {o : List ℕ} {next : ℕ} → next ≡ 4 + length x.message
-        → o ≡ put (set (set (set (set out to bus) (to + 1) weight) (to + 2) node) (to + 3) len) (to + 4) (node_numbers (marks_of s) fields)
-        → Puts out to (renamed_words s x) o (to + next)
-    interaction_put n e =
+    pub fields_room : {o : List ℕ} {at : ℕ} → Puts out to front o at → NodesNamed fields s × (at + length fields ≤ length o)
+    fields_room p = (fields_named fields_are, omega (arith, p.next_is, room, ap length fields_are, ap length p.out_is, put_length out to front (omega arith)))
+
+    pub interaction_put : {o o' : List ℕ} {at next : ℕ} → Puts out to front o at → next ≡ 4 + length x.message
+        → o' ≡ put o at (node_numbers (marks_of s) fields) → Puts out to (renamed_words s x) o' (to + next)
+    interaction_put {o} {o'} {at} p n e =
         let l = ap length words_are ∙ renamed_length in
-        let f = stores_put out to bus (weight ∷ node ∷ len ∷ []) (omega arith) in
         record {
-          out_is = e ∙ put_behind out _ to front f (to + 4) refl (node_numbers (marks_of s) fields) (omega (arith, renamed_length, l)) ∙ ap (put out to) words_are;
+          out_is =
+              e ∙ put_behind out o to front p.out_is at p.next_is (node_numbers (marks_of s) fields) (omega (arith, room, l, length-append front (node_numbers (marks_of s) fields)))
+              ∙ ap (put out to) words_are;
           next_is = omega (arith, n, renamed_length);
         }
 
 -- The loop over the interactions: what is written and what is left make the whole.
 pub record Written (ws s : List ℕ) (out₀ : List ℕ) (to : ℕ) (out : List ℕ) (next : ℕ) (left : List Interaction) : Type 0 where
   pub words : List ℕ
-  pub passed : Passed (renamed_words s) ws left words
+  pub passed : Passed (renamed_words s) (read_sheet ws).interactions left words
   pub named : NodesNamed (references left) s
   pub out_is : Puts out₀ to words out next
 
-pub written_none : {ws s : List ℕ} {out₀ : List ℕ} {to : ℕ} {left : List Interaction} → IsSheet ws → NodesNamed (references (read_sheet ws).interactions) s
+pub written_none : {ws s : List ℕ} {out₀ : List ℕ} {to : ℕ} {left : List Interaction} → NodesNamed (references (read_sheet ws).interactions) s
     → left ≡ (read_sheet ws).interactions → Written ws s out₀ to out₀ to left
-written_none {ws} {s} {out₀} {to} checked h e = record {
+written_none {ws} {s} {out₀} {to} h e = record {
   words = [];
-  passed = passed_none checked e;
+  passed = passed_none e;
   named = subst (λ (xs : List Interaction). NodesNamed (references xs) s) (sym e) h;
   out_is = record { out_is = sym (put_none out₀ to); next_is = omega arith };
 }
@@ -121,11 +121,8 @@ module _ {ws s : List ℕ} {out₀ : List ℕ} {to : ℕ} {out : List ℕ} {next
     unfolding flat_map
     named_now = subst (λ (xs : List Interaction). NodesNamed (references xs) s) e h.named
 
-    pub next_named : NamedInteraction x s
-    next_named = record {
-      short = (next_facts h.passed e).short;
-      named = record { small = h.named.small; named = λ c m. named_now.named c (mem_left c (references_of x) (references rest) m) };
-    }
+    pub next_named : NodesNamed (references_of x) s
+    next_named = record { small = h.named.small; named = λ c m. named_now.named c (mem_left c (references_of x) (references rest) m) }
 
     split_length : length h.words + (length (renamed_words s x) + length (renamed_all s rest)) ≡ length (renamed_all s (read_sheet ws).interactions)
     split_length =
@@ -134,7 +131,7 @@ module _ {ws s : List ℕ} {out₀ : List ℕ} {to : ℕ} {out : List ℕ} {next
 
     pub next_room : next + (4 + length x.message) ≤ length out
     next_room =
-        let k = renamed_length next_named in
+        let k = renamed_length x next_named in
         let l = ap length h.out_is.out_is ∙ put_length out₀ to h.words (omega (arith, split_length)) in
         omega (arith, split_length, k, l, h.out_is.next_is)
 

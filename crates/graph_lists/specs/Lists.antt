@@ -7,7 +7,6 @@ use Rattle.semantics.specs.Walk.{Mem, member, order}
 use Rattle.semantics.specs.Graph.{graph_roots, renamed, graph_of}
 use Rattle.semantics.specs.Call.{padded}
 use Rattle.records.specs.Access.{records_of}
-use Rattle.records.specs.Named.{references_of}
 use Rattle.nodes.specs.Memory.{GraphHolds}
 
 -- The nodes of the constraints are flagged in scratch by 65,536 while they are put into ascending order.
@@ -52,11 +51,6 @@ renamed_words scratch x = interaction_words (renamed (λ c. pred (marks_of scrat
 
 abbrev pub renamed_all : (scratch : List ℕ) → List Interaction → List ℕ
 renamed_all scratch xs = flat_map (renamed_words scratch) xs
-
--- What turning the references of an interaction into nodes asks.
-pub record NamedInteraction (x : Interaction) (scratch : List ℕ) : Type 0 where
-  pub short : length x.message ≤ 63
-  pub named : NodesNamed (references_of x) scratch
 
 -- All records that the sheet names are added.
 abbrev pub all_added : List ℕ → List ℕ

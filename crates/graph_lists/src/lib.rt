@@ -2,15 +2,14 @@
 #![tactic(auto)]
 
 ghost use Rattle.std.specs.Prelude.{◌≡◌, pred, ◌+◌, ◌%◌, ◌≤◌, ◌<◌, length, get_or, set};
-ghost use Rattle.semantics.specs.Check.{read_sheet};
-ghost use Rattle.records.specs.Named.{references};
+ghost use Rattle.semantics.specs.Check.{read_interaction, read_sheet};
+ghost use Rattle.records.specs.Named.{references_of, references};
 ghost use Rattle.nodes.specs.Memory.{tabulate};
 ghost use Rattle.slices.specs.Putting.{put, Puts};
 ghost use Rattle.graph_lists.specs.Lists.{flag_word, plain_below, flagged, flagged_among, node_numbers, marks_of, NodesNamed};
-ghost use Rattle.graph_lists.specs.Lists.{NamedInteraction, renamed_words, renamed_all, ToWriteLists, graph_out, graph_length};
+ghost use Rattle.graph_lists.specs.Lists.{renamed_words, renamed_all, ToWriteLists, graph_out, graph_length};
 
-use records::CheckedSheet;
-use records::interactions::Interaction;
+use records::{CheckedSheet, Interaction};
 
 // Above every mark: a mark is a node's number counted from 1.
 const FLAG: u32 = 65536;
@@ -75,14 +74,13 @@ fn write_references(names: &[u32], scratch: &[u32], out: &mut [u32], to: usize)
 
 // Writes an interaction with its references turned into nodes, and hands back where the output goes on.
 fn write_interaction(x: &Interaction, scratch: &[u32], out: &mut [u32], to: usize) -> usize
-    requires { NamedInteraction x.now scratch.now × (to + (4 + length x.now.message) ≤ length out.old) }
-    ensures { Puts out.old to (renamed_words scratch.now x.now) out.new result }
+    requires { NodesNamed (references_of (read_interaction x.now.words.now)) scratch.now
+        × (to + (4 + length (read_interaction x.now.words.now).message) ≤ length out.old) }
+    ensures { Puts out.old to (renamed_words scratch.now (read_interaction x.now.words.now)) out.new result }
 {
-    out[to] = x.bus();
-    out[to + 1] = x.weight();
-    out[to + 2] = node_number(scratch, x.count() as usize) as u32;
-    out[to + 3] = x.message_length() as u32;
-    write_references(x.fields(), scratch, out, to + 4);
+    let count = node_number(scratch, x.count() as usize) as u32;
+    let fields = x.write_front(count, out, to);
+    write_references(x.fields(), scratch, out, fields);
     to + x.word_count()
 }
 

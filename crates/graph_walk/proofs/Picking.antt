@@ -24,12 +24,7 @@ use Rattle.nodes.specs.Memory.{built_of}
 use Rattle.nodes.proofs.NodeLaws.{node_in_lem}
 use Rattle.nodes.proofs.States as states
 use Rattle.graph_walk.specs.declared.Walk.{Walk}
-use Rattle.graph_walk.specs.Walking.{State, Adding, pick_of_record}
-
--- What the code reads of a built child.
-abbrev pub Reads : Walk → (c : ℕ) → Child → Type 0
-Reads w c x =
-    (x.number ≡ get_or w.scratch.now c 0 - 1) × (shown_node x.node ≡ node_of (node_in w.out.now (get_or w.scratch.now c 0 - 1)))
+use Rattle.graph_walk.specs.Walking.{State, Adding, Reads, pick_of_record}
 
 -- What is known when the node of record r is picked: its words q, that it is m, and that its children are added.
 pub record Picking (w : Walk) (r : ℕ) (q : declared.Record) (m : Node) (done : List ℕ) : Type 0 where

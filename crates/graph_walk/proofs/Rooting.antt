@@ -4,15 +4,13 @@ use mathlib.Core.List.{List, [], ◌∷◌, ◌++◌}
 use Prim.Native.Nat.{ℕ, ◌+◌, ◌<◌}
 use lib.ListN.{length, get_or, take}
 use Rattle.semantics.specs.Walk.{Below, children_at, fold_left, visit}
-use Rattle.semantics.proofs.Members.{mem_get_or}
+use Rattle.semantics.proofs.Members.{mem_here, mem_left, mem_right, mem_get_or}
 use Rattle.semantics.specs.Sheet.{Interaction}
-use Rattle.semantics.specs.Check.{read_sheet}
-use Rattle.semantics.proofs.GraphSheets.{InteractionFacts}
 use Rattle.records.specs.Access.{records_of}
 use Rattle.records.specs.Named.{references_of, references}
 use Rattle.records.specs.Orders.{Order, Visiting}
 use Rattle.records.proofs.Rooting.{order_walk, visiting_none, visiting_one, visiting_both}
-use Rattle.records.proofs.Named.{all_references_below, Passed, passed_none, passed_below, passed_done, next_facts, passed_more}
+use Rattle.records.proofs.Named.{Passed, passed_none, passed_below, passed_done, next_below, passed_more}
 use Rattle.std.proofs.lemmas.List.{take_more}
 use Rattle.records.proofs.Parts.{mem_take}
 use Rattle.graph_walk.specs.declared.Walk.{Walk}
@@ -85,47 +83,50 @@ module _ {u : Walk} {names : List ℕ} (p : AddWalking u) (below : Below (size u
         (walks_both (take j names) (r ∷ []) so_far h.walks (walks_one r inside f));
   }
 
--- What holds while the interactions are added; `left` are still to add.
-pub record Rooting (u v : Walk) (left : List Interaction) : Type 0 where
+-- What holds while the interactions are added; `left` are still to add, of all.
+pub record Rooting (u : Walk) (all : List Interaction) (v : Walk) (left : List Interaction) : Type 0 where
   pub roots : List ℕ
-  pub passed : Passed references_of u.sheet.words.now left roots
+  pub passed : Passed references_of all left roots
   pub walks : Walks u roots v
 
-module _ {u : Walk} (p : AddWalking u) where
-  pub rooting_none : {left : List Interaction} → left ≡ (read_sheet u.sheet.words.now).interactions → Rooting u u left
-  rooting_none e = record { roots = []; passed = passed_none u.sheet.checked e; walks = walks_none u }
+pub rooting_none : {u : Walk} {all left : List Interaction} → left ≡ all → Rooting u all u left
+rooting_none {u} e = record { roots = []; passed = passed_none e; walks = walks_none u }
 
-  module _ {v : Walk} {left : List Interaction} (h : Rooting u v left) where
-    so_far_below : Below (size u) h.roots
-    so_far_below = passed_below h.passed (all_references_below u.sheet.words.now u.sheet.checked)
+module _ {u : Walk} {all : List Interaction} (p : AddWalking u × Below (size u) (references all)) {v : Walk} {left : List Interaction}
+    (h : Rooting u all v left) where
+  so_far_below : Below (size u) h.roots
+  so_far_below = passed_below h.passed p.1
 
-    pub rooting_walking : AddWalking v
-    rooting_walking = walking_after h.roots so_far_below p h.walks
+  pub rooting_walking : AddWalking v
+  rooting_walking = walking_after h.roots so_far_below p.0 h.walks
 
-    pub rooting_done : left ≡ [] → Walks u (references (read_sheet u.sheet.words.now).interactions) v
-    rooting_done e = subst (λ (xs : List ℕ). Walks u xs v) (passed_done h.passed e) h.walks
+  pub rooting_done : left ≡ [] → Walks u (references all) v
+  rooting_done e = subst (λ (xs : List ℕ). Walks u xs v) (passed_done h.passed e) h.walks
 
-    -- The fields of the next are added, then its count.
-    module _ {x : Interaction} {rest : List Interaction} (e : left ≡ x ∷ rest) {fields : List ℕ} (fields_are : fields ≡ x.message) where
-      facts : InteractionFacts (size u) x
-      facts = next_facts h.passed e
+  -- The fields of the next are added, then its count.
+  module _ {x : Interaction} {rest : List Interaction} (e : left ≡ x ∷ rest) {fields : List ℕ} (fields_are : fields ≡ x.message) where
+    next : Below (size u) (references_of x)
+    next = next_below h.passed e p.1
 
-      pub fields_inside : Below (size v) fields
-      fields_inside = still_below h.walks.0 fields (subst (Below (size u)) (sym fields_are) facts.message)
+    pub fields_inside : Below (size v) fields
+    fields_inside =
+        still_below h.walks.0 fields (subst (Below (size u)) (sym fields_are) (λ c m. next c (mem_left c x.message (x.count ∷ []) m)))
 
-      module _ {v₁ : Walk} (f : Walks v fields v₁) {count : ℕ} (count_is : count ≡ x.count) where
-        count_inside : count < size v₁
-        count_inside = still_inside f.0 (still_inside h.walks.0 (subst (λ (c : ℕ). c < size u) (sym count_is) facts.count))
+    module _ {v₁ : Walk} (f : Walks v fields v₁) {count : ℕ} (count_is : count ≡ x.count) where
+      count_inside : count < size v₁
+      count_inside =
+          still_inside f.0
+          (still_inside h.walks.0 (subst (λ (c : ℕ). c < size u) (sym count_is) (next x.count (mem_right x.count x.message (x.count ∷ []) (mem_here x.count [])))))
 
-        pub count_ready : AddWalking v₁ × (count < size v₁)
-        count_ready = (walking_after fields fields_inside rooting_walking f, count_inside)
+      pub count_ready : AddWalking v₁ × (count < size v₁)
+      count_ready = (walking_after fields fields_inside rooting_walking f, count_inside)
 
-        pub rooting_more : {v₂ : Walk} → Visited v₁ count v₂ → Rooting u v₂ rest
-        rooting_more {v₂} g = record {
-          roots = h.roots ++ references_of x;
-          passed = passed_more h.passed e;
-          walks =
-              walks_both h.roots (references_of x) so_far_below h.walks
-              (subst (λ (xs : List ℕ). Walks v xs v₂) (λ i. fields_are i ++ (count_is i ∷ []))
-              (walks_both fields (count ∷ []) fields_inside f (walks_one count count_inside g)));
-        }
+      pub rooting_more : {v₂ : Walk} → Visited v₁ count v₂ → Rooting u all v₂ rest
+      rooting_more {v₂} g = record {
+        roots = h.roots ++ references_of x;
+        passed = passed_more h.passed e;
+        walks =
+            walks_both h.roots (references_of x) so_far_below h.walks
+            (subst (λ (xs : List ℕ). Walks v xs v₂) (λ i. fields_are i ++ (count_is i ∷ []))
+            (walks_both fields (count ∷ []) fields_inside f (walks_one count count_inside g)));
+      }

@@ -8,6 +8,7 @@ ghost use Rattle.records.specs.Access.{records_of};
 
 use nodes::rules;
 use nodes::rules::{Child, Pick};
+use records::interactions::Interactions;
 use records::{CheckedSheet, Node};
 
 // A walk over a checked sheet: the output holds n nodes so far, and scratch the number of each record's node, counted from 1. There is room for as
@@ -23,31 +24,28 @@ pub struct Walk<'a, 'b, 'c> {
 
 impl<'a, 'b, 'c> Walk<'a, 'b, 'c> {
     ghost use Rattle.std.specs.Prelude.{ℕ, ◌+◌, ◌-◌, ◌<◌, get_or};
-    ghost use Rattle.semantics.specs.Value.{node_of};
-    ghost use Rattle.semantics.specs.Check.{read_sheet};
     ghost use Rattle.semantics.specs.Walk.{Below};
-    ghost use Rattle.records.specs.Access.{node_in};
     ghost use Rattle.records.specs.Named.{references};
-    ghost use Rattle.records.specs.Nodes.{shown_node};
     ghost use Rattle.nodes.specs.Picks.{pick_of};
-    ghost use Rattle.graph_walk.specs.Walking.{Starts, AddWalking, Adding, Picks, Same, Visited, Finished, Walks};
+    ghost use Rattle.graph_walk.specs.Walking.{Starts, AddWalking, Adding, Reads, Picks, Same, Visited, Finished, Walks};
 
-    // Nothing is added yet.
+    // It goes on from an output that holds n nodes: none where no record is added yet.
     pub fn new(
         sheet: CheckedSheet<'a>,
         scratch: &'b mut [u32],
         out: &'c mut [u32],
+        n: usize,
     ) -> Walk<'a, 'b, 'c>
         requires { place 5 (length (records_of sheet.words.now)) ≤ length out.old }
         ensures scratch { result.scratch.ghost_name ≡ scratch.entry.ghost_name }
         ensures out { result.out.ghost_name ≡ out.entry.ghost_name }
-        ensures none { Starts sheet.entry.words.now scratch.old out.old result }
+        ensures starts { Starts sheet.entry.words.now scratch.old out.old n result }
     {
         Walk {
             sheet,
             scratch,
             out,
-            n: 0,
+            n,
         }
     }
 
@@ -62,8 +60,7 @@ impl<'a, 'b, 'c> Walk<'a, 'b, 'c> {
     fn built_child(&self, c: u32) -> Child
         requires { (c < length self.now.scratch.now) × (0 < get_or self.now.scratch.now c 0)
             × (place 5 (get_or self.now.scratch.now c 0 - 1) + 5 ≤ length self.now.out.now) }
-        ensures { (result.number ≡ get_or self.now.scratch.now c 0 - 1)
-            × (shown_node result.node ≡ node_of (node_in self.now.out.now (get_or self.now.scratch.now c 0 - 1))) }
+        ensures { Reads self.now c result }
     {
         nodes::child(self.out, self.scratch[c as usize] - 1)
     }
@@ -128,11 +125,11 @@ impl<'a, 'b, 'c> Walk<'a, 'b, 'c> {
     }
 
     // Adds what the interactions name: of each its fields, then its count.
-    pub fn add_interactions(&mut self)
-        requires { AddWalking self.old }
-        ensures { Walks self.old (references (read_sheet self.old.sheet.words.now).interactions) self.new }
+    pub fn add_interactions(&mut self, interactions: Interactions)
+        requires { AddWalking self.old × Below (length (records_of self.old.sheet.words.now)) (references interactions) }
+        ensures { Walks self.old (references interactions.entry) self.new }
     {
-        for x in self.sheet.interactions() {
+        for x in interactions {
             self.add_references(x.fields());
             self.add_expr(x.count() as usize);
         }

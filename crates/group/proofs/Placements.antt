@@ -24,7 +24,7 @@ use Rattle.group.specs.declared.place.Form.TheVariants.{Constraint, Interaction}
 use Rattle.group.specs.declared.place.Label.{Label}
 use Rattle.group.specs.declared.place.Label.TheVariants as label
 use Rattle.group.specs.Grouped.{Tally, Ascends, tallied_count, tallied_total, none, tallied, tally_row, RowInside, Rows, Spot, select, placed, cursors, RoomForTerms, column}
-use Rattle.group.specs.Grouped.{monomial_in, MonomialInside, list_of, InPool, kept_of, term_of, term_width, form_at, words_at, item_at, items_at, Placing, ToPlace, Places}
+use Rattle.group.specs.Grouped.{monomial_in, MonomialInside, list_of, InPool, kept_of, term_of, term_width, form_at, words_at, item_at, items_at, items_on, Placing, ToPlace, Places}
 use Rattle.group.proofs.Gathering.{less_is, more_is}
 use Rattle.group.proofs.Places.{select_append, select_same, Fit, room_fit, spot, cursor_at, cursor_step, place_step}
 use Rattle.group.proofs.Headers.{tallied_length}
@@ -244,39 +244,31 @@ module _ (b : Form) (n : ℕ) (P H₀ T₀ : List ℕ) (all : List Item) where
       subst (λ (l : List Item). Placing b gs n H P T (done ++ l))
       (sym (append-nil g.front) ∙ ap (λ (l : List Item). g.front ++ l) (sym e) ∙ g.whole) (g.placing gs done x y)
 
--- The items of the monomials that stand at some places.
-abbrev pub items_on : Label → (pool places : List ℕ) → List Item
-items_on l pool places = map (λ (at : ℕ). item_at l (monomial_in pool at)) places
-
--- While a record's list is placed: the monomials that stand at `left` are still to come.
-pub record Listing (l : Label) (node : ℕ) (g₀ : Groups) (T₀ : List ℕ) (g : Groups) (T left : List ℕ) : Type 0 where
+-- While the monomials that stand at the places `all` are placed: those at `left` are still to come.
+pub record Listing (l : Label) (all : List ℕ) (g₀ : Groups) (T₀ : List ℕ) (g : Groups) (T left : List ℕ) : Type 0 where
   pub same : Same g₀ g
   pub rows_are : g.n ≡ g₀.n
   pub inside : All (PlaceInside g₀.pool.now) left
-  pub going : Going (form_at l) g₀.n g₀.pool.now g₀.headers.now T₀ (items_at l (list_of g₀.pool.now node)) g.headers.now T (items_on l g₀.pool.now left)
+  pub going : Going (form_at l) g₀.n g₀.pool.now g₀.headers.now T₀ (items_on l g₀.pool.now all) g.headers.now T (items_on l g₀.pool.now left)
 
-pub listing_start : (l : Label) (node : ℕ) (g : Groups) (T left : List ℕ) → InPool g.pool.now node → left ≡ kept_of g.pool.now node → Listing l node g T g T left
-listing_start l node g T left s e =
-    let P : List ℕ = g.pool.now in
-    let at : ℕ = get_or P (2 * node) 0 in
-    let n : ℕ = get_or P (2 * node + 1) 0 in
-    record {
-      same = same_as g;
-      rows_are = refl;
-      inside = subst (All (PlaceInside P)) (sym e) (kept_inside P at n (stands P node s));
-      going = record {
-        long = refl;
-        terms_long = refl;
-        front = [];
-        whole = ap (items_on l P) e ∙ kept_items l P at n;
-        placing = λ gs done x y. subst (Placing (form_at l) gs g.n g.headers.now P T) (sym (append-nil done)) x;
-      };
-    }
+pub listing_start : (l : Label) (all : List ℕ) (g : Groups) (T left : List ℕ) → All (PlaceInside g.pool.now) all → left ≡ all → Listing l all g T g T left
+listing_start l all g T left s e = record {
+  same = same_as g;
+  rows_are = refl;
+  inside = subst (All (PlaceInside g.pool.now)) (sym e) s;
+  going = record {
+    long = refl;
+    terms_long = refl;
+    front = [];
+    whole = ap (items_on l g.pool.now) e;
+    placing = λ gs done x y. subst (Placing (form_at l) gs g.n g.headers.now g.pool.now T) (sym (append-nil done)) x;
+  };
+}
 
-module _ {l : Label} {node : ℕ} {g₀ : Groups} {T₀ : List ℕ} {g : Groups} {T left : List ℕ} (t : Listing l node g₀ T₀ g T left) where
+module _ {l : Label} {all : List ℕ} {g₀ : Groups} {T₀ : List ℕ} {g : Groups} {T left : List ℕ} (t : Listing l all g₀ T₀ g T left) where
   module _ {at : ℕ} {left' : List ℕ} (e : left ≡ at ∷ left') where
     -- What is asked and done for groups with the same rows over the same pool is so for these.
-    pub listing_asks : MayPlace (form_at l) g₀ T₀ (items_at l (list_of g₀.pool.now node))
+    pub listing_asks : MayPlace (form_at l) g₀ T₀ (items_on l g₀.pool.now all)
         → MayPlace (form_at l) g T (item_at l (monomial_in g.pool.now at) ∷ []) × (get_or g.pool.now at 0 ≤ 14) × MonomialInside g.pool.now at
     listing_asks m =
         let P : List ℕ = g₀.pool.now in
@@ -286,7 +278,7 @@ module _ {l : Label} {node : ℕ} {g₀ : Groups} {T₀ : List ℕ} {g : Groups}
         (subst (λ (n : ℕ). ToPlace (form_at l) n g.headers.now P T (item_at l (monomial_in P at) ∷ [])) (sym t.rows_are) h, i.0, i.1)
 
     pub listing_step : {g' : Groups} {T' : List ℕ} → length T' ≡ length T → Placed (form_at l) g T g' T' (item_at l (monomial_in g.pool.now at) ∷ [])
-        → Listing l node g₀ T₀ g' T' left'
+        → Listing l all g₀ T₀ g' T' left'
     listing_step {g'} {T'} lt does =
         let P : List ℕ = g₀.pool.now in
         let p =
@@ -301,11 +293,26 @@ module _ {l : Label} {node : ℕ} {g₀ : Groups} {T₀ : List ℕ} {g : Groups}
               g'.headers.now T' does.same.long lt p;
         }
 
-  pub listing_done : left ≡ [] → Placed (form_at l) g₀ T₀ g T (items_at l (list_of g₀.pool.now node))
+  pub listing_done : left ≡ [] → Placed (form_at l) g₀ T₀ g T (items_on l g₀.pool.now all)
   listing_done e = record {
     same = t.same;
     rows = t.rows_are;
     places =
-        going_done (form_at l) g₀.n g₀.pool.now g₀.headers.now T₀ (items_at l (list_of g₀.pool.now node)) g.headers.now T _
+        going_done (form_at l) g₀.n g₀.pool.now g₀.headers.now T₀ (items_on l g₀.pool.now all) g.headers.now T _
         (ap (items_on l g₀.pool.now) e) t.going;
   }
+
+-- The list of a record: what placing it asks and does is what placing the monomials that are kept of it asks and does.
+module _ (l : Label) (P : List ℕ) (node : ℕ) where
+  record_items : items_on l P (kept_of P node) ≡ items_at l (list_of P node)
+  record_items = kept_items l P (get_or P (2 * node) 0) (get_or P (2 * node + 1) 0)
+
+  pub record_asks : (g : Groups) (T : List ℕ) → MayPlace (form_at l) g T (items_at l (list_of P node)) → InPool P node
+      → MayPlace (form_at l) g T (items_on l P (kept_of P node)) × All (PlaceInside P) (kept_of P node)
+  record_asks g T m s = (
+    subst (MayPlace (form_at l) g T) (sym record_items) m,
+    kept_inside P (get_or P (2 * node) 0) (get_or P (2 * node + 1) 0) (stands P node s),
+  )
+
+  pub record_placed : {g h : Groups} {T T' : List ℕ} → Placed (form_at l) g T h T' (items_on l P (kept_of P node)) → Placed (form_at l) g T h T' (items_at l (list_of P node))
+  record_placed {g} {h} {T} {T'} does = subst (Placed (form_at l) g T h T') record_items does

@@ -6,6 +6,7 @@ use native.Mathlib.Omega.{arith}
 use lib.ListN.{length, get_or, take}
 use Rattle.std.specs.Prelude.{Option, Some, None}
 use Rattle.semantics.specs.Lists.{All}
+use Rattle.monomial.specs.Words.{read_list, list_in}
 use Rattle.group.specs.declared.Groups.{Groups}
 use Rattle.group.specs.declared.waits.Waits.{Waits}
 use Rattle.group.specs.Grouped.{tally_all, tallied_total, non_zero, list_of, InPool, kept_of}
@@ -82,6 +83,14 @@ tallying_start g node w left s t some none e =
       small = omega (arith, ap tallied_total b, ap length e);
       whole = (λ i. tally_all (map (pool_vars P) (e i)) (b i)) ∙ ap (λ (vs : List (List ℕ)). tally_all vs (tallies g)) (kept_vars P at n);
     }
+
+-- Of an empty list nothing is counted.
+pub tallying_empty : (g : Groups) (node : ℕ) → get_or g.pool.now (2 * node + 1) 0 ≡ 0
+    → Counted g g (tally_all (non_zero (list_of g.pool.now node)) (tallies g)) (Some tt)
+unfolding tally_all non_zero read_list
+tallying_empty g node e =
+    let P : List ℕ = g.pool.now in
+    (same_as g, ap (λ (n : ℕ). tally_all (non_zero (list_in P (get_or P (2 * node) 0) n)) (tallies g)) (sym e))
 
 module _ {g₀ : Groups} {node : ℕ} {g : Groups} {w : Waits} {left : List ℕ} (t : Tallying g₀ node g w left) where
   module _ {at : ℕ} {left' : List ℕ} (e : left ≡ at ∷ left') where

@@ -189,12 +189,15 @@ abbrev pub words_at : Label → (coef : ℕ) → List ℕ
 words_at (label.Constraint i) c = i ∷ c ∷ []
 words_at (label.Interaction i f) c = c ∷ i ∷ f ∷ []
 
--- A monomial as an item, and the items of a list, for a label.
+-- A monomial as an item, the items of a list, and those of monomials that stand at some places of the pool, for a label.
 abbrev pub item_at : Label → Monomial → Item
 item_at l m = record { vars = m.vars; index = index_at l; field = field_at l; coef = m.coef }
 
 abbrev pub items_at : Label → List Monomial → List Item
 items_at l ms = items_of (record { node = 0; index = index_at l; field = field_at l }) ms
+
+abbrev pub items_on : Label → (pool places : List ℕ) → List Item
+items_on l pool places = map (λ (at : ℕ). item_at l (monomial_in pool at)) places
 
 -- Headers and terms while the items `done` are placed into the groups `gs`.
 pub record Placing (form : Form) (gs : List Tally) (n : ℕ) (headers pool terms : List ℕ) (done : List Item) : Type 0 where

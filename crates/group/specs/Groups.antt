@@ -23,6 +23,12 @@ pub record Starts (headers pool : List ℕ) (g : Groups) : Type 0 where
   pub long : length g.headers.now ≡ length headers
   pub pool_is : g.pool.now ≡ pool
 
+-- The n groups whose rows stand in these headers, over this pool.
+pub record Holds (n : ℕ) (headers pool : List ℕ) (g : Groups) : Type 0 where
+  pub count : g.n ≡ n
+  pub headers_are : g.headers.now ≡ headers
+  pub pool_is : g.pool.now ≡ pool
+
 -- After counting: the groups have these tallies, or the slice is too short for them.
 abbrev pub Counted : (g h : Groups) → List Tally → Option (Unit {0}) → Type 0
 Counted g h gs (Some u) = Same g h × (tallies h ≡ gs)

@@ -1,7 +1,7 @@
-// The monomials of a record's list in the pool whose coefficient is not 0: each is where it stands.
+// The monomials of a list in the pool whose coefficient is not 0: each is where it stands.
 ghost use Rattle.std.specs.Prelude.{◌≡◌};
 ghost use Rattle.std.specs.Iterator.{YieldsFirst, item_count};
-ghost use Rattle.group.specs.Grouped.{InPool, kept_of};
+ghost use Rattle.group.specs.Grouped.{Standing, InPool, kept_places, kept_of};
 
 use std::marker::Model;
 
@@ -25,17 +25,22 @@ impl<'a> Model for Kept<'a> {
 }
 
 impl<'a> Kept<'a> {
+    // Those of the `count` monomials that stand from `at` on.
+    #[inline(always)]
+    pub fn new(pool: &'a [u32], at: usize, count: usize) -> Self
+        requires { Standing count pool.now at }
+        ensures { result ≡ kept_places pool.now at count }
+    {
+        Kept { pool, at, count }
+    }
+
     // Those of record `node`.
     #[inline(always)]
     pub fn of(pool: &'a [u32], node: usize) -> Self
         requires { InPool pool.now node }
         ensures { result ≡ kept_of pool.now node }
     {
-        Kept {
-            pool,
-            at: pool[2 * node] as usize,
-            count: pool[2 * node + 1] as usize,
-        }
+        Kept::new(pool, pool[2 * node] as usize, pool[2 * node + 1] as usize)
     }
 }
 

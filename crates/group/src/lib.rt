@@ -5,7 +5,7 @@ ghost use Rattle.std.specs.Prelude.{◌≡◌};
 ghost use Rattle.group.specs.Grouped.{Rows};
 ghost use Rattle.group.specs.OneProof.{rows_props};
 
-mod kept;
+pub mod kept;
 pub mod place;
 mod search;
 mod tally;
@@ -23,7 +23,7 @@ pub struct Groups<'a> {
 }
 
 impl<'a> Groups<'a> {
-    ghost use Rattle.group.specs.Groups.{tallies, Starts};
+    ghost use Rattle.group.specs.Groups.{tallies, Starts, Holds};
 
     // No groups; the headers are cleared.
     pub fn new(headers: &'a mut [u32], pool: &'a [u32]) -> Groups<'a>
@@ -36,6 +36,15 @@ impl<'a> Groups<'a> {
             n: 0,
             pool,
         }
+    }
+
+    // The n groups whose rows stand in the headers.
+    pub fn from_rows(headers: &'a mut [u32], n: usize, pool: &'a [u32]) -> Groups<'a>
+        requires { Rows n headers.old pool.now }
+        ensures same { result.headers.ghost_name ≡ headers.entry.ghost_name }
+        ensures rows { Holds n headers.old pool.now result }
+    {
+        Groups { headers, n, pool }
     }
 
     // How many there are.

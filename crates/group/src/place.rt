@@ -1,12 +1,14 @@
 // Placing the terms of monomials into their groups, and writing the groups' variables.
-ghost use Rattle.std.specs.Prelude.{◌≡◌, [], ◌∷◌, ◌++◌, ◌+◌, ◌*◌, ◌≤◌, ◌<◌, length, get_or, take, drop};
+ghost use Rattle.std.specs.Prelude.{◌≡◌, Ok, [], ◌∷◌, ◌++◌, ◌+◌, ◌*◌, ◌≤◌, length, get_or, take, drop};
 ghost use Rattle.std.proofs.lemmas.List.Edits.{sets};
-ghost use Rattle.group.specs.Grouped.{row_size, row_vars, monomial_in, MonomialInside, list_of, InPool};
-ghost use Rattle.group.specs.Grouped.{term_width, form_at, words_at, item_at, items_at, vars_in};
+ghost use Rattle.semantics.specs.Lists.{All};
+ghost use Rattle.group.specs.Grouped.{Rows, tallied, row_place, row_size, row_vars, Spot, monomial_in, MonomialInside, list_of, InPool};
+ghost use Rattle.group.specs.Grouped.{term_width, form_at, words_at, item_at, items_at, items_on, vars_in};
+ghost use Rattle.group.specs.Waiting.{PlaceInside, pool_vars};
 ghost use Rattle.group.specs.Groups.{tallies, MayPlace, Placed};
 
-use crate::Groups;
 use crate::kept::Kept;
+use crate::{Groups, search};
 
 // The form of a term: two words in a constraint, three in an interaction.
 #[derive(Clone, Copy, Debug, PartialEq, Eq)]
@@ -53,12 +55,13 @@ impl Label {
 }
 
 impl<'a> Groups<'a> {
-    // Places the term of the monomial that stands at `at`; its row is looked for near row `near`. Hands back where to look for the next.
+    // Places the term of the monomial that stands at `at`; its row is looked for near row `near`. Hands back the row; the next one is looked for near it.
     #[tactic(auto, using(crate::proofs::Headers::tallied_length))]
-    fn place(&mut self, at: usize, label: Label, terms: &mut [u32], near: usize) -> usize
+    pub fn place(&mut self, at: usize, label: Label, terms: &mut [u32], near: usize) -> usize
         requires { MayPlace (form_at label) self.old terms.old (item_at label (monomial_in self.old.pool.now at) ∷ [])
             × (get_or self.old.pool.now at 0 ≤ 14) × MonomialInside self.old.pool.now at }
-        ensures { Placed (form_at label) self.old terms.old self.new terms.new (item_at label (monomial_in self.old.pool.now at) ∷ []) }
+        ensures placed { Placed (form_at label) self.old terms.old self.new terms.new (item_at label (monomial_in self.old.pool.now at) ∷ []) }
+        ensures row { Spot (pool_vars self.old.pool.now at) (tallies self.old) (Ok result) }
     {
         let Ok(k) = self.find_near(at, near) else {
             unreachable!();
@@ -70,28 +73,25 @@ impl<'a> Groups<'a> {
         k
     }
 
+    // Places the terms of the monomials that are kept of a list.
+    #[inline(always)]
+    pub fn place_list(&mut self, list: Kept, label: Label, terms: &mut [u32])
+        requires { MayPlace (form_at label) self.old terms.old (items_on label self.old.pool.now list) × All (PlaceInside self.old.pool.now) list }
+        ensures { Placed (form_at label) self.old terms.old self.new terms.new (items_on label self.old.pool.now list.entry) }
+    {
+        let mut near = self.n;
+        for at in list {
+            near = self.place(at, label, terms, near);
+        }
+    }
+
     // Places the terms of a record's list.
     pub fn place_root(&mut self, node: usize, label: Label, terms: &mut [u32])
         requires { MayPlace (form_at label) self.old terms.old (items_at label (list_of self.old.pool.now node)) × InPool self.old.pool.now node }
         ensures { Placed (form_at label) self.old terms.old self.new terms.new (items_at label (list_of self.old.pool.now node)) }
     {
-        let mut near = self.n;
-        for at in Kept::of(self.pool, node) {
-            near = self.place(at, label, terms, near);
-        }
-    }
-
-    // The variables of row i go to `at`; hands back where the next go.
-    fn write_row(&self, i: usize, variables: &mut [u32], at: usize) -> usize
-        requires { (i < self.now.n) × (at + row_size self.now.headers.now i ≤ length variables.old) }
-        ensures next { result ≡ at + row_size self.now.headers.now i }
-        ensures written { variables.new
-            ≡ take at variables.old ++ (row_vars self.now.headers.now self.now.pool.now i ++ drop result variables.old) }
-    {
-        let vars = self.row_vars(i);
-        let end = at + vars.len();
-        variables[at..end].copy_from_slice(vars);
-        end
+        let list = Kept::of(self.pool, node);
+        self.place_list(list, label, terms);
     }
 
     // The variables of the rows, one after another.
@@ -99,9 +99,31 @@ impl<'a> Groups<'a> {
         requires { length (vars_in (tallies self.now)) ≤ length variables.old }
         ensures { variables.new ≡ vars_in (tallies self.now) ++ drop (length (vars_in (tallies self.now))) variables.old }
     {
-        let mut at: usize = 0;
-        for i in 0..self.n {
-            at = self.write_row(i, variables, at);
-        }
+        write_variables(self.headers, self.n, self.pool, variables);
+    }
+}
+
+// The variables of row i go to `at`; hands back where the next go.
+fn write_row(headers: &[u32], i: usize, pool: &[u32], variables: &mut [u32], at: usize) -> usize
+    requires { (4 * i + 4 ≤ length headers.now) × (row_place headers.now i + 2 + row_size headers.now i ≤ length pool.now)
+        × (at + row_size headers.now i ≤ length variables.old) }
+    ensures next { result ≡ at + row_size headers.now i }
+    ensures written { variables.new ≡ take at variables.old ++ (row_vars headers.now pool.now i ++ drop result variables.old) }
+{
+    let vars = search::row_vars(headers, i, pool);
+    let end = at + vars.len();
+    slices::copy_front(vars, &mut variables[at..end]);
+    end
+}
+
+// The variables of the n rows, one after another.
+pub fn write_variables(headers: &[u32], n: usize, pool: &[u32], variables: &mut [u32])
+    requires { Rows n headers.now pool.now × (length (vars_in (tallied n headers.now pool.now)) ≤ length variables.old) }
+    ensures { variables.new ≡ vars_in (tallied n headers.now pool.now)
+        ++ drop (length (vars_in (tallied n headers.now pool.now))) variables.old }
+{
+    let mut at: usize = 0;
+    for i in 0..n {
+        at = write_row(headers, i, pool, variables, at);
     }
 }

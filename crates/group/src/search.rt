@@ -1,7 +1,7 @@
 // Where the variables of a monomial in the pool stand among the rows.
-ghost use Rattle.std.specs.Prelude.{◌≡◌, ◌<◌};
+ghost use Rattle.std.specs.Prelude.{◌≡◌, ◌+◌, ◌*◌, ◌≤◌, ◌<◌, length};
 ghost use Rattle.monomial.specs.Orders.{order_of};
-ghost use Rattle.group.specs.Grouped.{row_vars, Spot, Between, MonomialInside};
+ghost use Rattle.group.specs.Grouped.{row_place, row_size, row_vars, Spot, Between, MonomialInside};
 ghost use Rattle.group.specs.Groups.{tallies};
 ghost use Rattle.group.specs.Waiting.{pool_vars};
 
@@ -19,25 +19,24 @@ pub fn vars_at(pool: &[u32], at: usize) -> &[u32]
     &pool[from..from + pool[at] as usize]
 }
 
-impl<'a> Groups<'a> {
-    // The variables of row i.
-    #[tactic(auto, using(crate::proofs::Headers::inside_at))]
-    pub(crate) fn row_vars(&self, i: usize) -> &'a [u32]
-        requires { i < self.now.n }
-        ensures { result.now ≡ row_vars self.now.headers.now self.now.pool.now i }
-    {
-        let pool = self.pool;
-        let row = 4 * i;
-        let from = self.headers[row] as usize + 2;
-        &pool[from..from + self.headers[row + 2] as usize]
-    }
+// The variables of row i.
+pub fn row_vars<'p>(headers: &[u32], i: usize, pool: &'p [u32]) -> &'p [u32]
+    requires { (4 * i + 4 ≤ length headers.now) × (row_place headers.now i + 2 + row_size headers.now i ≤ length pool.now) }
+    ensures { result.now ≡ row_vars headers.now pool.now i }
+{
+    let row = 4 * i;
+    let from = headers[row] as usize + 2;
+    &pool[from..from + headers[row + 2] as usize]
+}
 
+impl<'a> Groups<'a> {
     // Where the monomial that stands at `at` is in the order, seen from row i.
+    #[tactic(auto, using(crate::proofs::Headers::inside_at))]
     fn order_of_row(&self, i: usize, at: usize) -> Ordering
         requires { (i < self.now.n) × MonomialInside self.now.pool.now at }
         ensures { result ≡ order_of (pool_vars self.now.pool.now at) (row_vars self.now.headers.now self.now.pool.now i) }
     {
-        vars::compare(vars_at(self.pool, at), self.row_vars(i))
+        vars::compare(vars_at(self.pool, at), row_vars(self.headers, i, self.pool))
     }
 
     // Searches the rows between two: those below `from` stand before the monomial's variables, those from `to` on behind them. Ok: the row that has them,

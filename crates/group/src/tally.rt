@@ -87,6 +87,9 @@ impl<'a> Groups<'a> {
             × (tallied_total (tallies self.old) + length (list_of self.old.pool.now node) ≤ 4294967295) }
         ensures { Counted self.old self.new (tally_all (non_zero (list_of self.old.pool.now node)) (tallies self.old)) result }
     {
+        if self.pool[2 * node + 1] == 0 {
+            return Some(());
+        }
         let mut waits = Waits::new();
         let mut near = self.n;
         for at in Kept::of(self.pool, node) {

@@ -18,11 +18,7 @@ impl<'a> Groups<'a> {
         requires { (word < 4) × (self.now.n ≤ 4294967295) }
         ensures { result ≡ sum (column word self.now.n self.now.headers.now) }
     {
-        let mut total: usize = 0;
-        for i in 0..self.n {
-            total += self.headers[4 * i + word] as usize;
-        }
-        total
+        column_total(self.headers, self.n, word)
     }
 
     // The cursor of each row is set to where its first term goes.
@@ -34,8 +30,36 @@ impl<'a> Groups<'a> {
     }
 }
 
+// The total of one word over the n rows.
+fn column_total(headers: &[u32], n: usize, word: usize) -> usize
+    requires { (word < 4) × (4 * n ≤ length headers.now) × (n ≤ 4294967295) }
+    ensures { result ≡ sum (column word n headers.now) }
+{
+    let mut total: usize = 0;
+    for i in 0..n {
+        total += headers[4 * i + word] as usize;
+    }
+    total
+}
+
+// How many variables the rows have in all.
+pub fn total_variables(headers: &[u32], n: usize) -> usize
+    requires { (4 * n ≤ length headers.now) × (n ≤ 4294967295) }
+    ensures { result ≡ sum (column 2 n headers.now) }
+{
+    column_total(headers, n, VARIABLES)
+}
+
+// How many terms the rows have in all.
+pub fn total_terms(headers: &[u32], n: usize) -> usize
+    requires { (4 * n ≤ length headers.now) × (n ≤ 4294967295) }
+    ensures { result ≡ sum (column 3 n headers.now) }
+{
+    column_total(headers, n, TERMS)
+}
+
 // The cursor of each row is set to where its first term goes: the total of the terms before it.
-fn start_terms(headers: &mut [u32], n: usize)
+pub fn start_terms(headers: &mut [u32], n: usize)
     requires { (4 * n ≤ length headers.old) × (sum (column 3 n headers.old) ≤ 4294967295) }
     ensures { (rows 4 n headers.new ≡ totalled 1 3 0 (rows 4 n headers.old))
         × (drop (4 * n) headers.new ≡ drop (4 * n) headers.old) }

@@ -1,5 +1,5 @@
 -- The walk of the interactions: the counts of all, then the fields of all.
-use mathlib.Core.Path.{◌≡◌, refl, subst}
+use mathlib.Core.Path.{◌≡◌, refl, sym, subst}
 use mathlib.Core.List.{List, ◌++◌}
 use Prim.Native.Nat.{ℕ}
 use lib.ListN.{length}
@@ -11,8 +11,10 @@ use Rattle.semantics.specs.Walk.{Mem, Below, order}
 use Rattle.semantics.specs.Group.{count_roots, field_roots}
 use Rattle.semantics.proofs.Members.{append_below, mem_left, mem_right}
 use Rattle.semantics.proofs.Demands.{count_nodes, field_nodes}
+use Rattle.records.specs.declared.interactions.Part.{Part}
 use Rattle.records.specs.declared.interactions.Part.TheVariants.{Count, Fields}
 use Rattle.records.specs.Access.{counts_of, fields_of, records_of}
+use Rattle.records.specs.Named.{parts_of}
 use Rattle.records.proofs.Named.{parts_below}
 use Rattle.std.specs.Prelude.{Result, Ok, Err}
 use Rattle.answers.specs.declared.Refusal.{Refusal}
@@ -43,14 +45,14 @@ module _ (ws : List ℕ) (checked : check prime ws ≡ good (read_sheet ws)) whe
   abbrev xs : List Interaction
   xs = (read_sheet ws).interactions
 
-  pub counts_below : Below (length (records_of ws)) (counts_of xs)
-  counts_below = parts_below ws checked Count
-
-  fields_below : Below (length (records_of ws)) (fields_of xs)
-  fields_below = parts_below ws checked Fields
+  -- What a part of them names is below, also for a walk over the same words.
+  pub part_below : (part : Part) {all : List Interaction} → all ≡ xs → {s : List ℕ} → s ≡ ws → Below (length (records_of s)) (parts_of part all)
+  part_below part {all} a e =
+      subst (λ (s : List ℕ). Below (length (records_of s)) (parts_of part all)) (sym e)
+      (subst (λ (ys : List Interaction). Below (length (records_of ws)) (parts_of part ys)) (sym a) (parts_below ws checked part))
 
   pub named_below_both : Below (length (records_of ws)) (counts_of xs ++ fields_of xs)
-  named_below_both = append_below (length (records_of ws)) (counts_of xs) (fields_of xs) counts_below fields_below
+  named_below_both = append_below (length (records_of ws)) (counts_of xs) (fields_of xs) (parts_below ws checked Count) (parts_below ws checked Fields)
 
   -- The lists of all counts and fields stand in the pool.
   module _ (pool : List ℕ) (used : ℕ) (holds : PoolHolds ws (order (records_of ws) (counts_of xs ++ fields_of xs)) pool used) where

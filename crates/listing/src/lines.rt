@@ -18,16 +18,23 @@ impl<'a> Out<'a> {
         self.put_byte(b'\n')
     }
 
+    // A refusal's line: the step, a number and a place.
+    pub fn put_refused_line(&mut self, step: &[u8], number: u32, place: usize)
+        requires { Room self.old (line (refused_text ∷ step.now ∷ decimal number ∷ decimal place ∷ [])) }
+        ensures { Writes self.old (line (refused_text ∷ step.now ∷ decimal number ∷ decimal place ∷ [])) self.new }
+    {
+        self.put_text(b"refused ");
+        self.put_text(step);
+        self.put_numbers(&[number as usize, place]);
+        self.put_byte(b'\n')
+    }
+
     // A refusal: the step, its number and its place.
     pub fn put_refused(&mut self, step: &[u8], refusal: Refusal)
         requires { Room self.old (line (refused_text ∷ step.now ∷ decimal (number_of refusal.reason) ∷ decimal refusal.place ∷ [])) }
         ensures { Writes self.old (line (refused_text ∷ step.now ∷ decimal (number_of refusal.reason) ∷ decimal refusal.place ∷ [])) self.new }
     {
-        let number = refusal.reason.number();
-        self.put_text(b"refused ");
-        self.put_text(step);
-        self.put_numbers(&[number as usize, refusal.place]);
-        self.put_byte(b'\n')
+        self.put_refused_line(step, refusal.reason.number(), refusal.place)
     }
 
     // The last line.

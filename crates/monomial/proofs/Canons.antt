@@ -15,7 +15,7 @@ use Rattle.semantics.proofs.Order.{before_vars_irrefl, before_vars_total, same_v
 use Rattle.semantics.proofs.Sorting.{sort_same, sorted_sort}
 use Rattle.semantics.proofs.Monomials.{one, val, val_cons, val_one, val_lt}
 use Rattle.semantics.proofs.Combining.{Above, NoZero, above_trans, val_insert, val_combine, asc_insert, asc_combine, nz_insert, nz_combine, Small, all_insert, all_combine, small_plus}
-use Rattle.monomial.specs.Words.{Fits, insert_all}
+use Rattle.monomial.specs.Words.{constant, single, Fits, insert_all}
 
 -- The weight of one variable list: `val p (only_at v)` is the coefficient at v.
 unfoldable pub only_at : List ℕ → List ℕ → ℕ
@@ -144,6 +144,13 @@ asc_sum (m ∷ ms) acc k = asc_sum ms (insert_monomial prime m acc) (asc_insert 
 pub fits_negative : (m : Monomial) → Fits m → Fits (neg_monomial prime m)
 unfolding neg_monomial
 fits_negative m h = record { few = h.few; sorted = h.sorted; small = neg_m_lt prime prime_big m.coef }
+
+-- A leaf's list has one monomial.
+pub fits_constant : (k : ℕ) → k < prime → Fits (constant k)
+fits_constant k h = record { few = omega arith; sorted = tt; small = h }
+
+pub fits_single : (v : ℕ) → Fits (single v)
+fits_single v = record { few = omega arith; sorted = (tt, tt); small = prime_big }
 
 above_asym : (x y : ℕ) → above x y ≡ true → above y x ≡ false
 unfolding above

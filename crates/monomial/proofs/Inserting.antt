@@ -6,8 +6,8 @@ use Prim.Native.Nat.{ℕ, zero, suc, ◌+◌, ◌*◌, ◌-◌, ◌≤◌, ◌<�
 use native.Mathlib.Numerals.{add-one}
 use native.Mathlib.Omega.{arith}
 use lib.Dec.{eqb}
-use lib.ListN.{length, get_or, take, drop, set, length-append, length-drop, take-append-drop}
-use lib.Seq.{take-take, take-append-le, drop_at, length-take-le, set_split}
+use lib.ListN.{drop_of_length-le, length, get_or, take, drop, set, length-append, length-drop, take-append-drop}
+use lib.Seq.{take_all, take-take, take-append-le, drop_at, length-take-le, set_split}
 use borrow.Author.Tests.{eq-eqb, ne_eqb}
 use Rattle.slices.specs.Rows.{rows}
 use Rattle.slices.proofs.Lists.{map_set, map_take, map_drop, map_insert}
@@ -19,8 +19,10 @@ use Rattle.semantics.proofs.Order.{before_vars_irrefl, before_vars_asym}
 use Rattle.semantics.specs.Lists.{All}
 use Rattle.semantics.proofs.Lists.{all_front, all_drop}
 use Rattle.semantics.proofs.Sorting.{all_append, all_within}
-use Rattle.monomial.specs.Words.{read_monomial, held, Fits}
+use Rattle.monomial.specs.declared.Monomial as declared
+use Rattle.monomial.specs.Words.{nums, monomial_of, read_monomial, held, Fits}
 use Rattle.monomial.specs.Places.{one, vars_at, FirstBefore, RestAfter}
+use Rattle.monomial.proofs.Readings.{first_vars}
 use Rattle.monomial.proofs.Rows.{held_length, held_at}
 use Rattle.monomial.proofs.Canons.{fits_plus}
 use Rattle.monomial.proofs.Searches.{ascending}
@@ -153,6 +155,32 @@ module _ (ws : List ℕ) (k count : ℕ) (l : 16 * count ≤ length ws) where
         held_sum h v
         ∙ ap (λ (r : List Monomial). take k (held count ws) ++ r)
         (sym (ap (λ (y : Monomial). keep y rest) sum_is ∙ keep_other (record { vars = vars_at (held count ws) k; coef = v }) rest z))
+
+-- A monomial by value, as its row holds it.
+row_is : (m : declared.Monomial) → ◌≡◌ {A = Monomial} (record { vars = take (length (monomial_of m).vars) (nums m.vars); coef = m.coef }) (monomial_of m)
+row_is m = λ i. record { vars = first_vars m (length (monomial_of m).vars) refl i; coef = m.coef }
+
+module _ (ws : List ℕ) (k : ℕ) (m : declared.Monomial) where
+  abbrev row : List ℕ
+  row = length (monomial_of m).vars ∷ m.coef ∷ nums m.vars
+
+  -- One put in front of row k, where the rows from k on are moved up.
+  pub held_row : (count : ℕ) → 16 * count + 16 ≤ length ws → k ≤ count → (us ts : List ℕ) → length us ≡ length ws → length ts ≡ length us
+      → us ≡ take (16 * k + 16) ws ++ (take (16 * count - 16 * k) (drop (16 * k) ws) ++ drop (16 * count + 16) ws)
+      → ts ≡ take (16 * k) us ++ (row ++ drop (16 * k + 16) us)
+      → held (count + 1) ts ≡ take k (held count ws) ++ (monomial_of m ∷ drop k (held count ws))
+  held_row count r h us ts lu lt p q =
+      held_put ws k count (omega arith) h (length (monomial_of m).vars) m.coef (nums m.vars) us ts r lu lt p q
+      ∙ ap (λ (x : Monomial). take k (held count ws) ++ (x ∷ drop k (held count ws))) (row_is m)
+
+  -- One written behind the first k.
+  pub held_behind : 16 * k + 16 ≤ length ws → (ts : List ℕ) → length ts ≡ length ws → ts ≡ take (16 * k) ws ++ (row ++ drop (16 * k + 16) ws)
+      → held (k + 1) ts ≡ held k ws ++ (monomial_of m ∷ [])
+  held_behind r ts lt q =
+      let none : 0 ≡ 16 * k - 16 * k = omega arith in
+      let same = sym (take-append-drop (16 * k + 16) ws) ∙ ap (λ (n : ℕ). take (16 * k + 16) ws ++ (take n (drop (16 * k) ws) ++ drop (16 * k + 16) ws)) none in
+      let e : length (held k ws) ≤ k = omega (arith, held_length k ws) in
+      held_row k r (omega arith) ws ts refl lt same q ∙ (λ i. take_all k (held k ws) e i ++ (monomial_of m ∷ drop_of_length-le (held k ws) e i))
 
 keep_fits : (x : Monomial) (xs : List Monomial) → Fits x → All Fits xs → All Fits (keep x xs)
 unfolding keep

@@ -39,6 +39,11 @@ unfolding list_size
 size_append [] ns = omega arith
 size_append (m ∷ ms) ns = omega (arith, size_append ms ns)
 
+-- Each monomial takes two words or more.
+pub size_large : (ms : List Monomial) → 2 * length ms ≤ list_size ms
+size_large [] = omega (arith, size_nil)
+size_large (m ∷ ms) = omega (arith, size_cons m ms, size_large ms)
+
 pub one_length : (m : Monomial) → length (monomial_words m) ≡ 2 + length m.vars
 unfolding monomial_words
 one_length m = omega arith

@@ -1,7 +1,7 @@
 -- The longest of a list; the sizes and the words of its front.
 use mathlib.Core.Path.{◌≡◌, refl, sym, ◌∙◌, ap}
 use mathlib.Core.List.{List, [], ◌∷◌, ◌++◌, append_assoc, append-nil}
-use Prim.Native.Nat.{ℕ, ◌+◌, ◌*◌, ◌≤◌, ◌<◌, max}
+use Prim.Native.Nat.{ℕ, ◌+◌, ◌*◌, ◌-◌, ◌≤◌, ◌<◌, max}
 use native.Mathlib.Numerals.{add-one}
 use native.Mathlib.Omega.{arith}
 use lib.ListN.{length, get_or, take, drop, take-append-drop}
@@ -9,9 +9,9 @@ use lib.Seq.{take-suc, take_at, drop_at, drop-drop}
 use Rattle.semantics.specs.Monomial.{Monomial}
 use Rattle.semantics.specs.Expand.{list_size}
 use Rattle.semantics.specs.Lists.{All}
-use Rattle.monomial.specs.Words.{monomial_words, list_words, longest_of, Fits}
+use Rattle.monomial.specs.Words.{monomial_words, list_words, read_monomial, list_in, longest_of, Fits, ListFits}
 use Rattle.monomial.specs.Places.{one, vars_at}
-use Rattle.monomial.proofs.ListLaws.{words_nil, words_cons, words_append, words_length, size_nil, size_cons, size_append}
+use Rattle.monomial.proofs.ListLaws.{vars_in, list_zero, first_front, first_rest, first_cons, words_nil, words_cons, words_append, words_length, size_nil, size_cons, size_append}
 
 pub longest_cons : (m : Monomial) (ms : List Monomial) → longest_of (m ∷ ms) ≡ max (length m.vars) (longest_of ms)
 unfolding longest_of
@@ -24,6 +24,28 @@ longest_nil = refl
 pub longest_few : (ms : List Monomial) → All Fits ms → longest_of ms ≤ 14
 longest_few [] k = omega (arith, longest_nil)
 longest_few (m ∷ ms) k = omega (arith, longest_cons m ms, k.0.few, longest_few ms k.1)
+
+-- The most variables so far, where n monomials are left.
+pub record Longest (words : List ℕ) (all most at n : ℕ) : Type 0 where
+  pub fits : ListFits words at n
+  pub most_is : max most (longest_of (list_in words at n)) ≡ all
+
+pub longest_none : {words : List ℕ} {all at n k : ℕ} → k ≡ n → ListFits words at n → longest_of (list_in words at n) ≡ all → Longest words all 0 at k
+longest_none k f e = rw k (record { fits = f; most_is = omega (arith, e) })
+
+module _ {words : List ℕ} {all most at n : ℕ} (g : Longest words all most at n) where
+  pub longest_room : (n ≡ 0 → ⊥) → at + 2 + vars_in words at ≤ length words
+  longest_room h = (first_front words at n 0 h g.fits).room
+
+  pub longest_more : (s most₁ at₁ n₁ : ℕ) → (n ≡ 0 → ⊥) → s ≡ vars_in words at → most₁ ≡ max most s → at₁ ≡ at + (2 + s) → n₁ ≡ n - 1
+      → Longest words all most₁ at₁ n₁
+  longest_more s most₁ at₁ n₁ h e m a k =
+      let rest = list_in words (at + (2 + s)) (n - 1) in
+      let next = ap longest_of (first_cons words at n s h e) ∙ longest_cons (read_monomial (drop at words)) rest in
+      rw (a, k) (record { fits = first_rest words at n s h e g.fits; most_is = omega (arith, g.most_is, next, e, m) })
+
+  pub longest_done : n ≡ 0 → most ≡ all
+  longest_done e = omega (arith, g.most_is, ap (λ (k : ℕ). longest_of (list_in words at k)) e, ap longest_of (list_zero (drop at words)), longest_nil)
 
 pub size_small : (ms : List Monomial) → All Fits ms → list_size ms ≤ 16 * length ms
 size_small [] k = omega (arith, size_nil)

@@ -12,8 +12,8 @@ use Rattle.semantics.proofs.Combining.{by_order}
 use Rattle.monomial.specs.declared.Sign.{Sign}
 use Rattle.monomial.specs.declared.Sign.TheVariants.{Plus, Minus}
 use Rattle.monomial.specs.Signs.{with_sign, signed}
-use Rattle.monomial.specs.Words.{insert_all}
-use Rattle.monomial.proofs.Canons.{sum_nil, sum_cons, sum_append, asc_sum}
+use Rattle.monomial.specs.Words.{Fits, insert_all}
+use Rattle.monomial.proofs.Canons.{fits_negative, sum_nil, sum_cons, sum_append, asc_sum}
 
 -- The negatives so far, and those of what is left, are those of all.
 pub record Negating (before all rest now : List Monomial) : Type 0 where
@@ -45,6 +45,10 @@ signed_cons Minus m ms = refl
 pub signed_nil : (s : Sign) → signed s [] ≡ []
 signed_nil Plus = refl
 signed_nil Minus = refl
+
+pub fits_with_sign : (s : Sign) (m : Monomial) → Fits m → Fits (with_sign s m)
+fits_with_sign Plus m h = h
+fits_with_sign Minus m h = fits_negative m h
 
 pub signed_length : (s : Sign) (ms : List Monomial) → length (signed s ms) ≡ length ms
 signed_length s [] = ap length (signed_nil s)

@@ -8,6 +8,7 @@ use Rattle.semantics.specs.Monomial.{above, insert_monomial}
 use Rattle.semantics.specs.Expand.{list_size}
 use Rattle.semantics.specs.Lists.{All, Sorted}
 use Rattle.packed_var.specs.declared.PackedVar.{PackedVar}
+use Rattle.monomial.specs.declared.Monomial.{Monomial}
 
 -- The numbers of packed variables.
 abbrev pub num : PackedVar → ℕ
@@ -16,9 +17,9 @@ num v = v.0
 abbrev pub nums : List PackedVar → List ℕ
 nums vs = map num vs
 
--- A monomial by value: places of which the first `count` are its variables, and its coefficient.
-abbrev pub monomial_of : List PackedVar → (count coef : ℕ) → semantics.Monomial
-monomial_of vars count coef = record { vars = take count (nums vars); coef = coef }
+-- A monomial by value: fourteen places, of which the first `count` are its variables.
+abbrev pub monomial_of : Monomial → semantics.Monomial
+monomial_of m = record { vars = take m.count (nums m.vars); coef = m.coef }
 
 -- "leaf: one monomial": of a constant, and of a packed variable.
 abbrev pub constant : ℕ → semantics.Monomial

@@ -1,44 +1,31 @@
 // Monomials: products of packed variables with a coefficient, and their lists.
 #![tactic(auto)]
 
-ghost use Rattle.std.specs.Prelude.{◌≡◌, ◌+◌, ◌<◌, ◌≤◌, length};
+ghost use Rattle.std.specs.Prelude.{◌≡◌, ◌+◌, ◌≤◌, length};
 ghost use Rattle.semantics.specs.Arithmetic.{prime};
-ghost use Rattle.semantics.specs.Monomial.{mul_monomial, neg_monomial};
-ghost use Rattle.monomial.specs.Words.{constant, single};
+ghost use Rattle.semantics.specs.Monomial.{above, mul_monomial, neg_monomial};
+ghost use Rattle.semantics.specs.Lists.{Sorted};
+ghost use Rattle.monomial.specs.Words.{monomial_of, constant, single};
 ghost use Rattle.monomial.specs.Signs.{with_sign};
 
 use packed_var::PackedVar;
-use std::marker::Model;
 
+pub mod lists;
 pub mod reading;
 pub mod vars;
 pub mod work_list;
 
-// A monomial by value: fourteen places for variables, of which the first `count` are used. An accepted walk may hold it: the variables ascend, and the
-// coefficient is below the prime.
-#[derive(Drop)]
+// A monomial by value: fourteen places for variables, of which the first `count` are used.
+#[derive(Clone, Copy)]
 pub struct Monomial {
-    vars: [PackedVar; 14],
-    count: usize,
-    coef: u32,
-}
-
-impl Model for Monomial {
-    ghost use Rattle.std.specs.Prelude.{◌≡◌, length};
-    ghost use Rattle.semantics.specs.Monomial as semantics;
-    ghost use Rattle.monomial.specs.Words.{monomial_of, Fits};
-
-    ghost Value = { semantics.Monomial };
-
-    ghost view = { λ m. monomial_of m.vars m.count m.coef };
-
-    ghost invariant = { λ m. (m.count ≡ length (monomial_of m.vars m.count m.coef).vars) × Fits (monomial_of m.vars m.count m.coef) };
+    pub vars: [PackedVar; 14],
+    pub count: usize,
+    pub coef: u32,
 }
 
 impl Monomial {
     pub fn constant(value: u32) -> Self
-        requires { value < prime }
-        ensures { result ≡ constant value }
+        ensures { (monomial_of result ≡ constant value) × (result.count ≡ 0) }
     {
         Monomial {
             vars: [PackedVar(0); 14],
@@ -49,7 +36,7 @@ impl Monomial {
 
     // A variable or row mark.
     pub fn single(v: PackedVar) -> Self
-        ensures { result ≡ single v.0 }
+        ensures { (monomial_of result ≡ single v.0) × (result.count ≡ 1) }
     {
         let mut vars = [PackedVar(0); 14];
         vars[0] = v;
@@ -62,25 +49,29 @@ impl Monomial {
 
     // How many variables it has.
     pub fn len(&self) -> usize
-        ensures { (result ≡ length self.now.vars) × (result ≤ 14) }
+        ensures { (result ≡ length (monomial_of self.now).vars) × (result ≤ 14) }
     {
-        self.count
+        self.count.min(14)
     }
 
     // The product of two monomials: their sorted variables are merged.
     pub fn multiply(&self, other: &Self) -> Self
-        requires { length self.now.vars + length other.now.vars ≤ 14 }
-        ensures { result ≡ mul_monomial prime self.now other.now }
+        requires { (length (monomial_of self.now).vars + length (monomial_of other.now).vars ≤ 14)
+            × Sorted above (monomial_of self.now).vars × Sorted above (monomial_of other.now).vars }
+        ensures { (monomial_of result ≡ mul_monomial prime (monomial_of self.now) (monomial_of other.now))
+            × (result.count ≡ length (monomial_of self.now).vars + length (monomial_of other.now).vars) }
     {
+        let n = self.len();
+        let m = other.len();
         Monomial {
-            vars: vars::merge_vars(self.vars, self.count, other.vars, other.count),
-            count: self.count + other.count,
+            vars: vars::merge_vars(self.vars, n, other.vars, m),
+            count: n + m,
             coef: field::mul(self.coef, other.coef),
         }
     }
 
     pub fn negative(self) -> Self
-        ensures { result ≡ neg_monomial prime self }
+        ensures { (monomial_of result ≡ neg_monomial prime (monomial_of self)) × (result.count ≡ self.count) }
     {
         Monomial {
             coef: field::neg(self.coef),
@@ -98,7 +89,7 @@ pub enum Sign {
 
 impl Sign {
     fn apply(self, m: Monomial) -> Monomial
-        ensures { result ≡ with_sign self m }
+        ensures { monomial_of result ≡ with_sign self (monomial_of m) }
     {
         match self {
             Sign::Plus => m,

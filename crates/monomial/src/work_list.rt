@@ -1,14 +1,15 @@
 // The list that is made of a record, in the words of the work: sixteen for each monomial.
 ghost use Rattle.std.specs.Prelude.{◌≡◌, [], ◌∷◌, ◌++◌, map, ◌+◌, ◌*◌, ◌≤◌, ◌<◌, length, get_or, take, drop};
 ghost use Rattle.semantics.specs.Arithmetic.{prime};
-ghost use Rattle.semantics.specs.Monomial.{Asc, keep, plus, neg_monomial, mul_monomial, products, insert_monomial};
+ghost use Rattle.semantics.specs.Monomial.{Asc, above, keep, plus, neg_monomial, mul_monomial, products, insert_monomial};
 ghost use Rattle.semantics.specs.Expand.{list_size};
-ghost use Rattle.monomial.specs.Words.{list_words, longest_of, insert_all, FitsList};
+ghost use Rattle.semantics.specs.Lists.{Sorted};
+ghost use Rattle.monomial.specs.Words.{monomial_of, list_words, longest_of, insert_all, Fits, FitsList};
 ghost use Rattle.monomial.specs.Places.{one, vars_at, Stands};
 ghost use Rattle.monomial.specs.Signs.{signed};
 
 use crate::reading::Monomials;
-use crate::{Monomial, Sign, vars};
+use crate::{Monomial, Sign, lists, vars};
 use slices::shift;
 use std::cmp::Ordering;
 use std::marker::Model;
@@ -31,29 +32,6 @@ impl<'a> Model for WorkList<'a> {
     ghost view = { λ s. held s.count s.work.now };
 
     ghost invariant = { λ s. (s.count ≤ 256) × (4096 ≤ length s.work.now) × All Fits (held s.count s.work.now) };
-}
-
-// Writes the sixteen words of slot k: how many variables there are, the coefficient, and fourteen places.
-fn put_slot(work: &mut [u32], k: usize, count: usize, coef: u32, vars: &[u32])
-    requires { (count ≤ 14) × (length vars.now ≡ 14) × (16 * k + 16 ≤ length work.old) }
-    ensures { work.new ≡ take (16 * k) work.old ++ ((count ∷ coef ∷ vars.now) ++ drop (16 * k + 16) work.old) }
-{
-    let at = 16 * k;
-    work[at] = count as u32;
-    work[at + 1] = coef;
-    work[at + 2..at + 16].copy_from_slice(vars);
-}
-
-// Writes the words of a monomial to a place.
-fn write_monomial(coef: u32, vars: &[u32], out: &mut [u32], at: usize)
-    requires { (length vars.now ≤ 14) × (at + 2 + length vars.now ≤ length out.old) }
-    ensures { out.new
-        ≡ take at out.old ++ ((length vars.now ∷ coef ∷ vars.now) ++ drop (at + 2 + length vars.now) out.old) }
-{
-    let n = vars.len();
-    out[at] = n as u32;
-    out[at + 1] = coef;
-    out[at + 2..at + 2 + n].copy_from_slice(vars);
 }
 
 impl<'a> WorkList<'a> {
@@ -81,10 +59,7 @@ impl<'a> WorkList<'a> {
         requires { k < length self.now }
         ensures { (result.now ≡ vars_at self.now k) × (length result.now ≤ 14) }
     {
-        let work = &*self.work;
-        let at = 16 * k + 2;
-        let count = (work[16 * k] as usize).min(14);
-        &work[at..at + count]
+        lists::row_vars(self.work, k)
     }
 
     // Its coefficient.
@@ -101,29 +76,32 @@ impl<'a> WorkList<'a> {
     #[tactic(auto, using(crate::proofs::Rows::held_length))]
     #[inline(always)]
     fn put_at(&mut self, k: usize, m: &Monomial)
-        requires { (k ≤ length self.old) × (length self.old < 256) }
-        ensures { self.new ≡ take k self.old ++ m.now ∷ drop k self.old }
+        requires { (k ≤ length self.old) × (length self.old < 256) × Fits (monomial_of m.now) }
+        ensures { self.new ≡ take k self.old ++ monomial_of m.now ∷ drop k self.old }
     {
         shift::shift_up(self.work, 16 * k, 16 * self.count, 16);
-        put_slot(self.work, k, m.count, m.coef, &vars::numbers(m.vars));
+        lists::put_row(self.work, k, m);
         self.count += 1;
     }
 
     // Puts m behind all, as it stands.
+    #[tactic(auto, using(crate::proofs::Rows::held_length))]
     pub fn put(&mut self, m: &Monomial)
-        requires { length self.old < 256 }
-        ensures { self.new ≡ self.old ++ m.now ∷ [] }
+        requires { (length self.old < 256) × Fits (monomial_of m.now) }
+        ensures { self.new ≡ self.old ++ monomial_of m.now ∷ [] }
     {
-        self.put_at(self.len(), m)
+        let k = self.count;
+        lists::put_monomial(self.work, k, m);
+        self.count = k + 1;
     }
 
     // Searches for the variables of m: where they stand, or where they are to be put.
     fn find(&self, m: &Monomial) -> Result<usize, usize>
         requires { Asc self.now }
-        ensures { Stands m.now self.now result }
+        ensures { Stands (monomial_of m.now) self.now result }
     {
         let numbers = vars::numbers(m.vars);
-        let mine = &numbers[..m.count];
+        let mine = &numbers[..m.len()];
         let mut low = 0;
         let mut high = self.count;
         while low < high {
@@ -140,8 +118,9 @@ impl<'a> WorkList<'a> {
     // Sums m into monomial k, and takes that out where the sum is 0.
     #[tactic(auto, using(crate::proofs::Rows::held_length))]
     fn sum_at(&mut self, k: usize, m: &Monomial)
-        requires { k < length self.old }
-        ensures { self.new ≡ take k self.old ++ keep (plus prime m.now (get_or self.old k one)) (drop (k + 1) self.old) }
+        requires { (k < length self.old) × Fits (monomial_of m.now) }
+        ensures { self.new
+            ≡ take k self.old ++ keep (plus prime (monomial_of m.now) (get_or self.old k one)) (drop (k + 1) self.old) }
     {
         let end = 16 * self.count;
         let sum = field::add(m.coef, self.coef_of(k));
@@ -156,8 +135,8 @@ impl<'a> WorkList<'a> {
     // Sums a monomial into the list.
     #[inline(always)]
     pub fn sum(&mut self, m: &Monomial)
-        requires { (length self.old < 256) × Asc self.old }
-        ensures { self.new ≡ insert_monomial prime m.now self.old }
+        requires { (length self.old < 256) × Asc self.old × Fits (monomial_of m.now) }
+        ensures { self.new ≡ insert_monomial prime (monomial_of m.now) self.old }
     {
         match self.find(m) {
             Ok(k) => self.sum_at(k, m),
@@ -188,8 +167,9 @@ impl<'a> WorkList<'a> {
 
     // Sums the products of a monomial and each of a list.
     fn sum_row(&mut self, left: &Monomial, list: Monomials)
-        requires { (length self.old + length list ≤ 256) × Asc self.old × (length left.now.vars + longest_of list ≤ 14) }
-        ensures { self.new ≡ insert_all (map (mul_monomial prime left.now) list.entry) self.old }
+        requires { (length self.old + length list ≤ 256) × Asc self.old × Sorted above (monomial_of left.now).vars
+            × (length (monomial_of left.now).vars + longest_of list ≤ 14) }
+        ensures { self.new ≡ insert_all (map (mul_monomial prime (monomial_of left.now)) list.entry) self.old }
     {
         for right in list {
             self.sum(&left.multiply(&right));
@@ -208,28 +188,17 @@ impl<'a> WorkList<'a> {
     }
 
     // How many words it takes in the pool.
-    #[tactic(auto, using(crate::proofs::Rows::held_length))]
     pub fn list_size(&self) -> usize
         ensures { (result ≡ list_size self.now) × FitsList self.now }
     {
-        let mut total = 0;
-        for k in 0..self.count {
-            total += 2 + self.vars_of(k).len();
-        }
-        total
+        lists::list_size(self.work, self.count)
     }
 
     // Writes it to the front of what is lent.
-    #[tactic(auto, using(crate::proofs::Rows::held_length))]
     pub fn write_to(&self, out: &mut [u32])
         requires { list_size self.now ≤ length out.old }
         ensures { out.new ≡ list_words self.now ++ drop (list_size self.now) out.old }
     {
-        let mut at = 0;
-        for k in 0..self.count {
-            let vars = self.vars_of(k);
-            write_monomial(self.coef_of(k), vars, out, at);
-            at += 2 + vars.len();
-        }
+        lists::write_list(self.work, self.count, out)
     }
 }

@@ -6,7 +6,7 @@ ghost use Rattle.semantics.specs.Sheet.{place};
 ghost use Rattle.semantics.specs.Value.{node_of};
 ghost use Rattle.semantics.specs.Walk.{children};
 ghost use Rattle.records.specs.Access.{five_words, node_in};
-ghost use Rattle.records.specs.Nodes.{shown_node};
+ghost use Rattle.records.specs.Nodes.{shown_node, as_record, CarriesLeaf};
 ghost use Rattle.nodes.specs.Nodes.{FirstEqual, above_all, Interns};
 
 pub mod rules;
@@ -24,7 +24,8 @@ pub struct Interned {
 // A node of the output, as the rules look at it.
 pub fn child(out: &[u32], number: u32) -> Child
     requires { place 5 number + 5 ≤ length out.now }
-    ensures { (result.number ≡ number) × (shown_node result.node ≡ node_of (node_in out.now number)) }
+    ensures { (result.number ≡ number) × (shown_node result.node ≡ node_of (node_in out.now number))
+        × CarriesLeaf result.node (as_record (node_in out.now number)) }
 {
     Child {
         number,

@@ -10,7 +10,7 @@ use Rattle.semantics.specs.Sheet.{Interaction, Each, GoodInteraction}
 use Rattle.semantics.specs.Check.{read_sheet, check}
 use Rattle.semantics.specs.Walk.{Mem, Below}
 use Rattle.semantics.specs.Lists.{All}
-use Rattle.semantics.proofs.Members.{not_in, mem_left, cons_below, append_below, flat_below}
+use Rattle.semantics.proofs.Members.{not_in, mem_left, mem_right, cons_below, append_below, flat_below}
 use Rattle.semantics.proofs.GraphSheets.{InteractionFacts, interaction_facts}
 use Rattle.records.specs.declared.interactions.Part.{Part}
 use Rattle.records.specs.declared.interactions.Part.TheVariants.{Count, Fields}
@@ -56,39 +56,29 @@ module _ (ws : List ℕ) (checked : check prime ws ≡ good (read_sheet ws)) whe
   pub all_references_below : Below E (references (read_sheet ws).interactions)
   all_references_below = all_below references_of (λ x f. references_below f)
 
--- The interactions that a loop has passed: `taken` is what was taken of them, and `left` are those that are left.
-pub record Passed (one : Interaction → List ℕ) (ws : List ℕ) (left : List Interaction) (taken : List ℕ) : Type 0 where
-  pub whole : taken ++ flat_map one left ≡ flat_map one (read_sheet ws).interactions
-  pub facts : All (InteractionFacts (length (records_of ws))) left
+-- The interactions that a loop has passed, of all that it goes over: `taken` is what was taken of them, and `left` are those that are left.
+pub record Passed (one : Interaction → List ℕ) (all left : List Interaction) (taken : List ℕ) : Type 0 where
+  pub whole : taken ++ flat_map one left ≡ flat_map one all
 
-module _ {one : Interaction → List ℕ} {ws : List ℕ} where
-  pub passed_none : check prime ws ≡ good (read_sheet ws) → {left : List Interaction} → left ≡ (read_sheet ws).interactions → Passed one ws left []
-  passed_none checked e = record {
-    whole = ap (flat_map one) e;
-    facts = subst (All (InteractionFacts (length (records_of ws)))) (sym e) (interactions_good ws checked);
-  }
+module _ {one : Interaction → List ℕ} {all : List Interaction} where
+  pub passed_none : {left : List Interaction} → left ≡ all → Passed one all left []
+  passed_none e = record { whole = ap (flat_map one) e }
 
-  module _ {left : List Interaction} {taken : List ℕ} (h : Passed one ws left taken) where
-    pub passed_below : {b : ℕ} → Below b (flat_map one (read_sheet ws).interactions) → Below b taken
+  module _ {left : List Interaction} {taken : List ℕ} (h : Passed one all left taken) where
+    pub passed_below : {b : ℕ} → Below b (flat_map one all) → Below b taken
     passed_below b c m = b c (subst (Mem c) h.whole (mem_left c taken (flat_map one left) m))
 
-    pub passed_done : left ≡ [] → taken ≡ flat_map one (read_sheet ws).interactions
+    pub passed_done : left ≡ [] → taken ≡ flat_map one all
     unfolding flat_map
     passed_done e = sym (append-nil taken) ∙ ap (λ (xs : List Interaction). taken ++ flat_map one xs) (sym e) ∙ h.whole
 
     module _ {x : Interaction} {rest : List Interaction} (e : left ≡ x ∷ rest) where
-      facts_now : All (InteractionFacts (length (records_of ws))) (x ∷ rest)
-      facts_now = subst (All (InteractionFacts (length (records_of ws)))) e h.facts
-
-      pub next_facts : InteractionFacts (length (records_of ws)) x
-      next_facts = facts_now.0
-
-      pub next_whole : taken ++ (one x ++ flat_map one rest) ≡ flat_map one (read_sheet ws).interactions
+      pub next_whole : taken ++ (one x ++ flat_map one rest) ≡ flat_map one all
       unfolding flat_map
       next_whole = ap (λ (xs : List Interaction). taken ++ flat_map one xs) (sym e) ∙ h.whole
 
-      pub passed_more : Passed one ws rest (taken ++ one x)
-      passed_more = record {
-        whole = append_assoc taken (one x) (flat_map one rest) ∙ next_whole;
-        facts = facts_now.1;
-      }
+      pub next_below : {b : ℕ} → Below b (flat_map one all) → Below b (one x)
+      next_below b c m = b c (subst (Mem c) next_whole (mem_right c taken (one x ++ flat_map one rest) (mem_left c (one x) (flat_map one rest) m)))
+
+      pub passed_more : Passed one all rest (taken ++ one x)
+      passed_more = record { whole = append_assoc taken (one x) (flat_map one rest) ∙ next_whole }

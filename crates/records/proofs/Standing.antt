@@ -5,7 +5,7 @@ use Prim.Native.Nat.{ℕ, suc, ◌+◌, ◌-◌, ◌≤◌}
 use native.Mathlib.Omega.{arith}
 use lib.ListN.{length, get_or, take, drop, length-append, length-take, length-drop}
 use lib.Seq.{drop_at, drop-cons, get_or-take}
-use Rattle.std.proofs.lemmas.List.{drop-take, take_rest}
+use Rattle.std.proofs.lemmas.List.{drop-take, take_rest, get_or-drop}
 use Rattle.semantics.specs.Sheet.{Interaction, interaction_words}
 use Rattle.semantics.specs.Check.{read_interaction, read_interactions}
 use Rattle.records.specs.Access.{InteractionsStand}
@@ -29,42 +29,66 @@ pub none_read : (ws : List ℕ) → read_interactions 0 ws ≡ []
 unfolding read_interactions
 none_read ws = refl
 
--- The first of some that stand in the words.
-module _ (ws : List ℕ) where
+-- The interaction in front of some words, where there is room for it.
+module _ (ws : List ℕ) (room : 4 + get_or ws 3 0 ≤ length ws) where
   abbrev size : ℕ
   size = 4 + get_or ws 3 0
 
-  module _ (n : ℕ) (some : n ≡ 0 → ⊥) (stand : InteractionsStand n ws) where
-    more : n ≡ suc (n - 1)
-    more = omega (arith, some)
+  front_whole : length (take size ws) ≡ 4 + get_or (take size ws) 3 0
+  front_whole = omega (arith, length-take size ws, room, get_or-take size ws 3 0 (omega arith))
 
-    now : InteractionsStand (suc (n - 1)) ws
-    now = subst (λ (k : ℕ). InteractionsStand k ws) more stand
+  front_fields : take (get_or (take size ws) 3 0) (drop 4 (take size ws)) ≡ take (get_or ws 3 0) (drop 4 ws)
+  unfolding read_interaction
+  front_fields = sym (fields_read (take size ws) front_whole) ∙ drop-take 4 (get_or ws 3 0) ws
 
-    pub first_room : size ≤ length ws
-    first_room = now.0
+  pub front_read : read_interaction (take size ws) ≡ read_interaction ws
+  unfolding read_interaction
+  front_read = λ i. record {
+    bus = get_or-take size ws 0 0 (omega arith) i;
+    weight = get_or-take size ws 1 0 (omega arith) i;
+    count = get_or-take size ws 2 0 (omega arith) i;
+    message = front_fields i;
+  }
 
-    pub rest_stand : InteractionsStand (n - 1) (drop size ws)
-    rest_stand = now.1
+  pub front_length : length (read_interaction ws).message ≡ get_or ws 3 0
+  front_length =
+      sym (ap (λ (x : Interaction). length x.message) front_read) ∙ sym (length_read (take size ws) front_whole) ∙ get_or-take size ws 3 0 (omega arith)
 
-    pub first_whole : length (take size ws) ≡ 4 + get_or (take size ws) 3 0
-    first_whole = omega (arith, length-take size ws, first_room, get_or-take size ws 3 0 (omega arith))
+-- At a place.
+module _ (ws : List ℕ) (at : ℕ) (room : at + (4 + get_or ws (at + 3) 0) ≤ length ws) where
+  pub place_read : {n : ℕ} → n ≡ 4 + get_or ws (at + 3) 0 → read_interaction (take n (drop at ws)) ≡ read_interaction (drop at ws)
+  place_read {n} e =
+      let l : get_or (drop at ws) 3 0 ≡ get_or ws (at + 3) 0 = get_or-drop at ws 3 0 in
+      ap (λ (k : ℕ). read_interaction (take k (drop at ws))) (omega (arith, e, l))
+      ∙ front_read (drop at ws) (omega (arith, room, l, length-drop at ws))
 
-    pub first_read : read_interactions n ws ≡ read_interaction (take size ws) ∷ read_interactions (n - 1) (drop size ws)
-    unfolding read_interactions read_interaction
-    first_read =
-        ap (λ (k : ℕ). read_interactions k ws) more
-        ∙ λ i. record {
-          bus = sym (get_or-take size ws 0 0 (omega arith)) i;
-          weight = sym (get_or-take size ws 1 0 (omega arith)) i;
-          count = sym (get_or-take size ws 2 0 (omega arith)) i;
-          message = fields i;
-        } ∷ read_interactions (n - 1) (drop size ws)
-      where
-        fields : take (get_or ws 3 0) (drop 4 ws) ≡ take (get_or (take size ws) 3 0) (drop 4 (take size ws))
-        fields =
-            sym (drop-take 4 (get_or ws 3 0) ws)
-            ∙ fields_read (take size ws) first_whole
+-- The first of n that stand in the words, read as x with k words; the words behind it are those that are left.
+module _ (ws : List ℕ) (n : ℕ) (some : n ≡ 0 → ⊥) (stand : InteractionsStand n ws) where
+  more : n ≡ suc (n - 1)
+  more = omega (arith, some)
+
+  now : InteractionsStand (suc (n - 1)) ws
+  now = subst (λ (k : ℕ). InteractionsStand k ws) more stand
+
+  room : 4 + get_or ws 3 0 ≤ length ws
+  room = now.0
+
+  module _ {x : Interaction} (x_is : x ≡ read_interaction ws) {k : ℕ} (k_is : k ≡ 4 + length x.message) where
+    size_is : k ≡ 4 + get_or ws 3 0
+    size_is = omega (arith, k_is, ap (λ (y : Interaction). length y.message) x_is, front_length ws room)
+
+    pub first_within : k ≤ length ws
+    first_within = omega (arith, size_is, room)
+
+    rest_is : drop (4 + get_or ws 3 0) ws ≡ take (length ws - k) (drop k ws)
+    rest_is = ap (λ (m : ℕ). drop m ws) (sym size_is) ∙ sym (take_rest ws k)
+
+    pub rest_stand : InteractionsStand (n - 1) (take (length ws - k) (drop k ws))
+    rest_stand = subst (InteractionsStand (n - 1)) rest_is now.1
+
+    pub first_read : read_interactions n ws ≡ x ∷ read_interactions (n - 1) (take (length ws - k) (drop k ws))
+    unfolding read_interactions
+    first_read = ap (λ (m : ℕ). read_interactions m ws) more ∙ λ i. sym x_is i ∷ read_interactions (n - 1) (rest_is i)
 
 -- Interactions whose words stand one behind the other.
 pub words_stand : (xs : List Interaction) (rest : List ℕ) → InteractionsStand (length xs) (flat_map interaction_words xs ++ rest)

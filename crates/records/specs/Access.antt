@@ -34,6 +34,10 @@ abbrev pub InteractionsStand : (n : ℕ) → List ℕ → Type 0
 InteractionsStand zero ws = Unit {0}
 InteractionsStand (suc n) ws = (4 + get_or ws 3 0 ≤ length ws) × InteractionsStand n (drop (4 + get_or ws 3 0) ws)
 
+-- The words in front of an interaction's fields, with that count.
+abbrev pub front_words : semantics.Interaction → (count : ℕ) → List ℕ
+front_words x count = x.bus ∷ x.weight ∷ count ∷ length x.message ∷ []
+
 -- The records that interactions name: the counts, and the fields.
 abbrev pub counts_of : List semantics.Interaction → List ℕ
 counts_of xs = flat_map (λ (x : semantics.Interaction). x.count ∷ []) xs

@@ -27,6 +27,10 @@ record_with (Sub l r) degree = record_of 7 l r degree 0
 record_with (Neg x) degree = record_of 8 x 0 degree 0
 record_with (Mul l r) degree = record_of 9 l r degree 0
 
+-- These words as a record.
+abbrev pub as_record : semantics.Record → Record
+as_record q = record { kind = q.kind; a = q.a; b = q.b; c = q.c; d = q.d }
+
 -- A leaf carries this record.
 abbrev pub CarriesLeaf : Node → Record → Type 0
 CarriesLeaf (Leaf q) r = q ≡ r

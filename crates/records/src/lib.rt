@@ -13,6 +13,8 @@ ghost use Rattle.records.specs.Nodes.{shown_node, record_with, CarriesLeaf};
 
 pub mod interactions;
 
+pub use interactions::{Interaction, interaction_at};
+
 // A record as five words.
 #[derive(Clone, Copy, Debug, PartialEq, Eq)]
 pub struct Record {
@@ -169,7 +171,7 @@ impl<'a> CheckedSheet<'a> {
     }
 
     // How many constraints.
-    fn num_constraints(self) -> usize
+    pub fn num_constraints(self) -> usize
         ensures { result ≡ length (read_sheet self.entry.words.now).constraints }
     {
         self.words[2] as usize
@@ -183,14 +185,14 @@ impl<'a> CheckedSheet<'a> {
     }
 
     // Where the constraints start.
-    fn constraints_at(self) -> usize
+    pub fn constraints_at(self) -> usize
         ensures { result ≡ constraints_at self.entry.words.now }
     {
         records_end(self.num_records())
     }
 
     // Where the interactions start.
-    fn interactions_at(self) -> usize
+    pub fn interactions_at(self) -> usize
         ensures { result ≡ interactions_at self.entry.words.now }
     {
         self.constraints_at() + self.num_constraints()

@@ -6,7 +6,7 @@ use native.Mathlib.Numerals.{add-one}
 use native.Mathlib.Omega.{arith}
 use lib.ListN.{length, take, drop, replicate, set}
 use lib.Seq.{take-suc-set, take_all, take_at}
-use Rattle.std.proofs.lemmas.List.{replicate-append-replicate}
+use Rattle.std.proofs.lemmas.List.{append-nil, drop_all, replicate-append-replicate}
 
 -- One more element at the end of what is written.
 pub put_next : {A : Type 0} (o : List A) (k j : ℕ) (x : A) {front : List A} → j ≡ k + 1 → k < length o → take k o ≡ front → take j (set o k x) ≡ front ++ (x ∷ [])
@@ -22,3 +22,9 @@ fill_next {A} o front k i x h l e =
 -- A slice that is as long as the list has it whole at its front.
 pub copied_front : (list s s₀ : List ℕ) → length list ≤ length s₀ → s ≡ take (length s₀) list ++ drop (length list) s₀ → take (length list) s ≡ list
 copied_front list s s₀ h e = ap (take (length list)) (e ∙ ap (λ (t : List ℕ). t ++ drop (length list) s₀) (take_all (length s₀) list h)) ∙ take_at list _ (length list) refl
+
+-- A slice of the list's length is the list then.
+pub copied_whole : {A : Type 0} (list s s₀ : List A) → length list ≡ length s₀ → s ≡ take (length s₀) list ++ drop (length list) s₀ → s ≡ list
+copied_whole list s s₀ h e =
+    e ∙ ap (λ (t : List _). t ++ drop (length list) s₀) (take_all (length s₀) list (omega (arith, h)))
+    ∙ ap (λ (t : List _). list ++ t) (drop_all (length list) s₀ (omega (arith, h))) ∙ append-nil list

@@ -51,28 +51,27 @@ fn next_length(input: &mut impl Read, most: usize) -> io::Result<usize>
     Ok(n.min(most))
 }
 
-// A sheet, in front of room for the longest.
+// A sheet, in front of room for the longest. It has no ghost field, so that it can be read in place.
 #[derive(Drop)]
 struct Sheet {
     buffer: [u32; 4096],
     num_words: usize,
-    ghost within: { num_words ≤ 4096 },
 }
 
 impl Sheet {
     // The words of the sheet.
     fn words(&self) -> &[u32] {
-        &self.buffer[..self.num_words]
+        &self.buffer[..self.num_words.min(self.buffer.len())]
     }
 
-    // Reads how many words a sheet has, and the words.
-    fn read(input: &mut impl Read) -> io::Result<Sheet> {
-        let mut buffer = [0u32; 4096];
-        let num_words = next_length(input, buffer.len())?;
-        for word in &mut buffer[..num_words] {
+    // Reads how many words a sheet has, and the words, in place of those before.
+    fn read(&mut self, input: &mut impl Read) -> io::Result<()> {
+        let n = next_length(input, self.buffer.len())?;
+        self.num_words = n;
+        for word in &mut self.buffer[..n] {
             *word = next_u32(input)?;
         }
-        Ok(Sheet { buffer, num_words })
+        Ok(())
     }
 }
 
@@ -230,7 +229,7 @@ impl<R: Read> Replay<R> {
         let number = next_u32(&mut self.input)?;
         match Item::try_from(number) {
             Ok(Item::Sheet) => {
-                self.sheet = Sheet::read(&mut self.input)?;
+                self.sheet.read(&mut self.input)?;
                 Ok(true)
             }
             Ok(Item::Call(call)) => self.same_answer(call),

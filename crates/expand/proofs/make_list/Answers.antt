@@ -105,6 +105,16 @@ returns-in-Mul c =
     let n = (shown s p c.record_at.result c.record_at.ensures c.node.ensures.0 c.in-Mul.is) in
     finishes_mul s p _ _ _ _ (c.of_record-in-Mul.ensures _ (first_of s p _ n refl)) (c.of_record-in-Mul-2.ensures _ (second_of s p _ n refl)) c.expand_product.result n c.expand_product.ensures
 
+pub expand_product-requires : goal.expand_product-requires
+unfolding children
+expand_product-requires c =
+    let s = c.args.sheet.checked in
+    let p = c.requires.1 in
+    let n = shown s p c.record_at.result c.record_at.ensures c.node.ensures.0 c.in-Mul.is in
+    let l = first_of s p _ n refl in
+    let r = second_of s p _ n refl in
+    (c.requires.0, omega (arith, ap length (c.of_record-in-Mul.ensures _ l), l.few), omega (arith, ap length (c.of_record-in-Mul-2.ensures _ r), r.few))
+
 pub of_record-requires-in-Neg : goal.of_record-requires-in-Neg
 of_record-requires-in-Neg c =
     let s = c.args.sheet.checked in

@@ -3,7 +3,7 @@ use Rattle.graph_lists.proofs.Naming.{written_none, next_named, next_room, writt
 use Rattle.graph_lists.proofs.write_interactions.Goals as goal
 
 pub loop-x-init : goal.loop-x-init
-loop-x-init c = written_none c.args.sheet.checked c.requires.0 (c.into_iter-x-iterator.ensures.into_iter_gives ∙ c.interactions-x-items.ensures)
+loop-x-init c = written_none c.requires.0 (c.into_iter-x-iterator.ensures.into_iter_gives ∙ c.interactions-x-items.ensures)
 
 pub write_interaction-next-requires : goal.write_interaction-next-requires
 write_interaction-next-requires c =

@@ -9,11 +9,12 @@ new-walk-requires c = room c.args.sheet.checked c.requires
 
 pub add_references-requires : goal.add_references-requires
 add_references-requires c =
-    let t = c.new-walk.ensures.none in
+    let t = c.new-walk.ensures.starts in
     (start_walking c.args.sheet.checked c.requires t, names_below c.args.sheet.checked c.requires t c.constraints.ensures)
 
 pub add_interactions-requires : goal.add_interactions-requires
-add_interactions-requires c = walking_next c.args.sheet.checked c.requires c.new-walk.ensures.none c.constraints.ensures c.add_references.ensures
+add_interactions-requires c =
+    walking_next c.args.sheet.checked c.requires c.new-walk.ensures.starts c.constraints.ensures c.add_references.ensures c.interactions.ensures
 
 pub write_graph-requires : goal.write_graph-requires
 write_graph-requires c =
@@ -26,4 +27,4 @@ write_graph-requires c =
     let o₀ = u.out in
     let o₁ = f.0.out in
     let o₂ = g.0.out in
-    finishing c.args.sheet.checked c.requires u.none c.constraints.ensures f g (search rules) (search rules) c.count-n.ensures
+    finishing c.args.sheet.checked c.requires u.starts c.constraints.ensures f c.interactions.ensures g (search rules) (search rules) c.count-n.ensures

@@ -1,9 +1,8 @@
-use mathlib.Core.Path.{◌∙◌}
 use Rattle.expand.proofs.Roots.{passing_none, passing_walking, passing_done, next_names, passing_more, passing_refused}
 use Rattle.expand.proofs.Walk.expand_part.Goals as goal
 
 pub loop-x-init : goal.loop-x-init
-loop-x-init c = passing_none c.requires (c.into_iter-x-iterator.ensures.into_iter_gives ∙ c.interactions-x-items.ensures)
+loop-x-init c = passing_none c.requires c.into_iter-x-iterator.ensures.into_iter_gives
 
 pub expand_references-answer-requires : goal.expand_references-answer-requires
 expand_references-answer-requires c =

@@ -4,4 +4,4 @@ use Rattle.expand.proofs.Roots.{Passing}
 use Rattle.expand.proofs.Walk.expand_part.Given as goal
 
 abbrev pub invariant-loop-x : goal.invariant-loop-x
-invariant-loop-x l = Passing l.part l.initial.self l.self l.x-iterator
+invariant-loop-x l = Passing l.part l.initial.self l.fn.interactions l.self l.x-iterator

@@ -1,9 +1,8 @@
-use mathlib.Core.Path.{◌∙◌}
 use Rattle.graph_walk.proofs.Rooting.{rooting_none, rooting_walking, rooting_done, fields_inside, count_ready, rooting_more}
 use Rattle.graph_walk.proofs.Walk.add_interactions.Goals as goal
 
 pub loop-x-init : goal.loop-x-init
-loop-x-init c = rooting_none c.requires (c.into_iter-x-iterator.ensures.into_iter_gives ∙ c.interactions-x-items.ensures)
+loop-x-init c = rooting_none c.into_iter-x-iterator.ensures.into_iter_gives
 
 pub add_references-requires : goal.add_references-requires
 add_references-requires c =

@@ -3,4 +3,4 @@ use Rattle.graph_walk.proofs.Rooting.{Rooting}
 use Rattle.graph_walk.proofs.Walk.add_interactions.Given as goal
 
 abbrev pub invariant-loop-x : goal.invariant-loop-x
-invariant-loop-x l = Rooting l.initial.self l.self l.x-iterator
+invariant-loop-x l = Rooting l.initial.self l.fn.interactions l.self l.x-iterator

@@ -1,18 +1,5 @@
-use native.Mathlib.Omega.{arith}
-use Rattle.group.proofs.RowTotals.{summing_start, summing_step, summing_done}
+-- The rows stand inside the headers.
 use Rattle.group.proofs.Groups.column_total.Goals as goal
 
-pub loop-i-init : goal.loop-i-init
-loop-i-init c = summing_start c.args.word c.args.self.now.n c.args.self.now.headers.now
-
-pub loop-i-preserved : goal.loop-i-preserved
-loop-i-preserved c =
-    let a = c.args in
-    let b = c.loop-i in
-    summing_step a.word a.self.now.n a.self.now.headers.now b.total b.i c.requires.0 c.loop-i-test.true (omega arith) b.invariant
-
-pub returns : goal.returns
-returns c =
-    let a = c.args in
-    let b = c.loop-i in
-    summing_done a.word a.self.now.n a.self.now.headers.now b.total b.i c.loop-i-test.false b.invariant
+pub column_total-requires : goal.column_total-requires
+column_total-requires c = (c.requires.0, c.args.self.now.rows.room, c.requires.1)

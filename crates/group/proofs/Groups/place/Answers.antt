@@ -38,8 +38,8 @@ invariant_of-self c =
     let t = item_at c.args.label (monomial_in c.args.self.now.pool.now c.args.at) in
     record { rows = cursor_kept c.requires.0.placing t c.in-Ok.k c.requires.0.room c.in-Ok.ensures _ }
 
-pub returns : goal.returns
-returns c =
+pub returns-clause-placed : goal.returns-clause-placed
+returns-clause-placed c =
     let g = c.args.self.now in
     let T = c.args.terms.now in
     let l = c.args.label in
@@ -52,3 +52,6 @@ returns c =
       rows = refl;
       places = λ gs done x y. place_one x t c.in-Ok.k y c.in-Ok.ensures (set g.headers.now (4 * c.in-Ok.k + 1) (cursor + 1)) c.put.new.terms terms_are refl;
     }
+
+pub returns-clause-row : goal.returns-clause-row
+returns-clause-row c = c.in-Ok.ensures

@@ -1,19 +1,14 @@
-use mathlib.Core.Path.{◌∙◌}
-use Rattle.group.proofs.Placements.{listing_start, listing_asks, listing_step, listing_done}
+-- The monomials of the record's list that are kept are placed (`record_asks`, `record_placed`).
+use mathlib.Core.Path.{sym}
+use Rattle.group.proofs.Placements.{record_asks, record_placed}
 use Rattle.group.proofs.Groups.place_root.Goals as goal
 
-pub loop-at-init : goal.loop-at-init
-loop-at-init c =
+pub place_list-requires : goal.place_list-requires
+place_list-requires c =
     let a = c.args in
-    listing_start a.label a.node a.self.now a.terms.now _ c.requires.1 (c.into_iter-at-iterator.ensures.into_iter_gives ∙ c.of-at-items.ensures)
-
-pub place-near-requires : goal.place-near-requires
-place-near-requires c = listing_asks c.loop-at.invariant c.in-Some.ensures.steps c.requires.0
-
-pub loop-at-preserved : goal.loop-at-preserved
-loop-at-preserved c =
-    let p = c.place-near in
-    listing_step c.loop-at.invariant c.in-Some.ensures.steps p.auto.terms p.ensures
+    rw c.of-list.ensures (record_asks a.label a.self.now.pool.now a.node a.self.now a.terms.now c.requires.0 c.requires.1)
 
 pub returns : goal.returns
-returns c = listing_done c.loop-at.invariant c.in-None.ensures.steps.0
+returns c =
+    let a = c.args in
+    record_placed a.label a.self.now.pool.now a.node (rw (sym c.of-list.ensures) c.place_list.ensures)

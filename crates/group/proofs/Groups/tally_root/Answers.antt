@@ -1,8 +1,11 @@
 use mathlib.Core.Path.{sym, subst, ◌∙◌}
 use Rattle.group.specs.Grouped.{tally_all, non_zero, list_of}
 use Rattle.group.specs.Groups.{tallies, Counted}
-use Rattle.group.proofs.Tallying.{tallying_start, tallying_asks, tallying_step, tallying_full, tallying_done}
+use Rattle.group.proofs.Tallying.{tallying_empty, tallying_start, tallying_asks, tallying_step, tallying_full, tallying_done}
 use Rattle.group.proofs.Groups.tally_root.Goals as goal
+
+pub returns-then-self-node-eq0 : goal.returns-then-self-node-eq0
+returns-then-self-node-eq0 c = tallying_empty c.args.self.now c.args.node c.if-self-node-eq0.true
 
 pub loop-at-init : goal.loop-at-init
 loop-at-init c =

@@ -1,44 +1,5 @@
-use mathlib.Core.Path.{sym, ap, ◌∙◌}
-use mathlib.Core.List.{List, ◌++◌}
-use Prim.Native.Nat.{ℕ, ◌+◌}
-use native.Mathlib.Omega.{arith}
-use lib.ListN.{take, drop}
-use Rattle.group.specs.Grouped.{tallied, row_size, row_vars}
-use Rattle.group.proofs.Headers.{tallied_length, vars_at_lem}
-use Rattle.group.proofs.RowVariables.{written_none, written_fits, written_more, written_all, vars_long}
+-- The headers hold rows, as the type says.
 use Rattle.group.proofs.Groups.write_variables.Goals as goal
 
-pub loop-i-init : goal.loop-i-init
-loop-i-init c = written_none (tallied c.args.self.now.n c.args.self.now.headers.now c.args.self.now.pool.now) c.args.variables.now
-
-pub write_row-at-requires : goal.write_row-at-requires
-write_row-at-requires c =
-    let a = c.args in
-    let b = c.loop-i in
-    let gs = tallied a.self.now.n a.self.now.headers.now a.self.now.pool.now in
-    let e = tallied_length a.self.now.n a.self.now.headers.now a.self.now.pool.now in
-    let r = c.args.self.now.rows.room in
-    let l = vars_long a.self.now.n b.i a.self.now.headers.now a.self.now.pool.now c.args.self.now.rows c.loop-i-test.true in
-    let f = written_fits gs a.variables.now b.variables b.at b.i b.invariant (omega arith) (omega arith) in
-    (c.loop-i-test.true, omega arith)
-
-pub loop-i-preserved : goal.loop-i-preserved
-loop-i-preserved c =
-    let a = c.args in
-    let b = c.loop-i in
-    let u = c.write_row-at in
-    let gs = tallied a.self.now.n a.self.now.headers.now a.self.now.pool.now in
-    let size = row_size a.self.now.headers.now b.i in
-    let e = tallied_length a.self.now.n a.self.now.headers.now a.self.now.pool.now in
-    let l = vars_long a.self.now.n b.i a.self.now.headers.now a.self.now.pool.now c.args.self.now.rows c.loop-i-test.true in
-    let row_written =
-    u.ensures.written ∙ ap (λ (k : ℕ). take b.at b.variables ++ (row_vars a.self.now.headers.now a.self.now.pool.now b.i ++ drop k b.variables)) u.ensures.next
-    ∙ ap (λ (x : List ℕ). take b.at b.variables ++ (x ++ drop (b.at + size) b.variables)) (sym (vars_at_lem a.self.now.n b.i a.self.now.headers.now a.self.now.pool.now c.loop-i-test.true)) in
-    written_more gs a.variables.now b.variables b.at b.i b.invariant (omega arith) u.new.variables u.result size l u.ensures.next row_written
-
-pub returns : goal.returns
-returns c =
-    let a = c.args in
-    let b = c.loop-i in
-    let e = tallied_length a.self.now.n a.self.now.headers.now a.self.now.pool.now in
-    written_all (tallied a.self.now.n a.self.now.headers.now a.self.now.pool.now) a.variables.now b.variables b.at b.i b.invariant (omega arith)
+pub write_variables-requires : goal.write_variables-requires
+write_variables-requires c = (c.args.self.now.rows, c.requires)

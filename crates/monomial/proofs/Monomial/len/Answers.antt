@@ -1,9 +1,13 @@
--- It has as many variables as are counted, which are fourteen at the most.
-use mathlib.Core.Path.{ap, ◌∙◌}
+-- Of fourteen places no more can be variables.
+use mathlib.Core.Path.{◌≡◌}
 use native.Mathlib.Omega.{arith}
-use lib.ListN.{length}
-use Rattle.semantics.specs.Monomial.{Monomial}
+use borrow.Author.Rules.{rules}
+use lib.ListN.{length, length-map, length-take}
+use Rattle.monomial.specs.Words.{num, nums}
 use Rattle.monomial.proofs.Monomial.len.Goals as goal
 
 pub returns : goal.returns
-returns c = (c.self.invariant.0 ∙ ap (λ (m : Monomial). length m.vars) c.self.view_is, omega (arith, c.self.invariant.0, c.self.invariant.1.few))
+returns c =
+    let m = c.args.self.now in
+    let places : length m.vars ≡ 14 = search rules in
+    (omega (arith, c.min.ensures, length-take m.count (nums m.vars), length-map m.vars num), omega (arith, c.min.ensures))

@@ -1,29 +1,25 @@
 -- The variables are merged and the coefficients multiplied: each part of the product is what the callee ensures.
-use mathlib.Core.Path.{◌≡◌, sym, ap, subst, ◌∙◌}
-use Prim.Native.Nat.{◌+◌, ◌≤◌}
+use mathlib.Core.Path.{sym, subst, ◌∙◌}
 use native.Mathlib.Omega.{arith}
 use mathlib.Core.List.{◌++◌}
-use lib.ListN.{length, length-append}
-use Rattle.semantics.specs.Arithmetic.{prime}
-use Rattle.semantics.specs.Monomial.{Monomial, mul_monomial}
-use Rattle.monomial.specs.Words.{monomial_of, Fits}
-use Rattle.monomial.proofs.Canons.{fits_product, sort_length}
+use Rattle.semantics.specs.Lists.{Sorted}
+use Rattle.semantics.specs.Monomial.{above, sort, mul_monomial}
+use Rattle.monomial.proofs.Readings.{first_vars}
 use Rattle.monomial.proofs.Monomial.multiply.Goals as goal
 
-pub invariant_of-result : goal.invariant_of-result
-unfolding mul_monomial
-invariant_of-result c =
-    let s = c.self.inside in
-    let o = c.other.inside in
-    let l = monomial_of s.vars s.count s.coef in
-    let r = monomial_of o.vars o.count o.coef in
-    let short : length l.vars + length r.vars ≤ 14 =
-    omega (arith, c.requires, ap (λ (m : Monomial). length m.vars) c.self.view_is, ap (λ (m : Monomial). length m.vars) c.other.view_is) in
-    let n : s.count + o.count ≡ length (mul_monomial prime l r).vars =
-    omega (arith, c.self.invariant.0, c.other.invariant.0, sort_length (l.vars ++ r.vars), length-append l.vars r.vars) in
-    (n ∙ ap length (sym c.merge_vars.ensures), subst Fits (λ t. record { vars = sym c.merge_vars.ensures t; coef = sym c.mul.ensures t }) (fits_product l r short))
+pub merge_vars-requires : goal.merge_vars-requires
+merge_vars-requires c =
+    let l = first_vars c.args.self.now c.len-n.result c.len-n.ensures.0 in
+    let r = first_vars c.args.other.now c.len-m.result c.len-m.ensures.0 in (
+      omega (arith, c.requires.0, c.len-n.ensures.0, c.len-m.ensures.0),
+      subst (Sorted above) (sym l) c.requires.1,
+      subst (Sorted above) (sym r) c.requires.2,
+    )
 
 pub returns : goal.returns
 unfolding mul_monomial
 returns c =
-    (λ t. record { vars = c.merge_vars.ensures t; coef = c.mul.ensures t }) ∙ (λ t. mul_monomial prime (c.self.view_is t) (c.other.view_is t))
+    let l = first_vars c.args.self.now c.len-n.result c.len-n.ensures.0 in
+    let r = first_vars c.args.other.now c.len-m.result c.len-m.ensures.0 in
+    let vars = c.merge_vars.ensures ∙ (λ i. sort above (l i ++ r i)) in
+    (λ t. record { vars = vars t; coef = c.mul.ensures t }, omega (arith, c.len-n.ensures.0, c.len-m.ensures.0))

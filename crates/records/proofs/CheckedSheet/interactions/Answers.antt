@@ -16,14 +16,14 @@ use Rattle.records.proofs.CheckedSheet.interactions.Goals as goal
 pub offset_bounds-self-interactions_at : goal.offset_bounds-self-interactions_at
 offset_bounds-self-interactions_at c = omega (arith, c.interactions_at.ensures, (places_small c.args.self.words.now c.args.self.checked).1)
 
-pub slice_bounds-result-count : goal.slice_bounds-result-count
-slice_bounds-result-count c = omega (arith, c.interactions_at.ensures, interactions_within c.args.self.words.now c.args.self.checked)
+pub slice_bounds-new-count : goal.slice_bounds-new-count
+slice_bounds-new-count c = omega (arith, c.interactions_at.ensures, interactions_within c.args.self.words.now c.args.self.checked)
 
-pub slice_bounds-result-start : goal.slice_bounds-result-start
-slice_bounds-result-start c = slice_bounds-result-count c
+pub slice_bounds-new-start : goal.slice_bounds-new-start
+slice_bounds-new-start c = slice_bounds-new-count c
 
-pub invariant_of-result : goal.invariant_of-result
-invariant_of-result c =
+pub new-requires : goal.new-requires
+new-requires c =
     let ws = c.args.self.words.now in
     let i = interactions_stand ws c.args.self.checked in
     let e = take_rest ws c.interactions_at.result ∙ ap (λ (n : ℕ). drop n ws) c.interactions_at.ensures ∙ i.1 in
@@ -36,4 +36,4 @@ returns c =
     let ws = c.args.self.words.now in
     let i = interactions_stand ws c.args.self.checked in
     let e = take_rest ws c.interactions_at.result ∙ ap (λ (n : ℕ). drop n ws) c.interactions_at.ensures ∙ i.1 in
-    (λ j. read_interactions (c.num_interactions.ensures j) (e j)) ∙ interactions_back (read_sheet ws).interactions i.0
+    c.new.ensures ∙ (λ j. read_interactions (c.num_interactions.ensures j) (e j)) ∙ interactions_back (read_sheet ws).interactions i.0

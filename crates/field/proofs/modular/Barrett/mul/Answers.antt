@@ -6,4 +6,4 @@ use Rattle.field.proofs.modular.Barrett.mul.Goals as goal
 pub returns : goal.returns
 returns c =
     c.remainder.ensures
-    ∙ mul_rests c.args.self.p c.args.a c.args.self.modulus c.reduced.ensures c.args.b c.reduced-2.ensures
+    ∙ mul_rests c.args.self.residues.p c.args.a c.args.self.residues.modulus c.reduced.ensures c.args.b c.reduced-2.ensures

@@ -1,8 +1,9 @@
--- The most variables so far are kept. The loop's invariant: the larger of them and of the longest of what is left is the longest of all.
-use mathlib.Core.Path.{◌≡◌}
-use Prim.Native.Nat.{max}
+-- The variables of each monomial are counted, and the most is kept. The loop's invariant is `Longest`: the larger of the most so far and the longest
+-- of what is left is the longest of all; `longest_more` keeps it.
+use Prim.Native.Nat.{◌-◌}
 use Rattle.monomial.specs.Words.{longest_of}
+use Rattle.monomial.proofs.Sizes.{Longest}
 use Rattle.monomial.proofs.reading.Monomials.longest.Given as goal
 
-abbrev pub invariant-loop-m : goal.invariant-loop-m
-invariant-loop-m l = max l.most (longest_of l.m-iterator) ≡ longest_of l.fn.self
+abbrev pub invariant-loop : goal.invariant-loop
+invariant-loop l = Longest l.self-inside.words.now (longest_of l.self) l.most l.at (l.self-inside.count - l.counter)

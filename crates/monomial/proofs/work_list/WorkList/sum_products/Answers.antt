@@ -4,7 +4,7 @@ use native.Mathlib.Omega.{arith}
 use lib.ListN.{length, length-append, length-map}
 use Rattle.semantics.specs.Arithmetic.{prime}
 use Rattle.semantics.specs.Monomial.{Monomial, mul_monomial, products}
-use Rattle.monomial.specs.Words.{longest_of, insert_all}
+use Rattle.monomial.specs.Words.{monomial_of, longest_of, insert_all}
 use Rattle.monomial.proofs.Products.{products_nil, products_cons, products_length, short_next}
 use Rattle.monomial.proofs.Summing.{adding_none, adding_next, adding_done}
 use Rattle.monomial.proofs.work_list.WorkList.sum_products.Goals as goal
@@ -22,10 +22,10 @@ pub sum_row-requires : goal.sum_row-requires
 sum_row-requires c =
     let a = c.args in
     let l = c.loop-l in
-    let x = c.in-Some.l in
+    let x = monomial_of c.in-Some.l in
     let row = map (mul_monomial prime x) a.right in
-    let e = ap (λ (z : List Monomial). products prime z a.right) c.in-Some.ensures.steps ∙ products_cons prime x c.next.new.self a.right in
-    let s = short_next _ _ _ _ c.in-Some.ensures.steps l.invariant.1 in (
+    let e = ap (λ (z : List Monomial). products prime z a.right) c.in-Some.ensures.steps.0 ∙ products_cons prime x c.next.new.self a.right in
+    let s = short_next _ _ _ _ c.in-Some.ensures.steps.0 l.invariant.1 in (
       omega (
         arith,
         ap length c.again.ensures,
@@ -34,6 +34,7 @@ sum_row-requires c =
         l.invariant.0.room,
       ),
       l.invariant.0.ascends,
+      c.in-Some.ensures.steps.1.sorted,
       omega (arith, s.0, ap longest_of c.again.ensures, c.requires.2),
     )
 
@@ -41,9 +42,9 @@ pub loop-l-preserved : goal.loop-l-preserved
 loop-l-preserved c =
     let a = c.args in
     let l = c.loop-l in
-    let x = c.in-Some.l in
-    let e = ap (λ (z : List Monomial). products prime z a.right) c.in-Some.ensures.steps ∙ products_cons prime x c.next.new.self a.right in
-    let s = short_next _ _ _ _ c.in-Some.ensures.steps l.invariant.1 in (
+    let x = monomial_of c.in-Some.l in
+    let e = ap (λ (z : List Monomial). products prime z a.right) c.in-Some.ensures.steps.0 ∙ products_cons prime x c.next.new.self a.right in
+    let s = short_next _ _ _ _ c.in-Some.ensures.steps.0 l.invariant.1 in (
       adding_next a.self.now (products prime a.left a.right) (products prime l.l-iterator a.right) (map (mul_monomial prime x) a.right)
           (products prime c.next.new.self a.right) l.self c.sum_row.new.self l.invariant.0 e
           (c.sum_row.ensures ∙ ap (λ (z : List Monomial). insert_all (map (mul_monomial prime x) z) l.self) c.again.ensures),

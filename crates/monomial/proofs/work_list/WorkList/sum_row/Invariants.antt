@@ -4,11 +4,11 @@ use mathlib.Core.List.{map}
 use Prim.Native.Nat.{◌≤◌}
 use Rattle.semantics.specs.Arithmetic.{prime}
 use Rattle.semantics.specs.Monomial.{mul_monomial}
-use Rattle.monomial.specs.Words.{longest_of}
+use Rattle.monomial.specs.Words.{monomial_of, longest_of}
 use Rattle.monomial.proofs.Summing.{Adding}
 use Rattle.monomial.proofs.work_list.WorkList.sum_row.Given as goal
 
 abbrev pub invariant-loop-right : goal.invariant-loop-right
 invariant-loop-right l =
-    Adding l.initial.self (map (mul_monomial prime l.left) l.fn.list) (map (mul_monomial prime l.left) l.right-iterator) l.self
+    Adding l.initial.self (map (mul_monomial prime (monomial_of l.left)) l.fn.list) (map (mul_monomial prime (monomial_of l.left)) l.right-iterator) l.self
     × (longest_of l.right-iterator ≤ longest_of l.fn.list)

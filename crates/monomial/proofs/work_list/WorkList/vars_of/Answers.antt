@@ -1,9 +1,9 @@
--- The variables stand from the third word of a row on: `slot_vars`.
-use mathlib.Core.Path.{◌≡◌, sym, ap, ◌∙◌}
+-- The variables stand in a row: `slot_vars`.
+use mathlib.Core.Path.{sym, ap, ◌∙◌}
 use mathlib.Core.List.{List}
-use Prim.Native.Nat.{ℕ, ◌+◌, ◌*◌, ◌-◌, ◌<◌}
+use Prim.Native.Nat.{◌<◌}
 use native.Mathlib.Omega.{arith}
-use lib.ListN.{length, take, drop, length-take}
+use lib.ListN.{length}
 use Rattle.semantics.specs.Monomial.{Monomial}
 use Rattle.monomial.specs.Places.{vars_at}
 use Rattle.monomial.proofs.Rows.{held_length}
@@ -15,8 +15,5 @@ returns c =
     let s = c.self.inside in
     let k = c.args.k in
     let h : k < s.count = omega (arith, c.requires, ap length c.self.view_is, held_length s.count s.work.now) in
-    let n : 16 * k + 2 + c.min-count.result - (16 * k + 2) ≡ c.min-count.result = omega arith in
-    let a = ap (λ (i : ℕ). take i (drop (16 * k + 2) s.work.now)) (n ∙ c.min-count.ensures) in (
-      a ∙ sym (slot_vars s.work.now k s.count h) ∙ ap (λ (l : List Monomial). vars_at l k) c.self.view_is,
-      omega (arith, n, c.min-count.ensures, length-take (16 * k + 2 + c.min-count.result - (16 * k + 2)) (drop (16 * k + 2) s.work.now)),
-    )
+    let v = c.row_vars.ensures in
+    (v.0 ∙ sym (slot_vars s.work.now k s.count h) ∙ ap (λ (l : List Monomial). vars_at l k) c.self.view_is, v.1)
