@@ -13,7 +13,7 @@ pub fn build_graph(sheet: CheckedSheet, scratch: &mut [u32], out: &mut [u32]) ->
 {
     let mut walk = Walk::new(sheet, scratch, out, 0);
     walk.add_references(sheet.constraints());
-    walk.add_interactions(sheet.interactions());
+    walk.add_each(sheet.interactions());
     let n = walk.count();
     graph_lists::write_graph(sheet, scratch, out, n)
 }

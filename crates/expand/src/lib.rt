@@ -85,6 +85,7 @@ fn store_list(list: &WorkList, pool: &mut [u32], r: usize, used: usize) -> Resul
 }
 
 impl<'a, 'b, 'c> Walk<'a, 'b, 'c> {
+    ghost use Rattle.semantics.specs.Check.{read_sheet};
     ghost use Rattle.semantics.specs.Walk.{Below};
     ghost use Rattle.records.specs.Named.{parts_of};
     ghost use Rattle.expand.specs.Walks.{Starts, ExpandWalking, ExpandReady, Finishing, Finished, Visited, Walked};
@@ -177,8 +178,8 @@ impl<'a, 'b, 'c> Walk<'a, 'b, 'c> {
         Ok(())
     }
 
-    // Expands a part of each of the interactions: the counts, or the fields.
-    pub fn expand_part(&mut self, part: Part, interactions: Interactions) -> Result<(), Refusal>
+    // Expands a part of each of these interactions: the counts, or the fields.
+    pub fn expand_each(&mut self, part: Part, interactions: Interactions) -> Result<(), Refusal>
         requires { ExpandWalking self.old × Below (length (records_of self.old.sheet.words.now)) (parts_of part interactions) }
         ensures { Walked self.old (parts_of part interactions.entry) self.new result }
     {
@@ -189,5 +190,13 @@ impl<'a, 'b, 'c> Walk<'a, 'b, 'c> {
             };
         }
         Ok(())
+    }
+
+    // Expands a part of every interaction of the sheet.
+    pub fn expand_part(&mut self, part: Part) -> Result<(), Refusal>
+        requires { ExpandWalking self.old }
+        ensures { Walked self.old (parts_of part (read_sheet self.old.sheet.words.now).interactions) self.new result }
+    {
+        self.expand_each(part, self.sheet.interactions())
     }
 }

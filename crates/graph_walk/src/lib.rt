@@ -24,6 +24,7 @@ pub struct Walk<'a, 'b, 'c> {
 
 impl<'a, 'b, 'c> Walk<'a, 'b, 'c> {
     ghost use Rattle.std.specs.Prelude.{ℕ, ◌+◌, ◌-◌, ◌<◌, get_or};
+    ghost use Rattle.semantics.specs.Check.{read_sheet};
     ghost use Rattle.semantics.specs.Walk.{Below};
     ghost use Rattle.records.specs.Named.{references};
     ghost use Rattle.nodes.specs.Picks.{pick_of};
@@ -124,8 +125,8 @@ impl<'a, 'b, 'c> Walk<'a, 'b, 'c> {
         }
     }
 
-    // Adds what the interactions name: of each its fields, then its count.
-    pub fn add_interactions(&mut self, interactions: Interactions)
+    // Adds what these interactions name: of each its fields, then its count.
+    pub fn add_each(&mut self, interactions: Interactions)
         requires { AddWalking self.old × Below (length (records_of self.old.sheet.words.now)) (references interactions) }
         ensures { Walks self.old (references interactions.entry) self.new }
     {
@@ -133,5 +134,13 @@ impl<'a, 'b, 'c> Walk<'a, 'b, 'c> {
             self.add_references(x.fields());
             self.add_expr(x.count() as usize);
         }
+    }
+
+    // Adds what all interactions of the sheet name.
+    pub fn add_interactions(&mut self)
+        requires { AddWalking self.old }
+        ensures { Walks self.old (references (read_sheet self.old.sheet.words.now).interactions) self.new }
+    {
+        self.add_each(self.sheet.interactions())
     }
 }

@@ -64,11 +64,14 @@ written_all gs U₀ U at i w h =
     let e : take i gs ≡ gs = take_all i gs h in
     w.1 ∙ ap (λ (k : ℕ). vars_in (take i gs) ++ drop k U₀) w.0 ∙ ap (λ (l : List Tally). vars_in l ++ drop (length (vars_in l)) U₀) e
 
--- A row's variables are as many as its word says.
-pub row_wide : (k : ℕ) (H P : List ℕ) → row_place H k + 2 + row_size H k ≤ length P → length (row_vars H P k) ≡ row_size H k
-row_wide k H P i =
+-- A row's variables are as many as its word says, where there is room for them.
+pub room_wide : (k : ℕ) (H P : List ℕ) → row_place H k + 2 + row_size H k ≤ length P → length (row_vars H P k) ≡ row_size H k
+room_wide k H P i =
     let f : length (drop (get_or H (4 * k) 0 + 2) P) ≡ length P - (get_or H (4 * k) 0 + 2) = length-drop (get_or H (4 * k) 0 + 2) P in
     length-take-le (get_or H (4 * k + 2) 0) (drop (get_or H (4 * k) 0 + 2) P) (omega (arith, i))
 
+pub row_wide : (n k : ℕ) (H P : List ℕ) → Rows n H P → k < n → length (row_vars H P k) ≡ row_size H k
+row_wide n k H P r h = room_wide k H P (inside_at n k H P r h).0
+
 pub vars_long : (n k : ℕ) (H P : List ℕ) → Rows n H P → k < n → get_or H (4 * k + 2) 0 ≡ length (get_or (tallied n H P) k none).vars
-vars_long n k H P r h = sym (ap length (vars_at_lem n k H P h) ∙ row_wide k H P (inside_at n k H P r h).0)
+vars_long n k H P r h = sym (ap length (vars_at_lem n k H P h) ∙ row_wide n k H P r h)

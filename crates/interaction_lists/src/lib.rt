@@ -38,11 +38,11 @@ fn walk_interactions(sheet: CheckedSheet, work: &mut [u32], pool: &mut [u32]) ->
     let heads = 2 * records;
     constraint_lists::clear_heads(pool, records);
     let mut walk = Walk::new(sheet, work, pool, heads);
-    let counted = walk.expand_part(Part::Count, sheet.interactions());
+    let counted = walk.expand_each(Part::Count, sheet.interactions());
     let Ok(()) = counted else {
         return counted;
     };
-    walk.expand_part(Part::Fields, sheet.interactions())
+    walk.expand_each(Part::Fields, sheet.interactions())
 }
 
 // The largest message length of the interactions.

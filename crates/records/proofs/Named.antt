@@ -10,6 +10,7 @@ use Rattle.semantics.specs.Sheet.{Interaction, Each, GoodInteraction}
 use Rattle.semantics.specs.Check.{read_sheet, check}
 use Rattle.semantics.specs.Walk.{Mem, Below}
 use Rattle.semantics.specs.Lists.{All}
+use Rattle.semantics.proofs.Lists.{all_back}
 use Rattle.semantics.proofs.Members.{not_in, mem_left, mem_right, cons_below, append_below, flat_below}
 use Rattle.semantics.proofs.GraphSheets.{InteractionFacts, interaction_facts}
 use Rattle.records.specs.declared.interactions.Part.{Part}
@@ -59,10 +60,12 @@ module _ (ws : List ℕ) (checked : check prime ws ≡ good (read_sheet ws)) whe
 -- The interactions that a loop has passed, of all that it goes over: `taken` is what was taken of them, and `left` are those that are left.
 pub record Passed (one : Interaction → List ℕ) (all left : List Interaction) (taken : List ℕ) : Type 0 where
   pub whole : taken ++ flat_map one left ≡ flat_map one all
+  pub before : List Interaction
+  pub parts : before ++ left ≡ all
 
 module _ {one : Interaction → List ℕ} {all : List Interaction} where
   pub passed_none : {left : List Interaction} → left ≡ all → Passed one all left []
-  passed_none e = record { whole = ap (flat_map one) e }
+  passed_none e = record { whole = ap (flat_map one) e; before = []; parts = e }
 
   module _ {left : List Interaction} {taken : List ℕ} (h : Passed one all left taken) where
     pub passed_below : {b : ℕ} → Below b (flat_map one all) → Below b taken
@@ -71,6 +74,10 @@ module _ {one : Interaction → List ℕ} {all : List Interaction} where
     pub passed_done : left ≡ [] → taken ≡ flat_map one all
     unfolding flat_map
     passed_done e = sym (append-nil taken) ∙ ap (λ (xs : List Interaction). taken ++ flat_map one xs) (sym e) ∙ h.whole
+
+    -- What holds of all holds of those that are left.
+    pub left_all : (P : Interaction → Type 0) → All P all → All P left
+    left_all P a = all_back P h.before left (subst (All P) (sym h.parts) a)
 
     module _ {x : Interaction} {rest : List Interaction} (e : left ≡ x ∷ rest) where
       pub next_whole : taken ++ (one x ++ flat_map one rest) ≡ flat_map one all
@@ -81,4 +88,17 @@ module _ {one : Interaction → List ℕ} {all : List Interaction} where
       next_below b c m = b c (subst (Mem c) next_whole (mem_right c taken (one x ++ flat_map one rest) (mem_left c (one x) (flat_map one rest) m)))
 
       pub passed_more : Passed one all rest (taken ++ one x)
-      passed_more = record { whole = append_assoc taken (one x) (flat_map one rest) ∙ next_whole }
+      passed_more = record {
+        whole = append_assoc taken (one x) (flat_map one rest) ∙ next_whole;
+        before = h.before ++ (x ∷ []);
+        parts = append_assoc h.before (x ∷ []) rest ∙ ap (λ (xs : List Interaction). h.before ++ xs) (sym e) ∙ h.parts;
+      }
+
+-- Of the interactions of a checked sheet.
+module _ {one : Interaction → List ℕ} (ws : List ℕ) (checked : check prime ws ≡ good (read_sheet ws))
+    {left : List Interaction} {taken : List ℕ} (h : Passed one (read_sheet ws).interactions left taken) where
+  pub facts : All (InteractionFacts (length (records_of ws))) left
+  facts = left_all h (InteractionFacts (length (records_of ws))) (interactions_good ws checked)
+
+  pub next_facts : {x : Interaction} {rest : List Interaction} → left ≡ x ∷ rest → InteractionFacts (length (records_of ws)) x
+  next_facts e = (subst (All (InteractionFacts (length (records_of ws)))) e facts).0

@@ -62,7 +62,7 @@ module _ (ws : List ℕ) (at : ℕ) (room : at + (4 + get_or ws (at + 3) 0) ≤ 
       ap (λ (k : ℕ). read_interaction (take k (drop at ws))) (omega (arith, e, l))
       ∙ front_read (drop at ws) (omega (arith, room, l, length-drop at ws))
 
--- The first of n that stand in the words, read as x with k words; the words behind it are those that are left.
+-- The first of n that stand in the words.
 module _ (ws : List ℕ) (n : ℕ) (some : n ≡ 0 → ⊥) (stand : InteractionsStand n ws) where
   more : n ≡ suc (n - 1)
   more = omega (arith, some)
@@ -70,25 +70,38 @@ module _ (ws : List ℕ) (n : ℕ) (some : n ≡ 0 → ⊥) (stand : Interaction
   now : InteractionsStand (suc (n - 1)) ws
   now = subst (λ (k : ℕ). InteractionsStand k ws) more stand
 
-  room : 4 + get_or ws 3 0 ≤ length ws
-  room = now.0
+  pub first_room : 4 + get_or ws 3 0 ≤ length ws
+  first_room = now.0
 
+  pub rest_stand : InteractionsStand (n - 1) (drop (4 + get_or ws 3 0) ws)
+  rest_stand = now.1
+
+  pub first_whole : length (take (4 + get_or ws 3 0) ws) ≡ 4 + get_or (take (4 + get_or ws 3 0) ws) 3 0
+  first_whole = front_whole ws first_room
+
+  pub first_read : read_interactions n ws
+      ≡ read_interaction (take (4 + get_or ws 3 0) ws) ∷ read_interactions (n - 1) (drop (4 + get_or ws 3 0) ws)
+  unfolding read_interactions
+  first_read =
+      ap (λ (m : ℕ). read_interactions m ws) more
+      ∙ λ i. sym (front_read ws first_room) i ∷ read_interactions (n - 1) (drop (4 + get_or ws 3 0) ws)
+
+  -- Read as x, with k words; the words behind it are those that are left.
   module _ {x : Interaction} (x_is : x ≡ read_interaction ws) {k : ℕ} (k_is : k ≡ 4 + length x.message) where
     size_is : k ≡ 4 + get_or ws 3 0
-    size_is = omega (arith, k_is, ap (λ (y : Interaction). length y.message) x_is, front_length ws room)
+    size_is = omega (arith, k_is, ap (λ (y : Interaction). length y.message) x_is, front_length ws first_room)
 
     pub first_within : k ≤ length ws
-    first_within = omega (arith, size_is, room)
+    first_within = omega (arith, size_is, first_room)
 
     rest_is : drop (4 + get_or ws 3 0) ws ≡ take (length ws - k) (drop k ws)
     rest_is = ap (λ (m : ℕ). drop m ws) (sym size_is) ∙ sym (take_rest ws k)
 
-    pub rest_stand : InteractionsStand (n - 1) (take (length ws - k) (drop k ws))
-    rest_stand = subst (InteractionsStand (n - 1)) rest_is now.1
+    pub left_stand : InteractionsStand (n - 1) (take (length ws - k) (drop k ws))
+    left_stand = subst (InteractionsStand (n - 1)) rest_is rest_stand
 
-    pub first_read : read_interactions n ws ≡ x ∷ read_interactions (n - 1) (take (length ws - k) (drop k ws))
-    unfolding read_interactions
-    first_read = ap (λ (m : ℕ). read_interactions m ws) more ∙ λ i. sym x_is i ∷ read_interactions (n - 1) (rest_is i)
+    pub left_read : read_interactions n ws ≡ x ∷ read_interactions (n - 1) (take (length ws - k) (drop k ws))
+    left_read = first_read ∙ λ i. (front_read ws first_room ∙ sym x_is) i ∷ read_interactions (n - 1) (rest_is i)
 
 -- Interactions whose words stand one behind the other.
 pub words_stand : (xs : List Interaction) (rest : List ℕ) → InteractionsStand (length xs) (flat_map interaction_words xs ++ rest)

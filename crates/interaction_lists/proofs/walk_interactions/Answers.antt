@@ -26,8 +26,8 @@ fields ws = fields_of (read_sheet ws).interactions
 pub clear_heads-requires : goal.clear_heads-requires
 clear_heads-requires c = omega (arith, c.num_records-records.ensures, c.requires.1)
 
-pub expand_part-counted-requires : goal.expand_part-counted-requires
-expand_part-counted-requires c =
+pub expand_each-counted-requires : goal.expand_each-counted-requires
+expand_each-counted-requires c =
     let a = c.args.sheet in
     let m = c.new-walk.ensures.starts in (
       walk_starts a.words.now _ c.num_records-records.ensures _ c.clear_heads.ensures m,
@@ -39,7 +39,7 @@ returns-in_default c =
     let a = c.args.sheet in
     let ws = a.words.now in
     let n = c.num_records-records.ensures in
-    let e = c.expand_part-counted in
+    let e = c.expand_each-counted in
     let m = c.new-walk.ensures in
     let v = c.new-walk.result in
     let p = walk_starts ws _ n _ c.clear_heads.ensures m.starts in
@@ -48,11 +48,11 @@ returns-in_default c =
     let f = first_refused p (counts ws) (fields ws) (part_below ws a.checked Count refl m.starts.sheet_is) e.new.self e.result first c.in_default.is in
     walk_ends ws _ n _ c.clear_heads.ensures m.starts (λ _. counts ws ++ fields ws) e.new.self e.result f _ (search rules)
 
-pub expand_part-requires : goal.expand_part-requires
-expand_part-requires c =
+pub expand_each-requires : goal.expand_each-requires
+expand_each-requires c =
     let a = c.args.sheet in
     let ws = a.words.now in
-    let e = c.expand_part-counted in
+    let e = c.expand_each-counted in
     let v = c.new-walk.result in
     let m = c.new-walk.ensures.starts in
     let p = walk_starts ws _ c.num_records-records.ensures _ c.clear_heads.ensures m in
@@ -66,8 +66,8 @@ returns c =
     let a = c.args.sheet in
     let ws = a.words.now in
     let n = c.num_records-records.ensures in
-    let e = c.expand_part-counted in
-    let g = c.expand_part in
+    let e = c.expand_each-counted in
+    let g = c.expand_each in
     let m = c.new-walk.ensures in
     let v = c.new-walk.result in
     let p = walk_starts ws _ n _ c.clear_heads.ensures m.starts in

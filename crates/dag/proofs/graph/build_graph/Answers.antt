@@ -12,15 +12,15 @@ add_references-requires c =
     let t = c.new-walk.ensures.starts in
     (start_walking c.args.sheet.checked c.requires t, names_below c.args.sheet.checked c.requires t c.constraints.ensures)
 
-pub add_interactions-requires : goal.add_interactions-requires
-add_interactions-requires c =
+pub add_each-requires : goal.add_each-requires
+add_each-requires c =
     walking_next c.args.sheet.checked c.requires c.new-walk.ensures.starts c.constraints.ensures c.add_references.ensures c.interactions.ensures
 
 pub write_graph-requires : goal.write_graph-requires
 write_graph-requires c =
     let u = c.new-walk.ensures in
     let f = c.add_references.ensures in
-    let g = c.add_interactions.ensures in
+    let g = c.add_each.ensures in
     let s₀ = u.scratch in
     let s₁ = f.0.scratch in
     let s₂ = g.0.scratch in

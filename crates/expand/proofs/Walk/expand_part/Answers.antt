@@ -1,23 +1,29 @@
-use Rattle.expand.proofs.Roots.{passing_none, passing_walking, passing_done, next_names, passing_more, passing_refused}
+-- What a part of the interactions of a checked sheet names is below the number of its records.
+use mathlib.Core.Path.{◌≡◌, sym, subst}
+use mathlib.Core.List.{List}
+use Prim.Native.Nat.{ℕ}
+use lib.ListN.{length}
+use Rattle.semantics.specs.Sheet.{Interaction}
+use Rattle.semantics.specs.Check.{read_sheet}
+use Rattle.semantics.specs.Walk.{Below}
+use Rattle.records.specs.declared.interactions.Part.{Part}
+use Rattle.records.specs.Access.{IsSheet, records_of}
+use Rattle.records.specs.Named.{parts_of}
+use Rattle.records.proofs.Named.{parts_below}
+use Rattle.expand.specs.Walks.{Walked}
 use Rattle.expand.proofs.Walk.expand_part.Goals as goal
 
-pub loop-x-init : goal.loop-x-init
-loop-x-init c = passing_none c.requires c.into_iter-x-iterator.ensures.into_iter_gives
+below_all : (ws : List ℕ) {all : List Interaction} → IsSheet ws → all ≡ (read_sheet ws).interactions → (part : Part)
+    → Below (length (records_of ws)) (parts_of part all)
+below_all ws checked e part =
+    subst (λ (xs : List Interaction). Below (length (records_of ws)) (parts_of part xs)) (sym e) (parts_below ws checked part)
 
-pub expand_references-answer-requires : goal.expand_references-answer-requires
-expand_references-answer-requires c =
-    let h = c.loop-x.invariant in
-    (passing_walking c.requires h, next_names c.requires h c.in-Some.ensures.steps c.part.ensures)
-
-pub returns-in_default : goal.returns-in_default
-returns-in_default c =
-    let v = c.expand_references-answer in
-    passing_refused c.requires c.loop-x.invariant c.in-Some.ensures.steps c.part.ensures v.new.self v.result v.ensures c.in_default.is
-
-pub loop-x-preserved : goal.loop-x-preserved
-loop-x-preserved c =
-    let v = c.expand_references-answer in
-    passing_more c.requires c.loop-x.invariant c.in-Some.ensures.steps c.part.ensures v.new.self v.result v.ensures c.in-Ok.is
+pub expand_each-requires : goal.expand_each-requires
+expand_each-requires c =
+    let w = c.args.self.now in
+    (c.requires, below_all w.sheet.words.now w.sheet.checked c.interactions.ensures _)
 
 pub returns : goal.returns
-returns c = passing_done c.requires c.loop-x.invariant c.in-None.ensures.steps.0
+returns c =
+    let e = c.expand_each in
+    subst (λ (xs : List Interaction). Walked c.args.self.now (parts_of c.args.part xs) e.new.self e.result) c.interactions.ensures e.ensures

@@ -1,20 +1,21 @@
-use Rattle.graph_walk.proofs.Rooting.{rooting_none, rooting_walking, rooting_done, fields_inside, count_ready, rooting_more}
+-- What the interactions of a checked sheet name is below the number of its records.
+use mathlib.Core.Path.{sym, subst}
+use mathlib.Core.List.{List}
+use Rattle.semantics.specs.Sheet.{Interaction}
+use Rattle.semantics.specs.Walk.{Below}
+use Rattle.records.specs.Named.{references}
+use Rattle.records.proofs.Named.{all_references_below}
+use Rattle.graph_walk.specs.Walking.{Walks}
+use Rattle.graph_walk.proofs.Rooting.{size}
 use Rattle.graph_walk.proofs.Walk.add_interactions.Goals as goal
 
-pub loop-x-init : goal.loop-x-init
-loop-x-init c = rooting_none c.into_iter-x-iterator.ensures.into_iter_gives
-
-pub add_references-requires : goal.add_references-requires
-add_references-requires c =
-    let h = c.loop-x.invariant in
-    (rooting_walking c.requires h, fields_inside c.requires h c.in-Some.ensures.steps c.fields.ensures)
-
-pub add_expr-requires : goal.add_expr-requires
-add_expr-requires c = count_ready c.requires c.loop-x.invariant c.in-Some.ensures.steps c.fields.ensures c.add_references.ensures c.count.ensures
-
-pub loop-x-preserved : goal.loop-x-preserved
-loop-x-preserved c =
-    rooting_more c.requires c.loop-x.invariant c.in-Some.ensures.steps c.fields.ensures c.add_references.ensures c.count.ensures c.add_expr.ensures
+pub add_each-requires : goal.add_each-requires
+add_each-requires c =
+    let w = c.args.self.now in
+    let below = all_references_below w.sheet.words.now w.sheet.checked in
+    (c.requires, subst (λ (xs : List Interaction). Below (size w) (references xs)) (sym c.interactions.ensures) below)
 
 pub returns : goal.returns
-returns c = rooting_done c.requires c.loop-x.invariant c.in-None.ensures.steps.0
+returns c =
+    let w = c.args.self.now in
+    subst (λ (xs : List Interaction). Walks w (references xs) c.add_each.new.self) c.interactions.ensures c.add_each.ensures

@@ -4,7 +4,7 @@ use Prim.Native.Nat.{ℕ}
 use native.Mathlib.Omega.{arith}
 use lib.ListN.{length}
 use Rattle.semantics.specs.Check.{read_interactions}
-use Rattle.records.proofs.Standing.{none_read, first_within, rest_stand, first_read}
+use Rattle.records.proofs.Standing.{none_read, first_within, left_stand, left_read}
 use Rattle.records.proofs.interactions.InteractionsIterator.next.Goals as goal
 
 pub returns-then-self-eq0-clause-steps : goal.returns-then-self-eq0-clause-steps
@@ -27,12 +27,12 @@ offset_bounds-self-inside-word_count c = omega (arith, slice_bounds-self-count c
 pub invariant_of-self : goal.invariant_of-self
 invariant_of-self c =
     let s = c.self.inside in
-    rest_stand s.words.now s.count c.if-self-eq0.false c.self.invariant c.interaction_at-x.ensures c.word_count.ensures
+    left_stand s.words.now s.count c.if-self-eq0.false c.self.invariant c.interaction_at-x.ensures c.word_count.ensures
 
 pub returns-clause-steps : goal.returns-clause-steps
 returns-clause-steps c =
     let s = c.self.inside in
-    sym c.self.view_is ∙ first_read s.words.now s.count c.if-self-eq0.false c.self.invariant c.interaction_at-x.ensures c.word_count.ensures
+    sym c.self.view_is ∙ left_read s.words.now s.count c.if-self-eq0.false c.self.invariant c.interaction_at-x.ensures c.word_count.ensures
 
 pub returns-clause-goes : goal.returns-clause-goes
 returns-clause-goes c = record { on = λ _. (tt, tt, omega (arith, ap length (returns-clause-steps c))); keeps = tt; rests = λ _. tt }
