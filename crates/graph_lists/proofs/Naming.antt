@@ -11,7 +11,7 @@ use Rattle.semantics.specs.Check.{read_sheet}
 use Rattle.semantics.specs.Graph.{renamed}
 use Rattle.records.specs.Named.{references_of, references}
 use Rattle.std.proofs.lemmas.List.{take_more}
-use Rattle.records.proofs.Named.{Passed, passed_none, passed_done, next_whole, passed_more}
+use Rattle.records.proofs.Named.{PassedRun, run_none, run_done, run_whole, run_more}
 use Rattle.semantics.proofs.Members.{mem_get_or, mem_left, mem_right}
 use Rattle.slices.specs.Putting.{put, Puts}
 use Rattle.graph_lists.specs.Lists.{node_numbers, marks_of, NodesNamed, renamed_words, renamed_all}
@@ -99,7 +99,7 @@ module _ (x : Interaction) {s : List ℕ} (h : NodesNamed (references_of x) s) w
 -- The loop over the interactions: what is written and what is left make the whole.
 pub record Written (ws s : List ℕ) (out₀ : List ℕ) (to : ℕ) (out : List ℕ) (next : ℕ) (left : List Interaction) : Type 0 where
   pub words : List ℕ
-  pub passed : Passed (renamed_words s) (read_sheet ws).interactions left words
+  pub passed : PassedRun (renamed_words s) (read_sheet ws).interactions left words
   pub named : NodesNamed (references left) s
   pub out_is : Puts out₀ to words out next
 
@@ -107,14 +107,14 @@ pub written_none : {ws s : List ℕ} {out₀ : List ℕ} {to : ℕ} {left : List
     → left ≡ (read_sheet ws).interactions → Written ws s out₀ to out₀ to left
 written_none {ws} {s} {out₀} {to} h e = record {
   words = [];
-  passed = passed_none e;
+  passed = run_none e;
   named = subst (λ (xs : List Interaction). NodesNamed (references xs) s) (sym e) h;
   out_is = record { out_is = sym (put_none out₀ to); next_is = omega arith };
 }
 
 module _ {ws s : List ℕ} {out₀ : List ℕ} {to : ℕ} {out : List ℕ} {next : ℕ} {left : List Interaction} (h : Written ws s out₀ to out next left) where
   pub written_done : left ≡ [] → Puts out₀ to (renamed_all s (read_sheet ws).interactions) out next
-  written_done e = subst (λ (xs : List ℕ). Puts out₀ to xs out next) (passed_done h.passed e) h.out_is
+  written_done e = subst (λ (xs : List ℕ). Puts out₀ to xs out next) (run_done h.passed e) h.out_is
 
   module _ (room : to + length (renamed_all s (read_sheet ws).interactions) ≤ length out₀) {x : Interaction} {rest : List Interaction} (e : left ≡ x ∷ rest) where
     named_now : NodesNamed (references_of x ++ references rest) s
@@ -127,7 +127,7 @@ module _ {ws s : List ℕ} {out₀ : List ℕ} {to : ℕ} {out : List ℕ} {next
     split_length : length h.words + (length (renamed_words s x) + length (renamed_all s rest)) ≡ length (renamed_all s (read_sheet ws).interactions)
     split_length =
         sym (length-append h.words (renamed_words s x ++ renamed_all s rest) ∙ ap (λ (n : ℕ). length h.words + n) (length-append (renamed_words s x) (renamed_all s rest)))
-        ∙ ap length (next_whole h.passed e)
+        ∙ ap length (run_whole h.passed e)
 
     pub next_room : next + (4 + length x.message) ≤ length out
     next_room =
@@ -138,7 +138,7 @@ module _ {ws s : List ℕ} {out₀ : List ℕ} {to : ℕ} {out : List ℕ} {next
     pub written_more : {out' : List ℕ} {next' : ℕ} → Puts out next (renamed_words s x) out' next' → Written ws s out₀ to out' next' rest
     written_more w = record {
       words = h.words ++ renamed_words s x;
-      passed = passed_more h.passed e;
+      passed = run_more h.passed e;
       named = record { small = h.named.small; named = λ c m. named_now.named c (mem_right c (references_of x) (references rest) m) };
       out_is = record {
         out_is = w.out_is ∙ put_behind out₀ out to h.words h.out_is.out_is next h.out_is.next_is (renamed_words s x) (omega (arith, split_length));

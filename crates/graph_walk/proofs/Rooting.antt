@@ -10,7 +10,7 @@ use Rattle.records.specs.Access.{records_of}
 use Rattle.records.specs.Named.{references_of, references}
 use Rattle.records.specs.Orders.{Order, Visiting}
 use Rattle.records.proofs.Rooting.{order_walk, visiting_none, visiting_one, visiting_both}
-use Rattle.records.proofs.Named.{Passed, passed_none, passed_below, passed_done, next_below, passed_more}
+use Rattle.records.proofs.Named.{PassedRun, run_none, run_below, run_done, run_next, run_more}
 use Rattle.std.proofs.lemmas.List.{take_more}
 use Rattle.records.proofs.Parts.{mem_take}
 use Rattle.graph_walk.specs.declared.Walk.{Walk}
@@ -86,27 +86,27 @@ module _ {u : Walk} {names : List ℕ} (p : AddWalking u) (below : Below (size u
 -- What holds while the interactions are added; `left` are still to add, of all.
 pub record Rooting (u : Walk) (all : List Interaction) (v : Walk) (left : List Interaction) : Type 0 where
   pub roots : List ℕ
-  pub passed : Passed references_of all left roots
+  pub passed : PassedRun references_of all left roots
   pub walks : Walks u roots v
 
 pub rooting_none : {u : Walk} {all left : List Interaction} → left ≡ all → Rooting u all u left
-rooting_none {u} e = record { roots = []; passed = passed_none e; walks = walks_none u }
+rooting_none {u} e = record { roots = []; passed = run_none e; walks = walks_none u }
 
 module _ {u : Walk} {all : List Interaction} (p : AddWalking u × Below (size u) (references all)) {v : Walk} {left : List Interaction}
     (h : Rooting u all v left) where
   so_far_below : Below (size u) h.roots
-  so_far_below = passed_below h.passed p.1
+  so_far_below = run_below h.passed p.1
 
   pub rooting_walking : AddWalking v
   rooting_walking = walking_after h.roots so_far_below p.0 h.walks
 
   pub rooting_done : left ≡ [] → Walks u (references all) v
-  rooting_done e = subst (λ (xs : List ℕ). Walks u xs v) (passed_done h.passed e) h.walks
+  rooting_done e = subst (λ (xs : List ℕ). Walks u xs v) (run_done h.passed e) h.walks
 
   -- The fields of the next are added, then its count.
   module _ {x : Interaction} {rest : List Interaction} (e : left ≡ x ∷ rest) {fields : List ℕ} (fields_are : fields ≡ x.message) where
     next : Below (size u) (references_of x)
-    next = next_below h.passed e p.1
+    next = run_next h.passed e p.1
 
     pub fields_inside : Below (size v) fields
     fields_inside =
@@ -124,7 +124,7 @@ module _ {u : Walk} {all : List Interaction} (p : AddWalking u × Below (size u)
       pub rooting_more : {v₂ : Walk} → Visited v₁ count v₂ → Rooting u all v₂ rest
       rooting_more {v₂} g = record {
         roots = h.roots ++ references_of x;
-        passed = passed_more h.passed e;
+        passed = run_more h.passed e;
         walks =
             walks_both h.roots (references_of x) so_far_below h.walks
             (subst (λ (xs : List ℕ). Walks v xs v₂) (λ i. fields_are i ++ (count_is i ∷ []))

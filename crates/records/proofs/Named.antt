@@ -58,47 +58,72 @@ module _ (ws : List ℕ) (checked : check prime ws ≡ good (read_sheet ws)) whe
   all_references_below = all_below references_of (λ x f. references_below f)
 
 -- The interactions that a loop has passed, of all that it goes over: `taken` is what was taken of them, and `left` are those that are left.
-pub record Passed (one : Interaction → List ℕ) (all left : List Interaction) (taken : List ℕ) : Type 0 where
+pub record PassedRun (one : Interaction → List ℕ) (all left : List Interaction) (taken : List ℕ) : Type 0 where
   pub whole : taken ++ flat_map one left ≡ flat_map one all
   pub before : List Interaction
   pub parts : before ++ left ≡ all
 
 module _ {one : Interaction → List ℕ} {all : List Interaction} where
-  pub passed_none : {left : List Interaction} → left ≡ all → Passed one all left []
-  passed_none e = record { whole = ap (flat_map one) e; before = []; parts = e }
+  pub run_none : {left : List Interaction} → left ≡ all → PassedRun one all left []
+  run_none e = record { whole = ap (flat_map one) e; before = []; parts = e }
 
-  module _ {left : List Interaction} {taken : List ℕ} (h : Passed one all left taken) where
-    pub passed_below : {b : ℕ} → Below b (flat_map one all) → Below b taken
-    passed_below b c m = b c (subst (Mem c) h.whole (mem_left c taken (flat_map one left) m))
+  module _ {left : List Interaction} {taken : List ℕ} (h : PassedRun one all left taken) where
+    pub run_below : {b : ℕ} → Below b (flat_map one all) → Below b taken
+    run_below b c m = b c (subst (Mem c) h.whole (mem_left c taken (flat_map one left) m))
 
-    pub passed_done : left ≡ [] → taken ≡ flat_map one all
+    pub run_done : left ≡ [] → taken ≡ flat_map one all
     unfolding flat_map
-    passed_done e = sym (append-nil taken) ∙ ap (λ (xs : List Interaction). taken ++ flat_map one xs) (sym e) ∙ h.whole
+    run_done e = sym (append-nil taken) ∙ ap (λ (xs : List Interaction). taken ++ flat_map one xs) (sym e) ∙ h.whole
 
     -- What holds of all holds of those that are left.
-    pub left_all : (P : Interaction → Type 0) → All P all → All P left
-    left_all P a = all_back P h.before left (subst (All P) (sym h.parts) a)
+    pub run_left : (P : Interaction → Type 0) → All P all → All P left
+    run_left P a = all_back P h.before left (subst (All P) (sym h.parts) a)
 
     module _ {x : Interaction} {rest : List Interaction} (e : left ≡ x ∷ rest) where
-      pub next_whole : taken ++ (one x ++ flat_map one rest) ≡ flat_map one all
+      pub run_whole : taken ++ (one x ++ flat_map one rest) ≡ flat_map one all
       unfolding flat_map
-      next_whole = ap (λ (xs : List Interaction). taken ++ flat_map one xs) (sym e) ∙ h.whole
+      run_whole = ap (λ (xs : List Interaction). taken ++ flat_map one xs) (sym e) ∙ h.whole
 
-      pub next_below : {b : ℕ} → Below b (flat_map one all) → Below b (one x)
-      next_below b c m = b c (subst (Mem c) next_whole (mem_right c taken (one x ++ flat_map one rest) (mem_left c (one x) (flat_map one rest) m)))
+      pub run_next : {b : ℕ} → Below b (flat_map one all) → Below b (one x)
+      run_next b c m = b c (subst (Mem c) run_whole (mem_right c taken (one x ++ flat_map one rest) (mem_left c (one x) (flat_map one rest) m)))
 
-      pub passed_more : Passed one all rest (taken ++ one x)
-      passed_more = record {
-        whole = append_assoc taken (one x) (flat_map one rest) ∙ next_whole;
+      pub run_more : PassedRun one all rest (taken ++ one x)
+      run_more = record {
+        whole = append_assoc taken (one x) (flat_map one rest) ∙ run_whole;
         before = h.before ++ (x ∷ []);
         parts = append_assoc h.before (x ∷ []) rest ∙ ap (λ (xs : List Interaction). h.before ++ xs) (sym e) ∙ h.parts;
       }
 
--- Of the interactions of a checked sheet.
-module _ {one : Interaction → List ℕ} (ws : List ℕ) (checked : check prime ws ≡ good (read_sheet ws))
-    {left : List Interaction} {taken : List ℕ} (h : Passed one (read_sheet ws).interactions left taken) where
+-- Those of a checked sheet: each that is left has the facts of its check.
+pub record Passed (one : Interaction → List ℕ) (ws : List ℕ) (left : List Interaction) (taken : List ℕ) : Type 0 where
+  pub run : PassedRun one (read_sheet ws).interactions left taken
   pub facts : All (InteractionFacts (length (records_of ws))) left
-  facts = left_all h (InteractionFacts (length (records_of ws))) (interactions_good ws checked)
 
-  pub next_facts : {x : Interaction} {rest : List Interaction} → left ≡ x ∷ rest → InteractionFacts (length (records_of ws)) x
-  next_facts e = (subst (All (InteractionFacts (length (records_of ws)))) e facts).0
+module _ {one : Interaction → List ℕ} {ws : List ℕ} where
+  -- A run over the sheet's interactions is one.
+  pub passed_run : {left : List Interaction} {taken : List ℕ} → check prime ws ≡ good (read_sheet ws)
+      → PassedRun one (read_sheet ws).interactions left taken → Passed one ws left taken
+  passed_run checked r = record { run = r; facts = run_left r (InteractionFacts (length (records_of ws))) (interactions_good ws checked) }
+
+  pub passed_none : check prime ws ≡ good (read_sheet ws) → {left : List Interaction} → left ≡ (read_sheet ws).interactions → Passed one ws left []
+  passed_none checked e = passed_run checked (run_none e)
+
+  module _ {left : List Interaction} {taken : List ℕ} (h : Passed one ws left taken) where
+    pub passed_below : {b : ℕ} → Below b (flat_map one (read_sheet ws).interactions) → Below b taken
+    passed_below = run_below h.run
+
+    pub passed_done : left ≡ [] → taken ≡ flat_map one (read_sheet ws).interactions
+    passed_done = run_done h.run
+
+    module _ {x : Interaction} {rest : List Interaction} (e : left ≡ x ∷ rest) where
+      facts_now : All (InteractionFacts (length (records_of ws))) (x ∷ rest)
+      facts_now = subst (All (InteractionFacts (length (records_of ws)))) e h.facts
+
+      pub next_facts : InteractionFacts (length (records_of ws)) x
+      next_facts = facts_now.0
+
+      pub next_whole : taken ++ (one x ++ flat_map one rest) ≡ flat_map one (read_sheet ws).interactions
+      next_whole = run_whole h.run e
+
+      pub passed_more : Passed one ws rest (taken ++ one x)
+      passed_more = record { run = run_more h.run e; facts = facts_now.1 }

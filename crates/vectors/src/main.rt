@@ -51,25 +51,26 @@ fn next_length(input: &mut impl Read, most: usize) -> io::Result<usize>
     Ok(n.min(most))
 }
 
-// A sheet, in front of room for the longest. It has no ghost field, so that it can be read in place.
+// A sheet, in front of room for the longest.
 #[derive(Drop)]
 struct Sheet {
     buffer: [u32; 4096],
     num_words: usize,
+    ghost within: { num_words ≤ 4096 },
 }
 
 impl Sheet {
     // The words of the sheet.
     fn words(&self) -> &[u32] {
-        &self.buffer[..self.num_words.min(self.buffer.len())]
+        &self.buffer[..self.num_words]
     }
 
-    // Reads how many words a sheet has, and the words, in place of those before.
+    // Reads how many words a sheet has, and the words, in place of those before: by place, since a part of a field cannot be lent where the type has a fact.
     fn read(&mut self, input: &mut impl Read) -> io::Result<()> {
         let n = next_length(input, self.buffer.len())?;
         self.num_words = n;
-        for word in &mut self.buffer[..n] {
-            *word = next_u32(input)?;
+        for i in 0..n {
+            self.buffer[i] = next_u32(input)?;
         }
         Ok(())
     }

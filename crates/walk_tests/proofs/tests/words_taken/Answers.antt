@@ -4,7 +4,7 @@ use Rattle.dag.proofs.Outcomes.{sheet_found}
 use Rattle.walk_tests.proofs.tests.words_taken.Goals as goal
 
 pub invariant_of-sheet : goal.invariant_of-sheet
-invariant_of-sheet g c = record { checked = (sheet_found c.args.words.now c.check_sheet-checked.ensures c.in-Ok.is).0 }
+invariant_of-sheet c = record { checked = (sheet_found c.args.words.now c.check_sheet-checked.ensures c.in-Ok.is).0 }
 
 pub expand_part-requires : goal.expand_part-requires
-expand_part-requires g c = walk_starts c.args.words.now _ c.num_records-records.ensures _ c.clear_heads.ensures c.new-walk.ensures.starts
+expand_part-requires c = walk_starts c.args.words.now _ c.num_records-records.ensures _ c.clear_heads.ensures c.new-walk.ensures.starts
