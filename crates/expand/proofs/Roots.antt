@@ -14,7 +14,7 @@ use Rattle.records.specs.declared.interactions.Part.{Part}
 use Rattle.records.specs.Access.{records_of}
 use Rattle.records.specs.Named.{part_of, parts_of}
 use Rattle.records.proofs.Rooting.{order_none}
-use Rattle.records.proofs.Named.{PassedRun, run_none, run_done, run_whole, run_next, run_more}
+use Rattle.records.proofs.Named.{PassedRun, run_none, run_done, run_whole, run_next, run_more, Last, last_none, last_more}
 use Rattle.expand.specs.declared.Walk.{Walk}
 use Rattle.expand.specs.Walking.{PoolHolds}
 use Rattle.expand.specs.Walks.{Holds, Answers, ExpandWalking, Walked}
@@ -24,11 +24,12 @@ use Rattle.expand.proofs.Far.{Far, far_none, far_walking, far_more, far_refused}
 pub record Passing (part : Part) (v : Walk) (all : List Interaction) (w : Walk) (left : List Interaction) : Type 0 where
   pub roots : List ℕ
   pub passed : PassedRun (part_of part) all left roots
+  pub last : Last all left
   pub far : Far v roots w
 
 module _ {part : Part} {v : Walk} {all : List Interaction} (p : ExpandWalking v × Below (length (records_of v.sheet.words.now)) (parts_of part all)) where
   pub passing_none : {left : List Interaction} → left ≡ all → Passing part v all v left
-  passing_none e = record { roots = []; passed = run_none e; far = far_none p.0 }
+  passing_none e = record { roots = []; passed = run_none e; last = last_none e; far = far_none p.0 }
 
   module _ {w : Walk} {left : List Interaction} (h : Passing part v all w left) where
     pub passing_walking : ExpandWalking w
@@ -52,7 +53,12 @@ module _ {part : Part} {v : Walk} {all : List Interaction} (p : ExpandWalking v 
         next = subst (λ (xs : List ℕ). Walked w xs y u) names_are f
 
         pub passing_more : {n : Unit {0}} → u ≡ Ok n → Passing part v all y rest
-        passing_more g = record { roots = h.roots ++ part_of part x; passed = run_more h.passed e; far = far_more p.0 h.far (part_of part x) y u next below g }
+        passing_more g = record {
+          roots = h.roots ++ part_of part x;
+          passed = run_more h.passed e;
+          last = last_more h.last e;
+          far = far_more p.0 h.far (part_of part x) y u next below g;
+        }
 
         pub passing_refused : {q : Refusal} → u ≡ Err q → Walked v (parts_of part all) y u
         passing_refused g = far_refused p.0 h.far (part_of part x) y u next g (parts_of part rest) (parts_of part all) (sym (run_whole h.passed e))

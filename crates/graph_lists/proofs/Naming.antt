@@ -11,7 +11,7 @@ use Rattle.semantics.specs.Check.{read_sheet}
 use Rattle.semantics.specs.Graph.{renamed}
 use Rattle.records.specs.Named.{references_of, references}
 use Rattle.std.proofs.lemmas.List.{take_more}
-use Rattle.records.proofs.Named.{PassedRun, run_none, run_done, run_whole, run_more}
+use Rattle.records.proofs.Named.{PassedRun, run_none, run_done, run_whole, run_more, Last, last_none, last_more}
 use Rattle.semantics.proofs.Members.{mem_get_or, mem_left, mem_right}
 use Rattle.slices.specs.Putting.{put, Puts}
 use Rattle.graph_lists.specs.Lists.{node_numbers, marks_of, NodesNamed, renamed_words, renamed_all}
@@ -100,6 +100,7 @@ module _ (x : Interaction) {s : List ℕ} (h : NodesNamed (references_of x) s) w
 pub record Written (ws s : List ℕ) (out₀ : List ℕ) (to : ℕ) (out : List ℕ) (next : ℕ) (left : List Interaction) : Type 0 where
   pub words : List ℕ
   pub passed : PassedRun (renamed_words s) (read_sheet ws).interactions left words
+  pub last : Last (read_sheet ws).interactions left
   pub named : NodesNamed (references left) s
   pub out_is : Puts out₀ to words out next
 
@@ -108,6 +109,7 @@ pub written_none : {ws s : List ℕ} {out₀ : List ℕ} {to : ℕ} {left : List
 written_none {ws} {s} {out₀} {to} h e = record {
   words = [];
   passed = run_none e;
+  last = last_none e;
   named = subst (λ (xs : List Interaction). NodesNamed (references xs) s) (sym e) h;
   out_is = record { out_is = sym (put_none out₀ to); next_is = omega arith };
 }
@@ -139,6 +141,7 @@ module _ {ws s : List ℕ} {out₀ : List ℕ} {to : ℕ} {out : List ℕ} {next
     written_more w = record {
       words = h.words ++ renamed_words s x;
       passed = run_more h.passed e;
+      last = last_more h.last e;
       named = record { small = h.named.small; named = λ c m. named_now.named c (mem_right c (references_of x) (references rest) m) };
       out_is = record {
         out_is = w.out_is ∙ put_behind out₀ out to h.words h.out_is.out_is next h.out_is.next_is (renamed_words s x) (omega (arith, split_length));

@@ -10,7 +10,7 @@ use Rattle.records.specs.Access.{records_of}
 use Rattle.records.specs.Named.{references_of, references}
 use Rattle.records.specs.Orders.{Order, Visiting}
 use Rattle.records.proofs.Rooting.{order_walk, visiting_none, visiting_one, visiting_both}
-use Rattle.records.proofs.Named.{PassedRun, run_none, run_below, run_done, run_next, run_more}
+use Rattle.records.proofs.Named.{PassedRun, run_none, run_below, run_done, run_next, run_more, Last, last_none, last_more}
 use Rattle.std.proofs.lemmas.List.{take_more}
 use Rattle.records.proofs.Parts.{mem_take}
 use Rattle.graph_walk.specs.declared.Walk.{Walk}
@@ -87,10 +87,11 @@ module _ {u : Walk} {names : List ℕ} (p : AddWalking u) (below : Below (size u
 pub record Rooting (u : Walk) (all : List Interaction) (v : Walk) (left : List Interaction) : Type 0 where
   pub roots : List ℕ
   pub passed : PassedRun references_of all left roots
+  pub last : Last all left
   pub walks : Walks u roots v
 
 pub rooting_none : {u : Walk} {all left : List Interaction} → left ≡ all → Rooting u all u left
-rooting_none {u} e = record { roots = []; passed = run_none e; walks = walks_none u }
+rooting_none {u} e = record { roots = []; passed = run_none e; last = last_none e; walks = walks_none u }
 
 module _ {u : Walk} {all : List Interaction} (p : AddWalking u × Below (size u) (references all)) {v : Walk} {left : List Interaction}
     (h : Rooting u all v left) where
@@ -125,6 +126,7 @@ module _ {u : Walk} {all : List Interaction} (p : AddWalking u × Below (size u)
       rooting_more {v₂} g = record {
         roots = h.roots ++ references_of x;
         passed = run_more h.passed e;
+        last = last_more h.last e;
         walks =
             walks_both h.roots (references_of x) so_far_below h.walks
             (subst (λ (xs : List ℕ). Walks v xs v₂) (λ i. fields_are i ++ (count_is i ∷ []))

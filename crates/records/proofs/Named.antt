@@ -60,12 +60,10 @@ module _ (ws : List ℕ) (checked : check prime ws ≡ good (read_sheet ws)) whe
 -- The interactions that a loop has passed, of all that it goes over: `taken` is what was taken of them, and `left` are those that are left.
 pub record PassedRun (one : Interaction → List ℕ) (all left : List Interaction) (taken : List ℕ) : Type 0 where
   pub whole : taken ++ flat_map one left ≡ flat_map one all
-  pub before : List Interaction
-  pub parts : before ++ left ≡ all
 
 module _ {one : Interaction → List ℕ} {all : List Interaction} where
   pub run_none : {left : List Interaction} → left ≡ all → PassedRun one all left []
-  run_none e = record { whole = ap (flat_map one) e; before = []; parts = e }
+  run_none e = record { whole = ap (flat_map one) e }
 
   module _ {left : List Interaction} {taken : List ℕ} (h : PassedRun one all left taken) where
     pub run_below : {b : ℕ} → Below b (flat_map one all) → Below b taken
@@ -74,10 +72,6 @@ module _ {one : Interaction → List ℕ} {all : List Interaction} where
     pub run_done : left ≡ [] → taken ≡ flat_map one all
     unfolding flat_map
     run_done e = sym (append-nil taken) ∙ ap (λ (xs : List Interaction). taken ++ flat_map one xs) (sym e) ∙ h.whole
-
-    -- What holds of all holds of those that are left.
-    pub run_left : (P : Interaction → Type 0) → All P all → All P left
-    run_left P a = all_back P h.before left (subst (All P) (sym h.parts) a)
 
     module _ {x : Interaction} {rest : List Interaction} (e : left ≡ x ∷ rest) where
       pub run_whole : taken ++ (one x ++ flat_map one rest) ≡ flat_map one all
@@ -88,32 +82,48 @@ module _ {one : Interaction → List ℕ} {all : List Interaction} where
       run_next b c m = b c (subst (Mem c) run_whole (mem_right c taken (one x ++ flat_map one rest) (mem_left c (one x) (flat_map one rest) m)))
 
       pub run_more : PassedRun one all rest (taken ++ one x)
-      run_more = record {
-        whole = append_assoc taken (one x) (flat_map one rest) ∙ run_whole;
-        before = h.before ++ (x ∷ []);
-        parts = append_assoc h.before (x ∷ []) rest ∙ ap (λ (xs : List Interaction). h.before ++ xs) (sym e) ∙ h.parts;
-      }
+      run_more = record { whole = append_assoc taken (one x) (flat_map one rest) ∙ run_whole }
 
--- Those of a checked sheet: each that is left has the facts of its check.
+-- Those that are left are the last of all, so what holds of all holds of them.
+pub record Last (all left : List Interaction) : Type 0 where
+  pub before : List Interaction
+  pub parts : before ++ left ≡ all
+
+pub last_none : {all left : List Interaction} → left ≡ all → Last all left
+last_none e = record { before = []; parts = e }
+
+module _ {all left : List Interaction} (h : Last all left) where
+  pub last_more : {x : Interaction} {rest : List Interaction} → left ≡ x ∷ rest → Last all rest
+  last_more {x} {rest} e = record {
+    before = h.before ++ (x ∷ []);
+    parts = append_assoc h.before (x ∷ []) rest ∙ ap (λ (xs : List Interaction). h.before ++ xs) (sym e) ∙ h.parts;
+  }
+
+  pub last_all : (P : Interaction → Type 0) → All P all → All P left
+  last_all P a = all_back P h.before left (subst (All P) (sym h.parts) a)
+
+-- The interactions of a checked sheet that a loop has passed; those that are left have the facts of its check.
 pub record Passed (one : Interaction → List ℕ) (ws : List ℕ) (left : List Interaction) (taken : List ℕ) : Type 0 where
-  pub run : PassedRun one (read_sheet ws).interactions left taken
+  pub whole : taken ++ flat_map one left ≡ flat_map one (read_sheet ws).interactions
   pub facts : All (InteractionFacts (length (records_of ws))) left
 
 module _ {one : Interaction → List ℕ} {ws : List ℕ} where
-  -- A run over the sheet's interactions is one.
   pub passed_run : {left : List Interaction} {taken : List ℕ} → check prime ws ≡ good (read_sheet ws)
-      → PassedRun one (read_sheet ws).interactions left taken → Passed one ws left taken
-  passed_run checked r = record { run = r; facts = run_left r (InteractionFacts (length (records_of ws))) (interactions_good ws checked) }
+      → PassedRun one (read_sheet ws).interactions left taken → Last (read_sheet ws).interactions left → Passed one ws left taken
+  passed_run checked r l = record { whole = r.whole; facts = last_all l (InteractionFacts (length (records_of ws))) (interactions_good ws checked) }
 
   pub passed_none : check prime ws ≡ good (read_sheet ws) → {left : List Interaction} → left ≡ (read_sheet ws).interactions → Passed one ws left []
-  passed_none checked e = passed_run checked (run_none e)
+  passed_none checked e = passed_run checked (run_none e) (last_none e)
 
   module _ {left : List Interaction} {taken : List ℕ} (h : Passed one ws left taken) where
+    run : PassedRun one (read_sheet ws).interactions left taken
+    run = record { whole = h.whole }
+
     pub passed_below : {b : ℕ} → Below b (flat_map one (read_sheet ws).interactions) → Below b taken
-    passed_below = run_below h.run
+    passed_below = run_below run
 
     pub passed_done : left ≡ [] → taken ≡ flat_map one (read_sheet ws).interactions
-    passed_done = run_done h.run
+    passed_done = run_done run
 
     module _ {x : Interaction} {rest : List Interaction} (e : left ≡ x ∷ rest) where
       facts_now : All (InteractionFacts (length (records_of ws))) (x ∷ rest)
@@ -123,7 +133,7 @@ module _ {one : Interaction → List ℕ} {ws : List ℕ} where
       next_facts = facts_now.0
 
       pub next_whole : taken ++ (one x ++ flat_map one rest) ≡ flat_map one (read_sheet ws).interactions
-      next_whole = run_whole h.run e
+      next_whole = run_whole run e
 
       pub passed_more : Passed one ws rest (taken ++ one x)
-      passed_more = record { run = run_more h.run e; facts = facts_now.1 }
+      passed_more = record { whole = (run_more run e).whole; facts = facts_now.1 }

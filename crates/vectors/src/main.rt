@@ -65,7 +65,8 @@ impl Sheet {
         &self.buffer[..self.num_words]
     }
 
-    // Reads how many words a sheet has, and the words, in place of those before: by place, since a part of a field cannot be lent where the type has a fact.
+    // Reads how many words a sheet has, and the words, in place of those before: one by one, since a part of a field cannot be lent
+    // to be written where the type has a ghost field.
     fn read(&mut self, input: &mut impl Read) -> io::Result<()> {
         let n = next_length(input, self.buffer.len())?;
         self.num_words = n;
