@@ -1,4 +1,4 @@
-// Tests of the calls that go over all interactions of a sheet, which the calls of the library write with the interactions at hand.
+// Tests of `expand_part` and `add_interactions`: both walks over all interactions of their sheet, which no call of the library makes.
 #![tactic(auto)]
 
 #[cfg(test)]
@@ -8,8 +8,7 @@ mod tests {
     use records::CheckedSheet;
     use records::interactions::Part;
 
-    // Of two variables v and w, their product, the constant 7 and the square of w: a constraint names the square, and the interactions the others: with count v
-    // the message w, and with count 7 the message v, v w.
+    // The records are v, w, v w, 7 and w w. The constraint names w w; one interaction has count v and message w, the other count 7 and message v, v w.
     const WORDS: [u32; 41] = [
         1, 5, 1, 2, //
         1, 1, 0, 0, 0, //
